@@ -1,0 +1,39 @@
+-- Laws of tests.
+--     and-left, and-right, and-both      a conjunction is true exactly if both are
+--     and-false-left, and-false-right    it is false if one is
+--     never                              a test that is both proves anything
+--     test-cases                         a test is true or false
+--     same-test                          two tests that are true together are equal
+use mathlib.Core.Path.{_≡_, refl, sym, _∙_}
+use mathlib.Core.Logic.{_⊎_, inl, inr}
+use mathlib.Core.Bool.{Bool, true, false, _&&_, true≢false}
+
+pub and-left : (a b : Bool) → a && b ≡ true → a ≡ true
+and-left true b e = refl
+and-left false b e = e
+
+pub and-right : (a b : Bool) → a && b ≡ true → b ≡ true
+and-right true b e = e
+and-right false b e = absurd (true≢false (sym e))
+
+pub and-both : {a b : Bool} → a ≡ true → b ≡ true → a && b ≡ true
+and-both {a} {b} e f = rw (e, f)
+
+pub and-false-left : {a : Bool} (b : Bool) → a ≡ false → a && b ≡ false
+and-false-left b e = rw e
+
+pub and-false-right : (a : Bool) {b : Bool} → b ≡ false → a && b ≡ false
+and-false-right true e = e
+and-false-right false e = refl
+
+pub never : {A : Type 0} (a : Bool) → a ≡ true → a ≡ false → A
+never a e f = absurd (true≢false (sym e ∙ f))
+
+pub test-cases : (a : Bool) → (a ≡ true) ⊎ (a ≡ false)
+test-cases true = inl refl
+test-cases false = inr refl
+
+pub same-test : (a b : Bool) → (a ≡ true → b ≡ true) → (b ≡ true → a ≡ true) → a ≡ b
+same-test true b f g = sym (f refl)
+same-test false true f g = g refl
+same-test false false f g = refl

@@ -1,0 +1,4 @@
+-- Laws of the meaning's definitions. Callers cite these and leave the definitions shut.
+pub mod Bool
+pub mod List
+pub mod Refusal

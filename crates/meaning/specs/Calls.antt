@@ -1,0 +1,211 @@
+-- What each call answers and leaves, for all inputs: its refusal (the first of its checks, in order), its answer, and each lent slice
+-- afterwards. A slice to be written stands here as the list that it holds at entry; of a work slice only the length matters, and what it
+-- holds afterwards is free.
+--     field, operation, inverse                the field and its operations
+--     product, apply                           the three that write a vector; `product` is the transposed product's too
+--     recurrence                               the shortest recurrence
+--     solver                                   the run; EveryRun and EveryTwoRuns are the third condition's theorems
+--     takes, isNull                            the two checks of offered answers
+--     reader, writer                           system text
+--     text, program                            the text call and the program
+-- Each name goes on with Refusal (the number), Answer (what is returned) or After (a lent slice).
+use mathlib.Core.Path.{_≡_}
+use mathlib.Core.Bool.{Bool, false, not, _&&_}
+use mathlib.Core.List.{List, [], _∷_, _++_}
+use Prim.Native.Nat.{ℕ, _+_, _-_, _*_}
+use lib.Dec.{eqb, ltb, leb}
+use lib.ListN.{length}
+use Rattle.meaning.specs.List.{padded, overwrite}
+use Rattle.meaning.specs.Field.{isModulus, plus, minus, times, inverse}
+use Rattle.meaning.specs.Matrix.{Matrix, matrix, size, product, transposed, apply}
+use Rattle.meaning.specs.Recurrence.{degree, generator}
+use Rattle.meaning.specs.Solver.{Outcome, solve, takes, isNull}
+use Rattle.meaning.specs.ThirdCondition.{ThirdCondition, SameAnswer}
+use Rattle.meaning.specs.Text.{Document, document, inForm, System, system, write}
+use Rattle.meaning.specs.Answer.{answerText, refusedText}
+use Rattle.meaning.specs.Refusal.{Check, check, first, unlessRefused, within, elements, matrixChecks, wordsTaken, documentChecks}
+
+-- ---- the field
+
+unfoldable pub fieldRefusal : ℕ → ℕ
+fieldRefusal p = first (check 3 (not (isModulus p)) ∷ [])
+
+unfoldable pub operationRefusal : ℕ → ℕ → ℕ → ℕ
+operationRefusal p a b = first (check 3 (not (isModulus p)) ∷ check 9 (not (ltb a p && ltb b p)) ∷ [])
+
+-- the answer of `plus`, `minus` or `times`
+abbrev pub operationAnswer : (ℕ → ℕ → ℕ → ℕ) → ℕ → ℕ → ℕ → ℕ
+operationAnswer f p a b = unlessRefused (operationRefusal p a b) (f p a b) 0
+
+unfoldable pub inverseRefusal : ℕ → ℕ → ℕ
+inverseRefusal p a = first (check 3 (not (isModulus p)) ∷ check 9 (not (ltb a p)) ∷ check 12 (eqb a 0) ∷ [])
+
+abbrev pub inverseAnswer : ℕ → ℕ → ℕ
+inverseAnswer p a = unlessRefused (inverseRefusal p a) (inverse p a) 0
+
+-- ---- product, transposed product, polynomial of a matrix
+
+unfoldable pub productRefusal : ℕ → Matrix → List ℕ → List ℕ → ℕ
+productRefusal p A v out =
+    first
+    (matrixChecks p A
+    ++ (check 8 (not (eqb (length v) (size A)))
+    ∷ check 9 (not (elements p v))
+    ∷ check 11 (not (eqb (length out) (size A)))
+    ∷ []))
+
+-- the slice after `product` or `transposed`
+abbrev pub productAfter : (ℕ → Matrix → List ℕ → List ℕ) → ℕ → Matrix → List ℕ → List ℕ → List ℕ
+productAfter f p A v out = unlessRefused (productRefusal p A v out) (f p A v) out
+
+unfoldable pub applyRefusal : ℕ → Matrix → List ℕ → List ℕ → List ℕ → List ℕ → ℕ
+applyRefusal p A g v out work =
+    first
+    (matrixChecks p A
+    ++ (check 8 (not (within 1 (size A + 1) (length g) && eqb (length v) (size A)))
+    ∷ check 9 (not (elements p g && elements p v))
+    ∷ check 11 (not (eqb (length out) (size A) && leb (2 * size A) (length work)))
+    ∷ []))
+
+abbrev pub applyAfter : ℕ → Matrix → List ℕ → List ℕ → List ℕ → List ℕ → List ℕ
+applyAfter p A g v out work = unlessRefused (applyRefusal p A g v out work) (apply p A g v) out
+
+-- ---- the shortest recurrence
+
+unfoldable pub recurrenceRefusal : ℕ → List ℕ → List ℕ → List ℕ → ℕ
+recurrenceRefusal p s polynomial work =
+    first
+    (check 3 (not (isModulus p))
+    ∷ check 8 (not (leb (length s) 8192))
+    ∷ check 9 (not (elements p s))
+    ∷ check 11 (not (eqb (length polynomial) (length s + 1) && leb (4 * length s + 8) (length work)))
+    ∷ [])
+
+abbrev pub recurrenceAnswer : ℕ → List ℕ → List ℕ → List ℕ → ℕ
+recurrenceAnswer p s polynomial work = unlessRefused (recurrenceRefusal p s polynomial work) (degree p s) 0
+
+abbrev pub recurrenceAfter : ℕ → List ℕ → List ℕ → List ℕ → List ℕ
+recurrenceAfter p s polynomial work =
+    unlessRefused (recurrenceRefusal p s polynomial work) (padded (length s + 1) (generator p s)) polynomial
+
+-- ---- the solver
+
+-- "a system is p, A and b, accepted if none of the checks below turns one of these down"
+unfoldable pub systemChecks : ℕ → Matrix → List ℕ → List Check
+systemChecks p A b =
+    matrixChecks p A ++ (check 8 (not (eqb (length b) (size A))) ∷ check 9 (not (elements p b)) ∷ [])
+
+-- the checks that a run's system and words pass
+unfoldable pub runChecks : ℕ → Matrix → List ℕ → List ℕ → List Check
+runChecks p A b words = systemChecks p A b ++ (check 10 (not (wordsTaken (size A) words)) ∷ [])
+
+unfoldable pub solverRefusal : ℕ → Matrix → List ℕ → List ℕ → List ℕ → List ℕ → List ℕ → ℕ
+solverRefusal p A b words vector polynomial work =
+    first
+    (runChecks p A b words
+    ++ (check 11
+    (not (eqb (length vector) (size A) && eqb (length polynomial) (size A + 1) && leb (16 * size A + 16) (length work)))
+    ∷ []))
+
+abbrev pub vectorAfter : ℕ → Matrix → List ℕ → List ℕ → List ℕ → List ℕ → List ℕ → List ℕ
+vectorAfter p A b words vector polynomial work =
+    unlessRefused (solverRefusal p A b words vector polynomial work) (solve p A b words .vector) vector
+
+abbrev pub polynomialAfter : ℕ → Matrix → List ℕ → List ℕ → List ℕ → List ℕ → List ℕ → List ℕ
+polynomialAfter p A b words vector polynomial work =
+    unlessRefused (solverRefusal p A b words vector polynomial work)
+    (padded (size A + 1) (solve p A b words .polynomial))
+    polynomial
+
+-- the third condition of every run, and of every two runs on one system; proved with the solver's run
+abbrev pub EveryRun : Type 0
+EveryRun = (p : ℕ) (A : Matrix) (b words : List ℕ) → first (runChecks p A b words) ≡ 0 → ThirdCondition p A b words (solve p A b words)
+
+abbrev pub EveryTwoRuns : Type 0
+EveryTwoRuns =
+    (p : ℕ) (A : Matrix) (b words words′ : List ℕ) → first (runChecks p A b words) ≡ 0 → first (runChecks p A b words′) ≡ 0
+    → SameAnswer (solve p A b words) (solve p A b words′)
+
+-- ---- the two checks of offered answers
+
+unfoldable pub takesRefusal : ℕ → Matrix → List ℕ → List ℕ → ℕ
+takesRefusal p A x b =
+    first
+    (matrixChecks p A
+    ++ (check 8 (not (eqb (length x) (size A) && eqb (length b) (size A)))
+    ∷ check 9 (not (elements p x && elements p b))
+    ∷ []))
+
+abbrev pub takesAnswer : ℕ → Matrix → List ℕ → List ℕ → Bool
+takesAnswer p A x b = unlessRefused (takesRefusal p A x b) (takes p A x b) false
+
+unfoldable pub isNullRefusal : ℕ → Matrix → List ℕ → ℕ
+isNullRefusal p A w = first (systemChecks p A w)
+
+abbrev pub isNullAnswer : ℕ → Matrix → List ℕ → Bool
+isNullAnswer p A w = unlessRefused (isNullRefusal p A w) (isNull p A w) false
+
+-- ---- system text
+
+-- 2: "the text exceeds 2,097,152 bytes or breaks the line forms or their order of letters"; then 3 to 7
+unfoldable pub textChecks : List ℕ → List Check
+textChecks text =
+    check 2 (not (leb (length text) 2097152 && inForm text)) ∷ documentChecks (document text)
+
+unfoldable pub readerRefusal : List ℕ → List ℕ → List ℕ → List ℕ → List ℕ → ℕ
+readerRefusal text starts columns values right =
+    let d = document text in
+    first
+    (textChecks text
+    ++ (check 11
+    (not
+    (leb (d .size + 1) (length starts) && leb (d .count) (length columns) && leb (d .count) (length values)
+    && leb (d .size) (length right)))
+    ∷ []))
+
+-- what the reader answers: p, n and the entry count
+abbrev pub readerAnswer : (Document → ℕ) → List ℕ → List ℕ → List ℕ → List ℕ → List ℕ → ℕ
+readerAnswer f text starts columns values right =
+    unlessRefused (readerRefusal text starts columns values right) (f (document text)) 0
+
+-- "the reader fills leading parts of lent slices, leaving the rest": the slice that holds `old`, filled with what f takes from the system
+abbrev pub readerAfter : (System → List ℕ) → List ℕ → List ℕ → List ℕ → List ℕ → List ℕ → List ℕ → List ℕ
+readerAfter f old text starts columns values right =
+    unlessRefused (readerRefusal text starts columns values right) (overwrite (f (system (document text))) old) old
+
+unfoldable pub writerRefusal : ℕ → Matrix → List ℕ → List ℕ → ℕ
+writerRefusal p A b out = first (systemChecks p A b ++ (check 11 (not (leb (length (write p A b)) (length out))) ∷ []))
+
+abbrev pub writerAnswer : ℕ → Matrix → List ℕ → List ℕ → ℕ
+writerAnswer p A b out = unlessRefused (writerRefusal p A b out) (length (write p A b)) 0
+
+abbrev pub writerAfter : ℕ → Matrix → List ℕ → List ℕ → List ℕ
+writerAfter p A b out = unlessRefused (writerRefusal p A b out) (overwrite (write p A b) out) out
+
+-- ---- the text call and the program
+
+-- "it takes n up to 128 and 1,024 entries"; "the answer slice has at least 4,608 bytes": room is that slice's length
+unfoldable pub textRefusal : List ℕ → ℕ → ℕ
+textRefusal text room =
+    let d = document text in
+    first
+    (check 1 (not (leb (length text) 24576))
+    ∷ textChecks text
+    ++ (check 11 (not (leb (d .size) 128 && leb (d .count) 1024 && leb 4608 room)) ∷ []))
+
+-- "system text in, answer text out .. uses no random words"
+unfoldable pub solvedText : List ℕ → List ℕ
+solvedText text =
+    let s = system (document text) in
+    answerText (solve (s .modulus) (s .matrix) (s .right) [])
+
+-- "the answer's length .. or the refusal's number"
+abbrev pub textAnswer : List ℕ → ℕ → ℕ
+textAnswer text room = unlessRefused (textRefusal text room) (length (solvedText text)) (textRefusal text room)
+
+abbrev pub textAfter : List ℕ → List ℕ → List ℕ
+textAfter text answer = unlessRefused (textRefusal text (length answer)) (overwrite (solvedText text) answer) answer
+
+-- "the program reads standard input and prints that text, or `refused`, number"; it lends the text call as much room as that asks for
+unfoldable pub programOutput : List ℕ → List ℕ
+programOutput text = unlessRefused (textRefusal text 4608) (solvedText text) (refusedText (textRefusal text 4608))

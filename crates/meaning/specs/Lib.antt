@@ -1,0 +1,11 @@
+pub mod List
+pub mod Field
+pub mod Matrix
+pub mod Recurrence
+pub mod Solver
+pub mod ThirdCondition
+pub mod Text
+pub mod Answer
+pub mod Refusal
+pub mod Calls
+pub mod Rows

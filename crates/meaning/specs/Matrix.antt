@@ -1,0 +1,43 @@
+-- Document 01, "Field and matrix": sparse matrices and what they do to a vector.
+--     Matrix           "n + 1 row starts, then columns and values, one each per entry"
+--     size             "n is the length of the starts less 1"
+--     rowSum A i g     the sum of g over the entries of row i, "from start i up to but not including start i + 1"
+--     product          "element i of Av is the sum of value × v[column] over row i, modulo p"
+--     transposed       "the same entries with row and column exchanged"
+--     power p A k v    Aᵏv
+--     apply p A g v    "g(A)v is the sum of g[i] × Aⁱv", g's lowest power first
+use mathlib.Core.Bool.{cond}
+use mathlib.Core.List.{List}
+use Prim.Native.Nat.{ℕ, zero, suc, _+_, _-_, _*_, _%_}
+use lib.Dec.{eqb}
+use lib.ListN.{length}
+use Rattle.meaning.specs.List.{at, sum, sumFrom, table}
+
+pub record Matrix : Type 0 where
+  pub starts : List ℕ
+  pub columns : List ℕ
+  pub values : List ℕ
+
+abbrev pub matrix : List ℕ → List ℕ → List ℕ → Matrix
+matrix s c v = record { starts = s; columns = c; values = v }
+
+abbrev pub size : Matrix → ℕ
+size A = length (A .starts) - 1
+
+abbrev pub rowSum : Matrix → ℕ → (ℕ → ℕ) → ℕ
+rowSum A i g = sumFrom (at (A .starts) i) (at (A .starts) (i + 1)) g
+
+unfoldable pub product : ℕ → Matrix → List ℕ → List ℕ
+product p A v = table (size A) (λ i. rowSum A i (λ k. at (A .values) k * at v (at (A .columns) k)) % p)
+
+unfoldable pub transposed : ℕ → Matrix → List ℕ → List ℕ
+transposed p A v =
+    table (size A)
+    (λ j. sum (size A) (λ i. rowSum A i (λ k. cond (eqb (at (A .columns) k) j) (at (A .values) k * at v i) 0)) % p)
+
+unfoldable pub power : ℕ → Matrix → ℕ → List ℕ → List ℕ
+power p A zero v = v
+power p A (suc k) v = product p A (power p A k v)
+
+unfoldable pub apply : ℕ → Matrix → List ℕ → List ℕ → List ℕ
+apply p A g v = table (size A) (λ j. sum (length g) (λ i. at g i * at (power p A i v) j) % p)

@@ -1,0 +1,120 @@
+-- Document 01, "The solver", for any size, 0 included, and any list of projections.
+--     vectors p n words      "R vectors .. vector j begins at word j × n", each word "taken modulo p"
+--     units n                "the unit vectors 1 to n"
+--     projections            "the R vectors, then the unit vectors"
+--     dot                    u·v
+--     terms                  "the 2 × left terms u·r, u·Ar, u·A²r, .."
+--     Run                    r, F and D between two passes, the degrees t of the passes made, and their applications
+--     begin                  "r = b, F = 1, D = 0"
+--     pass p A u             one pass with the projection u: its recurrence knows its own terms only
+--     run p A us             "while r is not zero, make a pass with the next projection"
+--     Kind, Outcome          solved or singular; what a run ends with
+--     close                  "when r is zero, let G = (F − F[0]) / z .."
+--     solve                  the whole run
+--     takes, isNull          the two checks of offered answers
+use mathlib.Core.Bool.{Bool, not, cond, _&&_}
+use mathlib.Core.List.{List, [], _∷_, _++_}
+use Prim.Native.Nat.{ℕ, zero, suc, _+_, _-_, _*_, _/_, _%_}
+use lib.Dec.{eqb}
+use lib.ListN.{length, drop}
+use Rattle.meaning.specs.List.{at, sum, table, zeros, isZero, equal}
+use Rattle.meaning.specs.Field.{minus, times, inverse}
+use Rattle.meaning.specs.Matrix.{Matrix, size, product, power, apply}
+use Rattle.meaning.specs.Recurrence.{degree, generator}
+
+unfoldable pub vectors : ℕ → ℕ → List ℕ → List (List ℕ)
+vectors p n words = table (length words / n) (λ j. table n (λ i. at words (j * n + i) % p))
+
+unfoldable pub units : ℕ → List (List ℕ)
+units n = table n (λ j. table n (λ i. cond (eqb i j) 1 0))
+
+unfoldable pub projections : ℕ → ℕ → List ℕ → List (List ℕ)
+projections p n words = vectors p n words ++ units n
+
+unfoldable pub dot : ℕ → List ℕ → List ℕ → ℕ
+dot p u v = sum (length v) (λ i. at u i * at v i) % p
+
+unfoldable pub terms : ℕ → Matrix → ℕ → List ℕ → List ℕ → List ℕ
+terms p A left u r = table (2 * left) (λ i. dot p u (power p A i r))
+
+-- the product of two polynomials
+unfoldable pub multiply : ℕ → List ℕ → List ℕ → List ℕ
+multiply p f g = table (length f + length g - 1) (λ k. sum (k + 1) (λ i. at f i * at g (k - i)) % p)
+
+pub record Run : Type 0 where
+  pub residual : List ℕ
+  pub factor : List ℕ
+  pub found : ℕ
+  pub degrees : List ℕ
+  pub applications : ℕ
+
+unfoldable pub begin : List ℕ → Run
+begin b = record { residual = b; factor = 1 ∷ []; found = 0; degrees = []; applications = 0 }
+
+unfoldable pub pass : ℕ → Matrix → List ℕ → Run → Run
+pass p A u c =
+    let left = size A - c .found in
+    let s = terms p A left u (c .residual) in
+    let f = generator p s in
+    let t = degree p s in
+    record {
+      residual = apply p A f (c .residual);
+      factor = multiply p (c .factor) f;
+      found = c .found + t;
+      degrees = c .degrees ++ (t ∷ []);
+      applications = c .applications + (2 * left - 1 + t);
+    }
+
+-- with no projection left r is zero (proved with the run), so the first line is never a failure
+unfoldable pub run : ℕ → Matrix → List (List ℕ) → Run → Run
+run p A [] c = c
+run p A (u ∷ us) c =
+    let next = run p A us (pass p A u c) in
+    cond (isZero (c .residual)) c next
+
+pub data Kind : Type 0 where
+  solved singular : Kind
+
+pub record Outcome : Type 0 where
+  pub kind : Kind
+  pub vector : List ℕ
+  pub polynomial : List ℕ
+  pub degree : ℕ
+  pub degrees : List ℕ
+  pub applications : ℕ
+
+abbrev pub passes : Outcome → ℕ
+passes o = length (o .degrees)
+
+-- what F makes of b: "if D = 0, x is zero. If F[0] is not 0, the kind is solved and x = −G(A)b / F[0]. Otherwise .. G(A)b"
+unfoldable pub verdict : ℕ → Matrix → List ℕ → List ℕ → ℕ → Kind × List ℕ
+verdict p A b F D =
+    let w = apply p A (drop 1 F) b in
+    cond (eqb D 0)
+    (solved, zeros (size A))
+    (cond (eqb (at F 0) 0)
+    (singular, w)
+    (solved, table (size A) (λ i. times p (minus p 0 (at w i)) (inverse p (at F 0)))))
+
+unfoldable pub close : ℕ → Matrix → List ℕ → Run → Outcome
+close p A b c =
+    let answer = verdict p A b (c .factor) (c .found) in
+    record {
+      kind = answer .0;
+      vector = answer .1;
+      polynomial = c .factor;
+      degree = c .found;
+      degrees = c .degrees;
+      applications = c .applications + (c .found - 1);
+    }
+
+unfoldable pub solve : ℕ → Matrix → List ℕ → List ℕ → Outcome
+solve p A b words = close p A b (run p A (projections p (size A) words) (begin b))
+
+-- "the first says yes exactly when Ax = b"
+unfoldable pub takes : ℕ → Matrix → List ℕ → List ℕ → Bool
+takes p A x b = equal (product p A x) b
+
+-- "the second exactly when the vector is not zero and A takes it to zero"
+unfoldable pub isNull : ℕ → Matrix → List ℕ → Bool
+isNull p A w = not (isZero w) && isZero (product p A w)

@@ -1,0 +1,47 @@
+-- The customer's third condition, sentence by sentence. The solver's run is proved to meet it.
+--     inSpan           "b is a sum of multiples of Ab, A²b, .., Aⁿb"
+--     termCost         "the sum of 2 × left − 1 over its passes", left "being n less the degree found before that pass"
+--     ThirdCondition   what holds of the outcome of a run on p, A, b and words
+--     SameAnswer       two outcomes with "the same kind, vector and polynomial f"
+-- Calls states both of every run (EveryRun, EveryTwoRuns).
+use mathlib.Core.Path.{_≡_}
+use mathlib.Core.Logic.{_≢_, _↔_}
+use mathlib.Core.Bool.{true, cond}
+use mathlib.Core.List.{List, [], _∷_}
+use Prim.Native.Nat.{ℕ, _+_, _-_, _*_, _/_, _%_, _≤_, _<_}
+use lib.ListN.{length}
+use Rattle.meaning.specs.List.{at, sum, table, zeros, isZero}
+use Rattle.meaning.specs.Matrix.{Matrix, size, product, power, apply}
+use Rattle.meaning.specs.Recurrence.{isMonic}
+use Rattle.meaning.specs.Solver.{Outcome, Kind, solved, singular, passes}
+
+-- n coefficients c with b = c[0] × Ab + .. + c[n − 1] × Aⁿb
+abbrev pub inSpan : ℕ → Matrix → List ℕ → Type 0
+inSpan p A b =
+    (c : List ℕ) ×
+    (b ≡ table (size A) (λ j. sum (size A) (λ i. at c i * at (power p A (i + 1) b) j) % p))
+
+unfoldable pub termCost : ℕ → List ℕ → ℕ
+termCost left [] = 0
+termCost left (t ∷ ts) = 2 * left - 1 + termCost (left - t) ts
+
+pub record ThirdCondition (p : ℕ) (A : Matrix) (b words : List ℕ) (o : Outcome) : Type 0 where
+  -- "f is monic, of a degree D, with f(A)b = 0, and every other monic g with g(A)b = 0 has a higher degree"
+  pub monic : isMonic p (o .degree) (o .polynomial) ≡ true
+  pub annihilates : apply p A (o .polynomial) b ≡ zeros (size A)
+  pub lowest : (k : ℕ) (g : List ℕ) → isMonic p k g ≡ true → apply p A g b ≡ zeros (size A) → g ≢ o .polynomial → o .degree < k
+  -- "the kind is solved exactly when b is a sum of multiples .. and then the vector x meets Ax = b"
+  pub exactly : (o .kind ≡ solved) ↔ inSpan p A b
+  pub solves : o .kind ≡ solved → product p A (o .vector) ≡ b
+  -- "otherwise it is singular, and the vector is not zero and A takes it to zero"
+  pub not-zero : o .kind ≡ singular → o .vector ≢ zeros (size A)
+  pub to-zero : o .kind ≡ singular → product p A (o .vector) ≡ zeros (size A)
+  -- "at most R + n" passes
+  pub few : passes o ≤ length words / size A + size A
+  -- "the sum of 2 × left − 1 over its passes plus 2 × D − 1, or 0 if b = 0"
+  pub counted : o .applications ≡ cond (isZero b) 0 (termCost (size A) (o .degrees) + (2 * o .degree - 1))
+
+pub record SameAnswer (o o′ : Outcome) : Type 0 where
+  pub kind : o .kind ≡ o′ .kind
+  pub vector : o .vector ≡ o′ .vector
+  pub polynomial : o .polynomial ≡ o′ .polynomial

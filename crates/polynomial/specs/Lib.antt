@@ -1,0 +1,6 @@
+-- the crate's root
+pub mod Degree
+pub mod Product
+pub mod Shift
+pub mod Division
+pub mod Lists
