@@ -1,52 +1,145 @@
--- Document 01, "Cases": the (P) cases and others as rows under one proposition, proved by computation. An edit of a definition breaks a row.
---     Case             a call's input with what the paper says of it
---     Holds            the proposition: the meaning says the same
+-- Document 01, "Cases": the (P) cases and others as rows under one proposition, proved by computation: an edit of a definition breaks a row.
+--     Case             a call's input with what is said of it
+--     Holds            the proposition: the definitions say the same
+--     proved-cases     document 01's cases that are marked (P)
+--     more-cases       its other cases, and cases worked out by evidence/reference.py, which was written from the paper alone
+--     proved-rows, more-rows      they hold
 use mathlib.Core.Path.{_≡_, refl}
 use mathlib.Core.Bool.{Bool, true, false}
 use mathlib.Core.List.{List, [], _∷_}
 use Prim.Native.Nat.{ℕ}
 use Prim.Native.String.{String}
-use lib.ListN.{length}
+use lib.ListN.{length, replicate}
 use Rattle.meaning.specs.List.{sum, table, all, every, chainFrom, chain, equal, least, select, flat, bytes}
 use Rattle.meaning.specs.Field.{isPrime, isModulus, plus, minus, times, inverse}
-use Rattle.meaning.specs.Matrix.{Matrix, matrix, product, transposed, power, apply}
-use Rattle.meaning.specs.Recurrence.{isMonic, recurs, start, discrepancy, update, step, steps, reversed, degree, generator}
-use Rattle.meaning.specs.Solver.{vectors, units, projections, dot, terms, multiply, begin, pass, run, Kind, solved, singular, Outcome, passes, verdict, close, solve, takes, isNull}
+use Rattle.meaning.specs.Matrix.{product, transposed, power, apply, Matrix, matrix}
+use Rattle.meaning.specs.Recurrence.{isMonic, recurs, start, discrepancy, update, step, steps, reversed, degree, generator, Steps}
+use Rattle.meaning.specs.Solver.{vectors, units, projections, dot, terms, multiply, begin, passTerms, pass, run, verdict, close, solve, takes, isNull, Kind, solved, singular, passes}
 use Rattle.meaning.specs.Text.{digits, decimal, valueAfter, isNumeral, line, onFirst, parts, hasForm, formOf, lineOf, lines, saying, inForm, document, system, writeRow, writeElement, write}
 use Rattle.meaning.specs.Answer.{answerText, refusedText}
 use Rattle.meaning.specs.Refusal.{first, elements, sizeTaken, startsTaken, columnsTaken, matrixChecks, wordsTaken, countTaken, before, placesTaken, documentChecks}
-use Rattle.meaning.specs.Calls.{systemChecks, runChecks, textChecks, textRefusal, textAnswer, solvedText, programOutput}
+use Rattle.meaning.specs.Calls.{fieldRefusal, operationRefusal, inverseRefusal, productRefusal, applyRefusal, recurrenceRefusal, systemChecks, runChecks, solverRefusal, takesRefusal, isNullRefusal, textChecks, readerRefusal, writerRefusal, textRefusal, solvedText, programOutput, operationAnswer, inverseAnswer, productAfter, applyAfter, recurrenceAnswer, recurrenceAfter, vectorAfter, polynomialAfter, takesAnswer, isNullAnswer, readerAnswer, readerAfter, writerAnswer, writerAfter, textAnswer}
+
+-- every definition open, so that the rows compute
+unfoldable compute : Unit {0}
+unfolding sum table all every chainFrom chain equal least select flat bytes isPrime isModulus plus minus times inverse product transposed power apply isMonic recurs start discrepancy update step steps reversed degree generator vectors units projections dot terms multiply begin passTerms pass run verdict close solve takes isNull digits decimal valueAfter isNumeral line onFirst parts hasForm formOf lineOf lines saying inForm document system writeRow writeElement write answerText refusedText first elements sizeTaken startsTaken columnsTaken matrixChecks wordsTaken countTaken before placesTaken documentChecks fieldRefusal operationRefusal inverseRefusal productRefusal applyRefusal recurrenceRefusal systemChecks runChecks solverRefusal takesRefusal isNullRefusal textChecks readerRefusal writerRefusal textRefusal solvedText programOutput
+compute = tt
 
 pub data Case : Type 0 where
   -- a run on p, A, b and words: kind, vector, f, passes, applications
   solver-gives : (p : ℕ) (A : Matrix) (b words : List ℕ) → Kind → (vector f : List ℕ) (passes applications : ℕ) → Case
-  -- the shortest recurrence of s modulo p: L and f
-  recurrence-gives : (p : ℕ) (s : List ℕ) (L : ℕ) (f : List ℕ) → Case
-  -- the text call, which the program prints
+  -- the terms that the pass with u takes after the passes with us
+  pass-takes : (p : ℕ) (A : Matrix) (b : List ℕ) (us : List (List ℕ)) (u terms : List ℕ) → Case
+  -- the solver's refusal, for slices of these lengths (vector, polynomial, work)
+  solver-refuses : (p : ℕ) (A : Matrix) (b words : List ℕ) (vector polynomial work number : ℕ) → Case
+  -- the shortest recurrence of s modulo p: L, and the polynomial slice
+  recurrence-gives : (p : ℕ) (s : List ℕ) (L : ℕ) (slice : List ℕ) → Case
+  -- the refusal for slices of these lengths (polynomial, work)
+  recurrence-refuses : (p : ℕ) (s : List ℕ) (polynomial work number : ℕ) → Case
+  -- q, t, L and e after r terms
+  steps-give : (p : ℕ) (s : List ℕ) (r : ℕ) (q t : List ℕ) (L e : ℕ) → Case
+  product-gives transposed-gives : (p : ℕ) (A : Matrix) (v out : List ℕ) → Case
+  apply-gives : (p : ℕ) (A : Matrix) (g v out : List ℕ) → Case
+  -- the two checks of offered answers
+  takes-says : (p : ℕ) (A : Matrix) (x b : List ℕ) (number : ℕ) → Bool → Case
+  isNull-says : (p : ℕ) (A : Matrix) (w : List ℕ) (number : ℕ) → Bool → Case
+  -- the reader: p, n and the entry count, and the four slices, which held 9s
+  reader-gives : (text : String) (starts columns values right p n count : ℕ) (starts′ columns′ values′ right′ : List ℕ) → Case
+  reader-refuses : (text : String) (starts columns values right number : ℕ) → Case
+  -- the writer, into that many bytes 46
+  writer-gives : (p : ℕ) (A : Matrix) (b : List ℕ) (room length : ℕ) (after : String) → Case
+  -- the text call, and what the program prints
   text-gives : (text answer : String) → Case
+  text-refuses : (text : String) (room number : ℕ) → Case
+  -- the field: a number and an element
+  sum-gives difference-gives product-of-gives : (p a b number element : ℕ) → Case
+  inverse-gives : (p a number element : ℕ) → Case
+
+-- what the slices held before
+abbrev pub nines : ℕ → List ℕ
+nines k = replicate k 9
 
 abbrev pub Holds : Case → Type 0
 Holds (solver-gives p A b words k x f n a) =
     let o = solve p A b words in
     _≡_ {A = ℕ × Kind × List ℕ × List ℕ × ℕ × ℕ}
     (first (runChecks p A b words), o .kind, o .vector, o .polynomial, passes o, o .applications) (0, k, x, f, n, a)
-Holds (recurrence-gives p s L f) = _≡_ {A = ℕ × List ℕ} (degree p s, generator p s) (L, f)
+Holds (pass-takes p A b us u s) = passTerms p A u (run p A us (begin b)) ≡ s
+Holds (solver-refuses p A b words vector polynomial work k) =
+    let x = nines vector in
+    let f = nines polynomial in
+    let w = nines work in
+    _≡_ {A = ℕ × List ℕ × List ℕ}
+    (solverRefusal p A b words x f w, vectorAfter p A b words x f w, polynomialAfter p A b words x f w)
+    (k, x, f)
+Holds (recurrence-gives p s L f) =
+    let out = nines (length f) in
+    let work = nines 40 in
+    _≡_ {A = ℕ × ℕ × List ℕ}
+    (recurrenceRefusal p s out work, recurrenceAnswer p s out work, recurrenceAfter p s out work)
+    (0, L, f)
+Holds (recurrence-refuses p s polynomial work k) =
+    let out = nines polynomial in
+    let room = nines work in
+    _≡_ {A = ℕ × ℕ × List ℕ}
+    (recurrenceRefusal p s out room, recurrenceAnswer p s out room, recurrenceAfter p s out room)
+    (k, 0, out)
+Holds (steps-give p s r q t L e) = _≡_ {A = Steps} (steps p s r) (record { q = q; t = t; L = L; e = e })
+Holds (product-gives p A v out) = productAfter product p A v (nines (length out)) ≡ out
+Holds (transposed-gives p A v out) = productAfter transposed p A v (nines (length out)) ≡ out
+Holds (apply-gives p A g v out) = applyAfter p A g v (nines (length out)) (nines 8) ≡ out
+Holds (takes-says p A x b k answer) = _≡_ {A = ℕ × Bool} (takesRefusal p A x b, takesAnswer p A x b) (k, answer)
+Holds (isNull-says p A w k answer) = _≡_ {A = ℕ × Bool} (isNullRefusal p A w, isNullAnswer p A w) (k, answer)
+Holds (reader-gives text starts columns values right p n count starts′ columns′ values′ right′) =
+    let l = bytes text in
+    let s = nines starts in
+    let c = nines columns in
+    let v = nines values in
+    let b = nines right in
+    _≡_ {A = ℕ × ℕ × ℕ × List ℕ × List ℕ × List ℕ × List ℕ} (
+      readerAnswer (λ d. d .modulus) l s c v b,
+      readerAnswer (λ d. d .size) l s c v b,
+      readerAnswer (λ d. d .count) l s c v b,
+      readerAfter (λ x. x .matrix .starts) s l s c v b,
+      readerAfter (λ x. x .matrix .columns) c l s c v b,
+      readerAfter (λ x. x .matrix .values) v l s c v b,
+      readerAfter (λ x. x .right) b l s c v b,
+    )
+    (p, n, count, starts′, columns′, values′, right′)
+Holds (reader-refuses text starts columns values right k) =
+    let l = bytes text in
+    let s = nines starts in
+    let c = nines columns in
+    let v = nines values in
+    let b = nines right in
+    _≡_ {A = ℕ × ℕ × List ℕ}
+    (readerRefusal l s c v b, readerAnswer (λ d. d .size) l s c v b, readerAfter (λ x. x .matrix .starts) s l s c v b)
+    (k, 0, s)
+Holds (writer-gives p A b room n after) =
+    let out : List ℕ = replicate room 46 in
+    _≡_ {A = ℕ × List ℕ} (writerAnswer p A b out, writerAfter p A b out) (n, bytes after)
 Holds (text-gives text answer) =
     _≡_ {A = ℕ × List ℕ × List ℕ}
     (textAnswer (bytes text) 4608, solvedText (bytes text), programOutput (bytes text))
     (length (bytes answer), bytes answer, bytes answer)
+Holds (text-refuses text room k) = textAnswer (bytes text) room ≡ k
+Holds (sum-gives p a b k x) = _≡_ {A = ℕ × ℕ} (operationRefusal p a b, operationAnswer plus p a b) (k, x)
+Holds (difference-gives p a b k x) = _≡_ {A = ℕ × ℕ} (operationRefusal p a b, operationAnswer minus p a b) (k, x)
+Holds (product-of-gives p a b k x) = _≡_ {A = ℕ × ℕ} (operationRefusal p a b, operationAnswer times p a b) (k, x)
+Holds (inverse-gives p a k x) = _≡_ {A = ℕ × ℕ} (inverseRefusal p a, inverseAnswer p a) (k, x)
 
 abbrev pub AllHold : List Case → Type 0
 AllHold [] = Unit {0}
 AllHold (c ∷ cs) = Holds c × AllHold cs
 
 -- diag(2,3), and the matrix whose sole entry is 1 in row 1, column 2
-abbrev diag23 : Matrix
+abbrev pub diag23 : Matrix
 diag23 = matrix (0 ∷ 1 ∷ 2 ∷ []) (0 ∷ 1 ∷ []) (2 ∷ 3 ∷ [])
 
-abbrev U : Matrix
+abbrev pub U : Matrix
 U = matrix (0 ∷ 1 ∷ 1 ∷ []) (1 ∷ []) (1 ∷ [])
 
+-- document 01, "Cases", those marked (P)
 abbrev pub proved-cases : List Case
 proved-cases =
     text-gives
@@ -60,10 +153,150 @@ proved-cases =
     ∷ solver-gives 7 U (1 ∷ 0 ∷ []) [] singular (1 ∷ 0 ∷ []) (0 ∷ 1 ∷ []) 1 4
     ∷ solver-gives 7 diag23 (0 ∷ 0 ∷ []) [] solved (0 ∷ 0 ∷ []) (1 ∷ []) 0 0
     ∷ solver-gives 2 (matrix (0 ∷ 1 ∷ []) (0 ∷ []) (1 ∷ [])) (1 ∷ []) [] solved (1 ∷ []) (1 ∷ 1 ∷ []) 1 2
-    ∷ recurrence-gives 7 (1 ∷ 2 ∷ 4 ∷ 1 ∷ []) 1 (5 ∷ 1 ∷ [])
+    ∷ recurrence-gives 7 (1 ∷ 2 ∷ 4 ∷ 1 ∷ []) 1 (5 ∷ 1 ∷ 0 ∷ 0 ∷ 0 ∷ [])
     ∷ recurrence-gives 7 (0 ∷ 1 ∷ []) 2 (0 ∷ 0 ∷ 1 ∷ [])
     ∷ []
 
 pub proved-rows : AllHold proved-cases
-unfolding sum table all every chainFrom chain equal least select flat bytes isPrime isModulus plus minus times inverse product transposed power apply isMonic recurs start discrepancy update step steps reversed degree generator vectors units projections dot terms multiply begin pass run verdict close solve takes isNull digits decimal valueAfter isNumeral line onFirst parts hasForm formOf lineOf lines saying inForm document system writeRow writeElement write answerText refusedText first elements sizeTaken startsTaken columnsTaken matrixChecks wordsTaken countTaken before placesTaken documentChecks systemChecks runChecks textChecks textRefusal solvedText programOutput
+unfolding compute
 proved-rows = (refl, (refl, (refl, (refl, (refl, (refl, (refl, (refl, (refl, (refl, (refl, tt)))))))))))
+
+-- document 01's other cases, and cases of evidence/reference.py
+abbrev pub more-cases : List Case
+more-cases =
+    -- words 8, 8 act as 1, 1; for n = 2, 128 words are taken, 127 and 130 get 10
+    solver-gives 7 diag23 (1 ∷ 1 ∷ []) (8 ∷ 8 ∷ []) solved (4 ∷ 5 ∷ []) (6 ∷ 2 ∷ 1 ∷ []) 1 6
+    ∷ solver-gives 7 diag23 (1 ∷ 1 ∷ []) (replicate 128 4294967295) solved (4 ∷ 5 ∷ []) (6 ∷ 2 ∷ 1 ∷ []) 1 6
+    ∷ solver-refuses 7 diag23 (1 ∷ 1 ∷ []) (replicate 127 1) 2 3 48 10
+    ∷ solver-refuses 7 diag23 (1 ∷ 1 ∷ []) (replicate 130 1) 2 3 0 10
+    -- restarts: p = 2 with first factor z; p = 3 with a word vector and a pass of degree 0 in the middle; a word vector that is zero modulo p
+    ∷ solver-gives 2 (matrix (0 ∷ 0 ∷ 1 ∷ []) (1 ∷ []) (1 ∷ [])) (1 ∷ 1 ∷ []) [] singular (1 ∷ 0 ∷ []) (0 ∷ 1 ∷ 1 ∷ []) 2 7
+    ∷ solver-gives 3 (matrix (0 ∷ 1 ∷ 2 ∷ 3 ∷ []) (0 ∷ 1 ∷ 2 ∷ []) (1 ∷ 2 ∷ 2 ∷ [])) (2 ∷ 2 ∷ 1 ∷ []) (5 ∷ 5 ∷ 2 ∷ []) solved (2 ∷ 1 ∷ 2 ∷ []) (2 ∷ 0 ∷ 1 ∷ []) 3 14
+    ∷ solver-gives 3 (matrix (0 ∷ 1 ∷ 2 ∷ 3 ∷ []) (0 ∷ 2 ∷ 1 ∷ []) (1 ∷ 1 ∷ 1 ∷ [])) (1 ∷ 2 ∷ 0 ∷ []) (3 ∷ 0 ∷ 6 ∷ 4 ∷ 2 ∷ 5 ∷ []) solved (1 ∷ 0 ∷ 2 ∷ []) (2 ∷ 0 ∷ 1 ∷ []) 4 19
+    -- three passes of degree 1; the same in one pass with words; no entries; n = 1, singular and solved; a singular matrix, solved
+    ∷ solver-gives 5 (matrix (0 ∷ 1 ∷ 2 ∷ 3 ∷ []) (0 ∷ 1 ∷ 2 ∷ []) (1 ∷ 2 ∷ 3 ∷ [])) (1 ∷ 1 ∷ 1 ∷ []) [] solved (1 ∷ 3 ∷ 2 ∷ []) (4 ∷ 1 ∷ 4 ∷ 1 ∷ []) 3 14
+    ∷ solver-gives 5 (matrix (0 ∷ 1 ∷ 2 ∷ 3 ∷ []) (0 ∷ 1 ∷ 2 ∷ []) (1 ∷ 2 ∷ 3 ∷ [])) (1 ∷ 1 ∷ 1 ∷ []) (6 ∷ 11 ∷ 4294967294 ∷ 1 ∷ 0 ∷ 0 ∷ []) solved (1 ∷ 3 ∷ 2 ∷ []) (4 ∷ 1 ∷ 4 ∷ 1 ∷ []) 1 10
+    ∷ solver-gives 5 (matrix (0 ∷ 0 ∷ 0 ∷ []) [] []) (0 ∷ 3 ∷ []) [] singular (0 ∷ 3 ∷ []) (0 ∷ 1 ∷ []) 2 7
+    ∷ solver-gives 11 (matrix (0 ∷ 0 ∷ []) [] []) (4 ∷ []) [] singular (4 ∷ []) (0 ∷ 1 ∷ []) 1 2
+    ∷ solver-gives 13 (matrix (0 ∷ 1 ∷ []) (0 ∷ []) (5 ∷ [])) (3 ∷ []) (26 ∷ []) solved (11 ∷ []) (8 ∷ 1 ∷ []) 2 3
+    ∷ solver-gives 7 (matrix (0 ∷ 1 ∷ 1 ∷ []) (0 ∷ []) (2 ∷ [])) (1 ∷ 0 ∷ []) [] solved (4 ∷ 0 ∷ []) (5 ∷ 1 ∷ []) 1 4
+    -- singular though the system has a solution; n = 4, where a t kept over a restart shows
+    ∷ solver-gives 2 (matrix (0 ∷ 0 ∷ 1 ∷ 2 ∷ []) (0 ∷ 1 ∷ []) (1 ∷ 1 ∷ [])) (0 ∷ 1 ∷ 0 ∷ []) [] singular (0 ∷ 0 ∷ 1 ∷ []) (0 ∷ 0 ∷ 1 ∷ []) 3 16
+    ∷ solver-gives 2 (matrix (0 ∷ 2 ∷ 3 ∷ 4 ∷ 4 ∷ []) (0 ∷ 1 ∷ 0 ∷ 3 ∷ []) (1 ∷ 1 ∷ 1 ∷ 1 ∷ [])) (1 ∷ 0 ∷ 0 ∷ 1 ∷ []) [] singular (0 ∷ 0 ∷ 1 ∷ 0 ∷ []) (0 ∷ 0 ∷ 1 ∷ 1 ∷ 1 ∷ []) 3 20
+    ∷ solver-gives 3 (matrix (0 ∷ 1 ∷ 1 ∷ 2 ∷ 3 ∷ []) (1 ∷ 3 ∷ 2 ∷ []) (2 ∷ 1 ∷ 2 ∷ [])) (2 ∷ 2 ∷ 1 ∷ 0 ∷ []) [] singular (1 ∷ 0 ∷ 0 ∷ 0 ∷ []) (0 ∷ 0 ∷ 1 ∷ 0 ∷ 1 ∷ []) 3 20
+    -- the terms of a pass after another: 2 × left, and not 2 × n
+    ∷ pass-takes 2 (matrix (0 ∷ 0 ∷ 1 ∷ []) (1 ∷ []) (1 ∷ [])) (1 ∷ 1 ∷ []) ((1 ∷ 0 ∷ []) ∷ []) (0 ∷ 1 ∷ []) (1 ∷ 1 ∷ [])
+    ∷ pass-takes 5 (matrix (0 ∷ 1 ∷ 2 ∷ 3 ∷ []) (0 ∷ 1 ∷ 2 ∷ []) (1 ∷ 2 ∷ 3 ∷ [])) (1 ∷ 1 ∷ 1 ∷ []) ((1 ∷ 0 ∷ 0 ∷ []) ∷ []) (0 ∷ 1 ∷ 0 ∷ []) (1 ∷ 2 ∷ 4 ∷ 3 ∷ [])
+    -- the solver's refusals, two causes in most of them: the first in order counts
+    ∷ solver-refuses 9 (matrix [] (0 ∷ 1 ∷ []) (2 ∷ 3 ∷ [])) (1 ∷ 1 ∷ []) [] 2 3 48 3
+    ∷ solver-refuses 7 (matrix [] [] (2 ∷ 3 ∷ [])) (1 ∷ 1 ∷ []) [] 2 3 48 4
+    ∷ solver-refuses 7 (matrix (0 ∷ []) [] []) [] [] 0 1 16 4
+    ∷ solver-refuses 7 (matrix (1 ∷ 1 ∷ 2 ∷ []) (0 ∷ 1 ∷ []) (2 ∷ 3 ∷ [])) (1 ∷ 1 ∷ []) [] 2 3 48 5
+    ∷ solver-refuses 7 (matrix (0 ∷ 2 ∷ 1 ∷ 2 ∷ []) (0 ∷ 1 ∷ []) (2 ∷ 3 ∷ [])) (1 ∷ 1 ∷ []) [] 2 3 48 5
+    ∷ solver-refuses 7 (matrix (0 ∷ 1 ∷ 1 ∷ []) (0 ∷ 1 ∷ []) (2 ∷ 3 ∷ [])) (1 ∷ 1 ∷ []) [] 2 3 48 5
+    ∷ solver-refuses 7 (matrix (0 ∷ 1 ∷ 2 ∷ []) (0 ∷ 1 ∷ 5 ∷ []) (2 ∷ 3 ∷ [])) (1 ∷ 1 ∷ []) [] 2 3 48 5
+    ∷ solver-refuses 7 (matrix (0 ∷ 1 ∷ 2 ∷ []) (0 ∷ 2 ∷ []) (0 ∷ 3 ∷ [])) (1 ∷ 1 ∷ []) [] 2 3 48 6
+    ∷ solver-refuses 7 (matrix (0 ∷ 2 ∷ 2 ∷ []) (1 ∷ 1 ∷ []) (2 ∷ 3 ∷ [])) (1 ∷ 1 ∷ []) [] 2 3 48 6
+    ∷ solver-refuses 7 (matrix (0 ∷ 1 ∷ 2 ∷ []) (0 ∷ 1 ∷ []) (7 ∷ 3 ∷ [])) (1 ∷ 1 ∷ 1 ∷ []) [] 2 3 48 7
+    ∷ solver-refuses 7 diag23 (1 ∷ 7 ∷ 1 ∷ []) [] 2 3 48 8
+    ∷ solver-refuses 7 diag23 (1 ∷ 4294967295 ∷ []) (1 ∷ 1 ∷ 1 ∷ []) 1 3 48 9
+    ∷ solver-refuses 7 diag23 (1 ∷ 1 ∷ []) [] 3 3 48 11
+    ∷ solver-refuses 7 diag23 (1 ∷ 1 ∷ []) [] 2 4 48 11
+    ∷ solver-refuses 7 diag23 (1 ∷ 1 ∷ []) [] 2 3 47 11
+    -- recurrences: none, zeros, 2 × L above N, p = 2, Fibonacci, L going 1, 2, 3
+    ∷ recurrence-gives 7 [] 0 (1 ∷ [])
+    ∷ recurrence-gives 5 (0 ∷ 0 ∷ 0 ∷ 0 ∷ []) 0 (1 ∷ 0 ∷ 0 ∷ 0 ∷ 0 ∷ [])
+    ∷ recurrence-gives 7 (0 ∷ 0 ∷ 0 ∷ 3 ∷ []) 4 (0 ∷ 0 ∷ 0 ∷ 0 ∷ 1 ∷ [])
+    ∷ recurrence-gives 7 (0 ∷ 2 ∷ 1 ∷ []) 2 (0 ∷ 3 ∷ 1 ∷ 0 ∷ [])
+    ∷ recurrence-gives 2 (1 ∷ 0 ∷ 0 ∷ 1 ∷ 0 ∷ 1 ∷ 1 ∷ 1 ∷ []) 3 (1 ∷ 1 ∷ 0 ∷ 1 ∷ 0 ∷ 0 ∷ 0 ∷ 0 ∷ 0 ∷ [])
+    ∷ recurrence-gives 13 (0 ∷ 1 ∷ 1 ∷ 2 ∷ 3 ∷ 5 ∷ 8 ∷ 0 ∷ []) 2 (12 ∷ 12 ∷ 1 ∷ 0 ∷ 0 ∷ 0 ∷ 0 ∷ 0 ∷ 0 ∷ [])
+    ∷ recurrence-gives 3 (1 ∷ 1 ∷ 2 ∷ 0 ∷ 1 ∷ 1 ∷ []) 3 (1 ∷ 2 ∷ 0 ∷ 1 ∷ 0 ∷ 0 ∷ 0 ∷ [])
+    ∷ recurrence-gives 5 (1 ∷ 2 ∷ 4 ∷ 3 ∷ 0 ∷ []) 4 (1 ∷ 0 ∷ 0 ∷ 3 ∷ 1 ∷ 0 ∷ [])
+    ∷ recurrence-refuses 7 (1 ∷ 7 ∷ []) 2 16 9
+    ∷ recurrence-refuses 7 (1 ∷ 6 ∷ []) 4 16 11
+    ∷ recurrence-refuses 7 (1 ∷ 6 ∷ []) 3 15 11
+    ∷ recurrence-refuses 4 (5 ∷ []) 2 12 3
+    -- q = 1, t = 0, L = 0, e = 1 before the first term; after 0, 3, of which the second changes the length
+    ∷ steps-give 7 [] 0 (1 ∷ []) [] 0 1
+    ∷ steps-give 7 (0 ∷ 3 ∷ []) 2 (1 ∷ 0 ∷ []) (1 ∷ []) 2 3
+    -- products, transposed products, polynomials of a matrix
+    ∷ product-gives 5 (matrix (0 ∷ 2 ∷ 3 ∷ 4 ∷ []) (0 ∷ 1 ∷ 2 ∷ 0 ∷ []) (1 ∷ 2 ∷ 3 ∷ 4 ∷ [])) (1 ∷ 2 ∷ 3 ∷ []) (0 ∷ 4 ∷ 4 ∷ [])
+    ∷ transposed-gives 5 (matrix (0 ∷ 2 ∷ 3 ∷ 4 ∷ []) (0 ∷ 1 ∷ 2 ∷ 0 ∷ []) (1 ∷ 2 ∷ 3 ∷ 4 ∷ [])) (1 ∷ 2 ∷ 3 ∷ []) (3 ∷ 2 ∷ 1 ∷ [])
+    ∷ product-gives 7 U (3 ∷ 5 ∷ []) (5 ∷ 0 ∷ [])
+    ∷ transposed-gives 7 U (3 ∷ 5 ∷ []) (0 ∷ 3 ∷ [])
+    ∷ apply-gives 5 (matrix (0 ∷ 2 ∷ 3 ∷ 4 ∷ []) (0 ∷ 1 ∷ 2 ∷ 0 ∷ []) (1 ∷ 2 ∷ 3 ∷ 4 ∷ [])) (2 ∷ 0 ∷ 1 ∷ 4 ∷ []) (1 ∷ 2 ∷ 3 ∷ []) (3 ∷ 1 ∷ 4 ∷ [])
+    ∷ apply-gives 7 U (6 ∷ []) (3 ∷ 5 ∷ []) (4 ∷ 2 ∷ [])
+    ∷ apply-gives 7 diag23 (6 ∷ 2 ∷ 1 ∷ []) (1 ∷ 1 ∷ []) (0 ∷ 0 ∷ [])
+    -- the two checks of offered answers
+    ∷ takes-says 7 U (0 ∷ 1 ∷ []) (1 ∷ 0 ∷ []) 0 true
+    ∷ takes-says 7 U (1 ∷ 0 ∷ []) (1 ∷ 0 ∷ []) 0 false
+    ∷ takes-says 7 U (0 ∷ 8 ∷ []) (1 ∷ 0 ∷ []) 9 false
+    ∷ isNull-says 7 U (5 ∷ 0 ∷ []) 0 true
+    ∷ isNull-says 7 U (0 ∷ 0 ∷ []) 0 false
+    ∷ isNull-says 7 U (0 ∷ 1 ∷ []) 0 false
+    ∷ isNull-says 7 U (7 ∷ 0 ∷ 0 ∷ []) 8 false
+    -- the reader: good texts, and its refusals
+    ∷ reader-gives "system\t7\t2\t3\na\t1\t1\t2\na\t1\t2\t1\na\t2\t2\t3\nb\t1\t1\nb\t2\t1\nend\n" 5 4 4 4 7 2 3 (0 ∷ 2 ∷ 3 ∷ 9 ∷ 9 ∷ []) (0 ∷ 1 ∷ 1 ∷ 9 ∷ []) (2 ∷ 1 ∷ 3 ∷ 9 ∷ []) (1 ∷ 1 ∷ 9 ∷ 9 ∷ [])
+    ∷ reader-gives "system\t7\t2\t3\na\t1\t1\t2\na\t1\t2\t1\na\t2\t2\t3\nb\t1\t1\nb\t2\t1\nend\n" 3 3 3 2 7 2 3 (0 ∷ 2 ∷ 3 ∷ []) (0 ∷ 1 ∷ 1 ∷ []) (2 ∷ 1 ∷ 3 ∷ []) (1 ∷ 1 ∷ [])
+    ∷ reader-gives "system\t2\t1\t0\nend\n" 5 4 4 4 2 1 0 (0 ∷ 0 ∷ 9 ∷ 9 ∷ 9 ∷ []) (9 ∷ 9 ∷ 9 ∷ 9 ∷ []) (9 ∷ 9 ∷ 9 ∷ 9 ∷ []) (0 ∷ 9 ∷ 9 ∷ 9 ∷ [])
+    ∷ reader-gives "system\t11\t3\t1\na\t2\t3\t10\nb\t3\t4\nend\n" 5 4 4 4 11 3 1 (0 ∷ 0 ∷ 1 ∷ 1 ∷ 9 ∷ []) (2 ∷ 9 ∷ 9 ∷ 9 ∷ []) (10 ∷ 9 ∷ 9 ∷ 9 ∷ []) (0 ∷ 0 ∷ 4 ∷ 9 ∷ [])
+    ∷ reader-refuses "system\t7\t1\t0\n" 5 4 4 4 2
+    ∷ reader-refuses "system\t7\t1\t0\nend" 5 4 4 4 2
+    ∷ reader-refuses "system\t7\t1\t0\nend\n\n" 5 4 4 4 2
+    ∷ reader-refuses "system\t4\t1\t1\nb\t1\t1\na\t1\t1\t1\nend\n" 5 4 4 4 2
+    ∷ reader-refuses "system\t7\t1\t1\na\t01\t1\t1\nend\n" 5 4 4 4 2
+    ∷ reader-refuses "system\t7\t1\t1\na\t1\t1\t4294967296\nend\n" 5 4 4 4 2
+    ∷ reader-refuses "system\t7\t1\t1\na\t1\t1\t4294967295\nend\n" 5 4 4 4 7
+    ∷ reader-refuses "system 7\t1\t0\nend\n" 5 4 4 4 2
+    ∷ reader-refuses "system\t7\t1\t0\r\nend\r\n" 5 4 4 4 2
+    ∷ reader-refuses "" 5 4 4 4 2
+    ∷ reader-refuses "system\t9\t0\t0\nend\n" 5 4 4 4 3
+    ∷ reader-refuses "system\t7\t0\t1\nend\n" 5 4 4 4 4
+    ∷ reader-refuses "system\t7\t4097\t0\nend\n" 5 4 4 4 4
+    ∷ reader-refuses "system\t7\t1\t2\na\t1\t2\t1\nend\n" 5 4 4 4 5
+    ∷ reader-refuses "system\t7\t2\t2\na\t2\t1\t0\na\t1\t1\t1\nend\n" 5 4 4 4 6
+    ∷ reader-refuses "system\t7\t2\t2\na\t1\t1\t1\na\t1\t1\t2\nend\n" 5 4 4 4 6
+    ∷ reader-refuses "system\t7\t1\t1\na\t0\t1\t1\nend\n" 5 4 4 4 6
+    ∷ reader-refuses "system\t7\t2\t1\na\t1\t1\t7\nb\t2\t1\nb\t1\t1\nend\n" 5 4 4 4 6
+    ∷ reader-refuses "system\t7\t1\t1\na\t1\t1\t7\nend\n" 5 4 4 4 7
+    ∷ reader-refuses "system\t7\t1\t0\nb\t1\t0\nend\n" 2 0 0 0 7
+    ∷ reader-refuses "system\t7\t2\t3\na\t1\t1\t2\na\t1\t2\t1\na\t2\t2\t3\nb\t1\t1\nb\t2\t1\nend\n" 2 4 4 4 11
+    ∷ reader-refuses "system\t7\t2\t3\na\t1\t1\t2\na\t1\t2\t1\na\t2\t2\t3\nb\t1\t1\nb\t2\t1\nend\n" 5 2 4 4 11
+    -- the writer, into just enough bytes and into more
+    ∷ writer-gives 7 (matrix (0 ∷ 2 ∷ 3 ∷ []) (0 ∷ 1 ∷ 1 ∷ []) (2 ∷ 1 ∷ 3 ∷ [])) (1 ∷ 1 ∷ []) 53 53 "system\t7\t2\t3\na\t1\t1\t2\na\t1\t2\t1\na\t2\t2\t3\nb\t1\t1\nb\t2\t1\nend\n"
+    ∷ writer-gives 11 (matrix (0 ∷ 0 ∷ 1 ∷ 1 ∷ []) (2 ∷ []) (10 ∷ [])) (0 ∷ 0 ∷ 4 ∷ []) 36 33 "system\t11\t3\t1\na\t2\t3\t10\nb\t3\t4\nend\n..."
+    ∷ writer-gives 2 (matrix (0 ∷ 0 ∷ []) [] []) (0 ∷ []) 16 0 "................"
+    -- the text call
+    ∷ text-gives
+    "system\t2\t2\t1\na\t2\t2\t1\nb\t1\t1\nb\t2\t1\nend\n"
+    "answer\tsingular\t2\t2\t7\nf\t0\t0\nf\t1\t1\nf\t2\t1\nw\t1\t1\nw\t2\t0\nend\n"
+    ∷ text-gives
+    "system\t3\t2\t1\na\t1\t2\t2\nend\n"
+    "answer\tsolved\t0\t0\t0\nf\t0\t1\nx\t1\t0\nx\t2\t0\nend\n"
+    ∷ text-gives
+    "system\t13\t1\t1\na\t1\t1\t5\nb\t1\t3\nend\n"
+    "answer\tsolved\t1\t1\t2\nf\t0\t8\nf\t1\t1\nx\t1\t11\nend\n"
+    ∷ text-gives
+    "system\t5\t3\t3\na\t1\t1\t1\na\t2\t2\t2\na\t3\t3\t3\nb\t1\t1\nb\t2\t1\nb\t3\t1\nend\n"
+    "answer\tsolved\t3\t3\t14\nf\t0\t4\nf\t1\t1\nf\t2\t4\nf\t3\t1\nx\t1\t1\nx\t2\t3\nx\t3\t2\nend\n"
+    ∷ text-refuses "system\t7\t129\t0\nend\n" 4608 11
+    ∷ text-refuses "system\t7\t129\t0\nb\t1\t7\nend\n" 4608 7
+    ∷ text-refuses "system\t7\t4097\t0\nend\n" 4608 4
+    ∷ text-refuses "system\t7\t1\t0\nend\n" 4607 11
+    ∷ text-refuses "system\t6\t1\t0\nend\n" 0 3
+    -- the field
+    ∷ sum-gives 7 5 6 0 4
+    ∷ difference-gives 7 2 5 0 4
+    ∷ product-of-gives 7 5 6 0 2
+    ∷ sum-gives 7 7 0 9 0
+    ∷ difference-gives 1 0 0 3 0
+    ∷ inverse-gives 7 3 0 5
+    ∷ inverse-gives 2 1 0 1
+    ∷ inverse-gives 7 0 12 0
+    ∷ inverse-gives 7 7 9 0
+    ∷ inverse-gives 6 0 3 0
+    ∷ []
+
+pub more-rows : AllHold more-cases
+unfolding compute
+more-rows = (refl, (refl, (refl, (refl, (refl, (refl, (refl, (refl, (refl, (refl, (refl, (refl, (refl, (refl, (refl, (refl, (refl, (refl, (refl, (refl, (refl, (refl, (refl, (refl, (refl, (refl, (refl, (refl, (refl, (refl, (refl, (refl, (refl, (refl, (refl, (refl, (refl, (refl, (refl, (refl, (refl, (refl, (refl, (refl, (refl, (refl, (refl, (refl, (refl, (refl, (refl, (refl, (refl, (refl, (refl, (refl, (refl, (refl, (refl, (refl, (refl, (refl, (refl, (refl, (refl, (refl, (refl, (refl, (refl, (refl, (refl, (refl, (refl, (refl, (refl, (refl, (refl, (refl, (refl, (refl, (refl, (refl, (refl, (refl, (refl, (refl, (refl, (refl, (refl, (refl, (refl, (refl, (refl, (refl, (refl, (refl, (refl, (refl, (refl, (refl, (refl, (refl, (refl, (refl, (refl, (refl, (refl, (refl, (refl, tt)))))))))))))))))))))))))))))))))))))))))))))))))))))))))))))))))))))))))))))))))))))))))))))))))))))))))))))

@@ -6,7 +6,8 @@
 --     terms                  "the 2 × left terms u·r, u·Ar, u·A²r, .."
 --     Run                    r, F and D between two passes, the degrees t of the passes made, and their applications
 --     begin                  "r = b, F = 1, D = 0"
---     pass p A u             one pass with the projection u: its recurrence knows its own terms only
+--     passTerms p A u        the terms of a pass with the projection u, left = n − D
+--     pass p A u             that pass: "f is their shortest recurrence", which knows its own terms only
 --     run p A us             "while r is not zero, make a pass with the next projection"
 --     Kind, Outcome          solved or singular; what a run ends with
 --     close                  "when r is zero, let G = (F − F[0]) / z .."
@@ -51,10 +52,13 @@ pub record Run : Type 0 where
 unfoldable pub begin : List ℕ → Run
 begin b = record { residual = b; factor = 1 ∷ []; found = 0; degrees = []; applications = 0 }
 
+unfoldable pub passTerms : ℕ → Matrix → List ℕ → Run → List ℕ
+passTerms p A u c = terms p A (size A - c .found) u (c .residual)
+
 unfoldable pub pass : ℕ → Matrix → List ℕ → Run → Run
 pass p A u c =
     let left = size A - c .found in
-    let s = terms p A left u (c .residual) in
+    let s = passTerms p A u c in
     let f = generator p s in
     let t = degree p s in
     record {

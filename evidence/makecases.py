@@ -1,0 +1,296 @@
+"""Writes cases.txt.  Every answer is computed by reference.py."""
+
+import mutants
+import reference as ref
+import selftest
+
+out = []
+
+
+def put(s=''):
+    out.append(s)
+
+
+def nums(v):
+    return ' '.join(str(x) for x in v) if len(v) else '(none)'
+
+
+def esc(b):
+    return b.decode('latin-1').replace('\t', '\\t').replace('\n', '\\n').replace('\r', '\\r')
+
+
+def rows(M):
+    return ' / '.join(' '.join(str(x) for x in r) for r in M)
+
+
+def answer_line(got):
+    if got[0] == 'refused':
+        return 'refused %d' % got[1]
+    return None
+
+
+put('Cases worked out by reference.py (made by makecases.py; do not edit by hand).')
+put('Matrices are given as dense rows "r1 / r2 / .." and as slices (starts; columns; values, columns from 0).')
+put('Polynomials lowest power first.  Output slices have exactly the stated length and hold 9 before, unless said.')
+put('"tells apart" names the wrong solvers of mutants.py that give another answer (kind, D, passes, applications, vector, f).')
+put()
+
+# ------------------------------------------------------------------ systems
+put('=== 1. SYSTEMS (solver call) ===')
+systems = [
+    ('restart, p = 2, first factor z; the vector needs the whole F', 2, [[0, 0], [0, 1]], [1, 1], []),
+    ('restart, p = 3, solved; one word vector, then unit vectors; a pass of degree 0 in the middle', 3,
+     [[1, 0, 0], [0, 2, 0], [0, 0, 2]], [2, 2, 1], [5, 5, 2]),
+    ('two word vectors, first one zero modulo p; unit vectors begin at 1 again', 3, [[1, 0, 0], [0, 0, 1], [0, 1, 0]], [1, 2, 0],
+     [3, 0, 6, 4, 2, 5]),
+    ('3 passes of degree 1 each', 5, [[1, 0, 0], [0, 2, 0], [0, 0, 3]], [1, 1, 1], []),
+    ('the same with words: one pass is enough, the second word vector stays unused', 5, [[1, 0, 0], [0, 2, 0], [0, 0, 3]], [1, 1, 1], [6, 11, 4294967294, 1, 0, 0]),
+    ('zero matrix, no entries; a pass of degree 0 first', 5, [[0, 0], [0, 0]], [0, 3], []),
+    ('n = 1, singular (zero matrix)', 11, [[0]], [4], []),
+    ('n = 1, solved', 13, [[5]], [3], [26]),
+    ('singular matrix, but solved', 7, [[2, 0], [0, 0]], [1, 0], []),
+    ('p = 2, singular though the system has a solution; 3 passes 0, 1, 1', 2, [[0, 0, 0], [1, 0, 0], [0, 1, 0]], [0, 1, 0], []),
+    ('p = 2, two word vectors, 4 passes 0, 1, 0, 1', 2, [[0, 0, 1], [1, 0, 0], [0, 0, 0]], [1, 1, 0], [2, 2, 3, 1, 0, 3]),
+    ('p = 3, b = 0 with words: nothing counted', 3, [[1, 2], [0, 0]], [0, 0], [1, 1]),
+    ('one pass of full degree, n = 3, dense', 13, [[1, 2, 3], [4, 5, 6], [7, 8, 10]], [1, 2, 0], []),
+    ('EXTRA, n = 4: t kept (unshifted) over a restart shows only from n = 4', 2,
+     [[1, 1, 0, 0], [1, 0, 0, 0], [0, 0, 0, 1], [0, 0, 0, 0]], [1, 0, 0, 1], []),
+    ('EXTRA, n = 4, the same with p = 3', 3, [[0, 2, 0, 0], [0, 0, 0, 0], [0, 0, 0, 1], [0, 0, 2, 0]], [2, 2, 1, 0], []),
+]
+for k, (what, p, M, b, words) in enumerate(systems, 1):
+    n = len(M)
+    S = selftest.dense_to_sparse(M)
+    selftest.check_system(p, n, M, b, [words, []])
+    got = ref.solve(p, *S, b, words, [9] * n, [9] * (n + 1), [9] * (16 * n + 16))
+    kind, D, passes, apps, vector, poly = got[1:]
+    put('1.%d  %s' % (k, what))
+    put('   p = %d, n = %d, A = %s   (starts %s; columns %s; values %s)' % (p, n, rows(M), nums(S[0]), nums(S[1]), nums(S[2])))
+    put('   b = %s; words = %s' % (nums(b), nums(words)))
+    put('   -> %s, D = %d, passes = %d, applications = %d, %s = %s, polynomial slice = %s' %
+        (kind, D, passes, apps, 'x' if kind == 'solved' else 'w', nums(vector), nums(poly)))
+    for i, (u, left, terms, f, after) in enumerate(ref.solver_steps(p, *S, b, words)[4], 1):
+        put('      pass %d: u = %s, left = %d, terms = %s, f = %s, degree %d, r becomes %s' %
+            (i, nums(u), left, nums(terms), nums(f), len(f) - 1, nums(after)))
+    if 'full degree' in what or 'one pass is enough' in what:
+        assert D == n and passes == 1, (D, passes)
+    put('   tells apart: ' + (', '.join(mutants.told_apart(p, S, b, words)) or '(none)'))
+put()
+
+# ------------------------------------------------------------------ sequences
+put('=== 2. SEQUENCES (recurrence call; answer L and the polynomial slice of N + 1 places) ===')
+for k, (what, p, s) in enumerate([
+        ('empty list', 7, []),
+        ('all zeros', 5, [0, 0, 0, 0]),
+        ('2L > N: late nonzero', 7, [0, 0, 0, 3]),
+        ('2L > N: f not unique, the steps decide', 7, [0, 2, 1]),
+        ('p = 2, 8 terms, L = 3 (z^3 + z + 1)', 2, [1, 0, 0, 1, 0, 1, 1, 1]),
+        ('Fibonacci modulo 13', 13, [0, 1, 1, 2, 3, 5, 8, 0]),
+        ('L goes 1, 2, 3 at terms 1, 3, 5', 3, [1, 1, 2, 0, 1, 1]),
+        ('ends in a jump: 2L > N', 5, [1, 2, 4, 3, 0]),
+        ('one nonzero at the start: f = z', 11, [4, 0, 0, 0]),
+        ('single term: 2L > N', 3, [2]),
+], 1):
+    N = len(s)
+    got = ref.recurrence(p, s, [9] * (N + 1), [9] * (4 * N + 8))
+    L, number, f = ref.least_recurrence_by_elimination(p, s)
+    if what.startswith('L goes'):
+        assert [ref.shortest_recurrence(p, s[:r])[0] for r in range(1, 7)] == [1, 1, 2, 2, 3, 3]
+    assert got[1] == L and (2 * L > N or f == got[2][:L + 1])
+    put('2.%d  %s: p = %d, s = %s  ->  L = %d, slice = %s   [2L %s N; %s f of that degree recurs(s)]' %
+        (k, what, p, nums(s), L, nums(got[2]), '<=' if 2 * L <= N else '>', 'one' if number == 'one' else 'more than one'))
+put('2.r1 p = 4, s = 5, slice and work as stated -> ' + answer_line(ref.recurrence(4, [5], [9] * 2, [9] * 12)))
+put('2.r2 p = 7, s = 1 7, polynomial slice of 2 (3 wanted) -> ' + answer_line(ref.recurrence(7, [1, 7], [9] * 2, [9] * 16)))
+put('2.r3 p = 7, s = 1 6, polynomial slice of 4 (3 wanted) -> ' + answer_line(ref.recurrence(7, [1, 6], [9] * 4, [9] * 16)))
+put('2.r4 p = 7, s = 1 6, work slice of 15 (16 wanted) -> ' + answer_line(ref.recurrence(7, [1, 6], [9] * 3, [9] * 15)))
+put('2.r5 p = 7, 8193 zeros, slices as stated -> ' + answer_line(ref.recurrence(7, [0] * 8193, [9] * 8194, [9] * 40000)))
+put()
+
+# ------------------------------------------------------------------ products
+put('=== 3. PRODUCTS ===')
+A3 = [[1, 2, 0], [0, 0, 3], [4, 0, 0]]
+S3 = selftest.dense_to_sparse(A3)
+U = [[0, 1], [0, 0]]
+SU = selftest.dense_to_sparse(U)
+Z = selftest.dense_to_sparse([[0, 0], [0, 0]])
+
+
+def show(tag, call, p, M, v, got, g=None):
+    S = selftest.dense_to_sparse(M)
+    put('%s %s: p = %d, A = %s (starts %s; columns %s; values %s), %sv = %s -> %s' %
+        (tag, call, p, rows(M), nums(S[0]), nums(S[1]), nums(S[2]), '' if g is None else 'g = %s, ' % nums(g), nums(v),
+         nums(got[1]) if got[0] == 'ok' else 'refused %d' % got[1]))
+
+
+show('3.1', 'product', 5, A3, [1, 2, 3], ref.product(5, *S3, [1, 2, 3], [9] * 3))
+show('3.2', 'transposed product', 5, A3, [1, 2, 3], ref.transposed_product(5, *S3, [1, 2, 3], [9] * 3))
+show('3.3', 'product', 7, U, [3, 5], ref.product(7, *SU, [3, 5], [9] * 2))
+show('3.4', 'transposed product', 7, U, [3, 5], ref.transposed_product(7, *SU, [3, 5], [9] * 2))
+show('3.5', 'g(A)v', 5, A3, [1, 2, 3], ref.polynomial_apply(5, *S3, [2, 0, 1, 4], [1, 2, 3], [9] * 3, [9] * 6), [2, 0, 1, 4])
+show('3.6', 'g(A)v', 7, U, [3, 5], ref.polynomial_apply(7, *SU, [6], [3, 5], [9] * 2, [9] * 4), [6])
+show('3.7', 'g(A)v', 7, [[2, 0], [0, 3]], [1, 1], ref.polynomial_apply(7, [0, 1, 2], [0, 1], [2, 3], [6, 2, 1], [1, 1], [9] * 2, [9] * 4), [6, 2, 1])
+show('3.8', 'g(A)v', 3, U, [1, 2], ref.polynomial_apply(3, *SU, [0, 0, 0], [1, 2], [9] * 2, [9] * 4), [0, 0, 0])
+show('3.9', 'product', 2, [[0, 0], [0, 0]], [1, 1], ref.product(2, *Z, [1, 1], [9] * 2))
+show('3.r1', 'g(A)v', 7, U, [3, 5], ref.polynomial_apply(7, *SU, [], [3, 5], [9] * 2, [9] * 4), [])
+show('3.r2', 'g(A)v', 7, U, [3, 5], ref.polynomial_apply(7, *SU, [1, 1, 1, 1], [3, 5], [9] * 2, [9] * 4), [1, 1, 1, 1])
+show('3.r3', 'g(A)v with g[1] = p and out of 1 place', 7, U, [3, 5], ref.polynomial_apply(7, *SU, [1, 7], [3, 5], [9], [9] * 4), [1, 7])
+show('3.r4', 'g(A)v with a work slice of 3', 7, U, [3, 5], ref.polynomial_apply(7, *SU, [1, 1], [3, 5], [9] * 2, [9] * 3), [1, 1])
+show('3.r5', 'product with out of 3 places', 7, U, [3, 5], ref.product(7, *SU, [3, 5], [9] * 3))
+put('3.c1 check Ax = b: p = 7, A = 0 1 / 0 0, x = 0 1, b = 1 0 -> %s' % ref.check_solution(7, *SU, [0, 1], [1, 0])[1])
+put('3.c2 check Ax = b: p = 7, A = 0 1 / 0 0, x = 1 0, b = 1 0 -> %s' % ref.check_solution(7, *SU, [1, 0], [1, 0])[1])
+put('3.c3 check Ax = b: p = 7, A = 0 1 / 0 0, x = 0 8, b = 1 0 -> %s' % answer_line(ref.check_solution(7, *SU, [0, 8], [1, 0])))
+put('3.c4 check w: p = 7, A = 0 1 / 0 0, w = 5 0 -> %s' % ref.check_kernel(7, *SU, [5, 0])[1])
+put('3.c5 check w: p = 7, A = 0 1 / 0 0, w = 0 0 -> %s' % ref.check_kernel(7, *SU, [0, 0])[1])
+put('3.c6 check w: p = 7, A = 0 1 / 0 0, w = 0 1 -> %s' % ref.check_kernel(7, *SU, [0, 1])[1])
+put('3.c7 check w: p = 7, A = 0 1 / 0 0, w = 7 0 0 -> %s' % answer_line(ref.check_kernel(7, *SU, [7, 0, 0])))
+put()
+
+# ------------------------------------------------------------------ reader
+put('=== 4. TEXTS FOR THE READER (lent: starts 5, columns 4, values 4, b 4 places, all 9 before, unless said) ===')
+good = b'system\t7\t2\t3\na\t1\t1\t2\na\t1\t2\t1\na\t2\t2\t3\nb\t1\t1\nb\t2\t1\nend\n'
+texts = [
+    ('good', good, None),
+    ('good, no entries, no b lines', b'system\t2\t1\t0\nend\n', None),
+    ('good, empty row 1 and row 3, b line for row 3 only', b'system\t11\t3\t1\na\t2\t3\t10\nb\t3\t4\nend\n', None),
+    ('2: no end line', b'system\t7\t1\t0\n', None),
+    ('2: last byte 10 missing', b'system\t7\t1\t0\nend', None),
+    ('2: byte after end', b'system\t7\t1\t0\nend\n\n', None),
+    ('2: a line after b line (and p = 4, 3)', b'system\t4\t1\t1\nb\t1\t1\na\t1\t1\t1\nend\n', None),
+    ('2: leading zero', b'system\t7\t1\t1\na\t01\t1\t1\nend\n', None),
+    ('2: numeral 4294967296', b'system\t7\t1\t1\na\t1\t1\t4294967296\nend\n', None),
+    ('7: numeral 4294967295 is a numeral', b'system\t7\t1\t1\na\t1\t1\t4294967295\nend\n', None),
+    ('2: blank for tab', b'system 7\t1\t0\nend\n', None),
+    ('2: carriage return', b'system\t7\t1\t0\r\nend\r\n', None),
+    ('2: empty text', b'', None),
+    ('3: p = 9 (and n = 0, 4)', b'system\t9\t0\t0\nend\n', None),
+    ('3: p = 1', b'system\t1\t1\t0\nend\n', None),
+    ('4: n = 0 (and count 1 without a lines, 5)', b'system\t7\t0\t1\nend\n', None),
+    ('4: n = 4097', b'system\t7\t4097\t0\nend\n', None),
+    ('5: header says 2, one a line (and it is out of range, 6)', b'system\t7\t1\t2\na\t1\t2\t1\nend\n', None),
+    ('6: rows out of order (and a value 0, 7)', b'system\t7\t2\t2\na\t2\t1\t0\na\t1\t1\t1\nend\n', None),
+    ('6: same place twice', b'system\t7\t2\t2\na\t1\t1\t1\na\t1\t1\t2\nend\n', None),
+    ('6: row 0', b'system\t7\t1\t1\na\t0\t1\t1\nend\n', None),
+    ('6: column 0', b'system\t7\t1\t1\na\t1\t0\t1\nend\n', None),
+    ('6: b rows fall (and an a value of 7, 7)', b'system\t7\t2\t1\na\t1\t1\t7\nb\t2\t1\nb\t1\t1\nend\n', None),
+    ('6: b row 3 of n = 2', b'system\t7\t2\t0\nb\t3\t1\nend\n', None),
+    ('7: a value = p', b'system\t7\t1\t1\na\t1\t1\t7\nend\n', None),
+    ('7: b value 0 (and lent b too short, 11)', b'system\t7\t1\t0\nb\t1\t0\nend\n', (2, 0, 0, 0)),
+    ('11: starts of 2 places for n = 2', good, (2, 4, 4, 4)),
+    ('11: columns of 2 places for 3 entries', good, (5, 2, 4, 4)),
+    ('good: slices exactly long enough', good, (3, 3, 3, 2)),
+]
+for k, (what, text, lengths) in enumerate(texts, 1):
+    lengths = lengths or (5, 4, 4, 4)
+    got = ref.read_system(text, *[[9] * m for m in lengths])
+    put('4.%d  %s: "%s"%s' % (k, what, esc(text), '' if lengths == (5, 4, 4, 4) else '  lent lengths %s' % nums(lengths)))
+    if got[0] == 'refused':
+        assert what.startswith('%d:' % got[1]), (what, got)
+        put('   -> refused %d' % got[1])
+    else:
+        assert what.startswith('good')
+        put('   -> p = %d, n = %d, entries = %d; starts %s; columns %s; values %s; b %s' %
+            (got[1], got[2], got[3], nums(got[4]), nums(got[5]), nums(got[6]), nums(got[7])))
+put()
+
+# ------------------------------------------------------------------ text call
+put('=== 5. TEXTS FOR THE TEXT CALL (answer slice of 4608; the program prints the same bytes) ===')
+for k, (what, text) in enumerate([
+        ('document 01', good),
+        ('singular, restart, p = 2', b'system\t2\t2\t1\na\t2\t2\t1\nb\t1\t1\nb\t2\t1\nend\n'),
+        ('b = 0', b'system\t3\t2\t1\na\t1\t2\t2\nend\n'),
+        ('n = 1', b'system\t13\t1\t1\na\t1\t1\t5\nb\t1\t3\nend\n'),
+        ('no entries, degree-0 pass first', b'system\t5\t2\t0\nb\t2\t3\nend\n'),
+        ('3 passes', b'system\t5\t3\t3\na\t1\t1\t1\na\t2\t2\t2\na\t3\t3\t3\nb\t1\t1\nb\t2\t1\nb\t3\t1\nend\n'),
+], 1):
+    got = ref.text_call(text, bytes([9]) * 4608)
+    assert got[0] == 'ok' and got[2][got[1]:] == bytes([9]) * (4608 - got[1])
+    assert ref.program(text) == got[2][:got[1]]
+    put('5.%d  %s: "%s"' % (k, what, esc(text)))
+    put('   -> %d, "%s"' % (got[1], esc(got[2][:got[1]])))
+for k, (what, text, length, printed) in enumerate([
+        ('24,577 bytes "x"', b'x' * 24577, 0, True),
+        ('24,576 bytes "x"', b'x' * 24576, 0, True),
+        ('n = 129, no entries: "system\\t7\\t129\\t0\\nend\\n"', b'system\t7\t129\t0\nend\n', 4608, True),
+        ('n = 129 and b value 7: "system\\t7\\t129\\t0\\nb\\t1\\t7\\nend\\n"', b'system\t7\t129\t0\nb\t1\t7\nend\n', 4608, True),
+        ('n = 4097: "system\\t7\\t4097\\t0\\nend\\n"', b'system\t7\t4097\t0\nend\n', 4608, True),
+        ('answer slice of 4,607: "system\\t7\\t1\\t0\\nend\\n"', b'system\t7\t1\t0\nend\n', 4607, False),
+        ('p = 6 and answer slice of 0: "system\\t6\\t1\\t0\\nend\\n"', b'system\t6\t1\t0\nend\n', 0, True),
+], 1):
+    got = ref.text_call(text, bytes(length))
+    put('5.r%d %s -> refused %d%s' % (k, what, got[1], '; program prints "%s"' % esc(ref.program(text)) if printed else ''))
+put()
+
+# ------------------------------------------------------------------ writer
+put('=== 6. WRITER (bytes before: all "."; n from the starts) ===')
+for k, (what, p, M, b, extra) in enumerate([
+        ('out of exactly the length', 7, [[2, 1], [0, 3]], [1, 1], 0),
+        ('3 bytes more, they stay', 11, [[0, 0, 0], [0, 0, 10], [0, 0, 0]], [0, 0, 4], 3),
+        ('no entries, b = 0', 2, [[0]], [0], 0),
+], 1):
+    S = selftest.dense_to_sparse(M)
+    m = len(ref.system_text(p, *S, b))
+    got = ref.write_system(p, *S, b, b'.' * (m + extra))
+    put('6.%d  %s: p = %d, starts %s; columns %s; values %s; b %s; out of %d bytes' % (k, what, p, nums(S[0]), nums(S[1]), nums(S[2]), nums(b), m + extra))
+    put('   -> %d, "%s"' % (got[1], esc(got[2])))
+    got = ref.write_system(p, *S, b, b'.' * (m - 1))
+    put('   out of %d bytes -> refused %d' % (m - 1, got[1]))
+put('6.r1 p = 7, diag(2,3), b = 1 7, out of 0 bytes -> ' + answer_line(ref.write_system(7, [0, 1, 2], [0, 1], [2, 3], [1, 7], b'')))
+put('6.r2 p = 7, diag(2,3), b = 1, out of 100 bytes -> ' + answer_line(ref.write_system(7, [0, 1, 2], [0, 1], [2, 3], [1], bytes(100))))
+put()
+
+# ------------------------------------------------------------------ refusals of the solver
+put('=== 7. REFUSALS OF THE SOLVER CALL (slices: vector 2, polynomial 3, work 48 unless said) ===')
+base = dict(p=7, starts=[0, 1, 2], columns=[0, 1], values=[2, 3], b=[1, 1], words=[], vector=2, polynomial=3, work=48)
+for number, what, change in [
+        (3, 'p = 1', dict(p=1)),
+        (3, 'p = 9, and starts empty (4)', dict(p=9, starts=[])),
+        (3, 'p = 2147483646', dict(p=2147483646)),
+        (3, 'p = 4294967291, a prime over the limit', dict(p=4294967291)),
+        (4, 'no starts, and columns and values differ (5)', dict(starts=[], columns=[])),
+        (4, 'one start: n = 0', dict(starts=[0], columns=[], values=[], b=[], vector=0, polynomial=1, work=16)),
+        (5, 'starts begin at 1', dict(starts=[1, 1, 2])),
+        (5, 'starts fall', dict(starts=[0, 2, 1, 2])),
+        (5, 'starts end at 1 with 2 entries', dict(starts=[0, 1, 1])),
+        (5, '3 columns, 2 values, and column 5 (6)', dict(columns=[0, 1, 5])),
+        (6, 'column 2 with n = 2, and value 0 (7)', dict(columns=[0, 2], values=[0, 3])),
+        (6, 'columns 1 0 in one row', dict(starts=[0, 2, 2], columns=[1, 0])),
+        (6, 'column 1 twice in one row', dict(starts=[0, 2, 2], columns=[1, 1])),
+        (7, 'value 0', dict(values=[2, 0])),
+        (7, 'value 7 = p, and b of 3 elements (8)', dict(values=[7, 3], b=[1, 1, 1])),
+        (8, 'b of 1 element', dict(b=[1])),
+        (8, 'b of 3 elements, one of them 7 (9)', dict(b=[1, 7, 1])),
+        (9, 'b element 7 = p', dict(b=[7, 1])),
+        (9, 'b element 4294967295, and 3 words (10), and vector of 1 place (11)', dict(b=[1, 4294967295], words=[1, 1, 1], vector=1)),
+        (10, '3 words', dict(words=[1, 1, 1])),
+        (10, '130 words, and work of 0 places (11)', dict(words=[1] * 130, work=0)),
+        (11, 'vector of 3 places', dict(vector=3)),
+        (11, 'polynomial of 2 places', dict(polynomial=2)),
+        (11, 'polynomial of 4 places', dict(polynomial=4)),
+        (11, 'work of 47 places', dict(work=47)),
+        (0, 'work of 49 places, 128 words of 4294967295', dict(work=49, words=[4294967295] * 128)),
+        (0, 'nothing wrong', dict()),
+]:
+    d = dict(base)
+    d.update(change)
+    got = ref.solve(d['p'], d['starts'], d['columns'], d['values'], d['b'], d['words'], [9] * d['vector'], [9] * d['polynomial'], [9] * d['work'])
+    assert (got == ('refused', number)) if number else got[0] == 'ok', (what, got)
+    put('%s: p = %d; starts %s; columns %s; values %s; b %s; words %s; vector %d, polynomial %d, work %d' %
+        (what, d['p'], nums(d['starts']), nums(d['columns']), nums(d['values']), nums(d['b']),
+         nums(d['words']) if len(d['words']) < 10 else '%d times %d' % (len(d['words']), d['words'][0]), d['vector'], d['polynomial'], d['work']))
+    put('   -> ' + ('refused %d' % number if number else '%s, D = %d, passes = %d, applications = %d, vector %s, polynomial %s' %
+                    (got[1], got[2], got[3], got[4], nums(got[5]), nums(got[6]))))
+put()
+
+# ------------------------------------------------------------------ field
+put('=== 8. FIELD ===')
+for s, got in [
+        ('field(2147483647)', ref.field(2147483647)), ('field(2147483646)', ref.field(2147483646)), ('field(0)', ref.field(0)),
+        ('sum p=7 5 6', ref.field_sum(7, 5, 6)), ('difference p=7 2 5', ref.field_difference(7, 2, 5)),
+        ('product p=2147483647 2147483646 2147483646', ref.field_product(2147483647, 2147483646, 2147483646)),
+        ('inverse p=7 3', ref.field_inverse(7, 3)), ('inverse p=2 1', ref.field_inverse(2, 1)),
+        ('inverse p=2147483647 2', ref.field_inverse(2147483647, 2)),
+        ('inverse p=7 0', ref.field_inverse(7, 0)), ('inverse p=7 7', ref.field_inverse(7, 7)),
+        ('inverse p=6 0', ref.field_inverse(6, 0)), ('sum p=7 7 0', ref.field_sum(7, 7, 0)), ('sum p=1 0 0', ref.field_sum(1, 0, 0))]:
+    put('%s -> %s' % (s, '%d' % got[1] if got[0] == 'ok' else 'refused %d' % got[1]))
+
+open('cases.txt', 'w').write('\n'.join(out) + '\n')
+print(len(out), 'lines')

@@ -1,0 +1,107 @@
+"""Wrong solvers (document 01, 'Tempting here', and a few more).  Used to say which case tells which one apart.
+
+keep_t_e / keep_e carry t, e over a restart exactly in the form of document 01's steps (t shifted at every term).  They are
+NOT observable: the last t = q of a pass happens at a term r1 <= 2*L1 - 1 (or t is still 0), so the kept t is z^k times a
+polynomial with k >= 2*left - 2*L1 + 1 > twice the degree still to come, and what it adds to the next q stays above index L.
+keep_t_unshifted is the same mistake in the usual program form (t stored unshifted beside a counter that is reset).  It shows
+only from n = 4 on: a pass of degree >= 2 followed by one of degree >= 2 is needed (none in 60,000 random systems of n <= 3)."""
+
+import reference as ref
+
+NAMES = ['keep_t_e', 'keep_e', 'keep_t_unshifted', 'keep_all', 'stale_q',
+         'first_pass_only', 'stop_at_D_n', 'singular_on_arrival', 'last_factor_x', 'G_on_last_r',
+         'columns_space_kind', 'word_stride_1', 'units_after_R', 'left_n_always', 'f_unreversed', 'no_degree0_pass_count']
+
+
+def recurrence_from(p, s, t, e, q, L):
+    """The steps from a given state; also answers the last t that was set by t = q, without the later shifts."""
+    unshifted = t
+    for r in range(1, len(s) + 1):
+        d = sum(ref.coefficient(q, i) * s[r - 1 - i] for i in range(min(L, r - 1) + 1)) % p
+        zt = [0] + t
+        if d == 0:
+            t = zt
+        else:
+            c = d * ref.inverse_mod(e, p) % p
+            nq = [(ref.coefficient(q, i) - c * ref.coefficient(zt, i)) % p for i in range(max(len(q), len(zt)))]
+            if 2 * L < r:
+                t, L, e = q, r - L, d
+                unshifted = q
+            else:
+                t = zt
+            q = nq
+    return L, q, t, e, unshifted
+
+
+def solve(name, p, S, b, words):
+    n = len(S[0]) - 1
+    R = len(words) // n
+    r, F, D, apps, k, counted = list(b), [1], 0, 0, 0, 0
+    t, e, q, L, unshifted = [0], 1, [1], 0, [0]
+    last = [1]
+    while any(r) if name != 'stop_at_D_n' else (any(b) and D < n):
+        if k >= R + n:
+            break
+        if k < R:
+            at = k if name == 'word_stride_1' else k * n
+            u = [w % p for w in words[at:at + n]]
+        else:
+            i = (k % n) if name == 'units_after_R' else k - R
+            u = [int(j == i) for j in range(n)]
+        left = n if name == 'left_n_always' else n - D
+        terms, v = [], r
+        for i in range(2 * left):
+            if i:
+                v = ref.times(p, *S, v)
+                apps += 1
+            terms.append(ref.dot(p, u, v))
+        if name not in ('keep_t_e', 'keep_t_unshifted', 'keep_all'):
+            t = [0]
+        if name == 'keep_t_unshifted':
+            t = unshifted
+        if name not in ('keep_t_e', 'keep_e', 'keep_t_unshifted', 'keep_all'):
+            e = 1
+        if name != 'keep_all':
+            q, L = ([1] + q[1:] if name == 'stale_q' else [1]), 0
+        L, q, t, e, unshifted = recurrence_from(p, terms, t, e, q, L)
+        if name == 'f_unreversed':
+            f = [ref.coefficient(q, i) for i in range(L + 1)]
+        else:
+            f = [ref.coefficient(q, L - i) for i in range(L + 1)]
+        before = r
+        r, made = ref.polynomial_times(p, *S, f, r)
+        apps += made
+        F = ref.polynomial_product(p, F, f)
+        D += L
+        k += 1
+        if L > 0 or name != 'no_degree0_pass_count':
+            counted += 1
+        last = f
+        if name == 'first_pass_only' or (name == 'singular_on_arrival' and f[0] == 0):
+            break
+        if D > n:
+            break
+    if D == 0:
+        return 'solved', 0, counted, apps, [0] * n, [1] + [0] * n
+    G = F[1:]
+    vec, made = ref.polynomial_times(p, *S, G, before if name == 'G_on_last_r' else b)
+    apps += made
+    kind = 'solved' if F[0] else 'singular'
+    if name == 'columns_space_kind' and kind == 'singular':
+        rows = [[0] * n for _ in range(n)]
+        for i in range(n):
+            for m in range(S[0][i], S[0][i + 1]):
+                rows[i][S[1][m]] = S[2][m]
+        if ref.solve_linear(p, rows, b, n)[0] != 'none':
+            kind = 'solved'
+    if F[0]:
+        c0 = last[0] if name == 'last_factor_x' else F[0]
+        c = -ref.inverse_mod(c0, p) % p
+        vec = [c * x % p for x in vec]
+    return kind, D, counted, apps, vec, (F + [0] * n)[:n + 1]
+
+
+def told_apart(p, S, b, words):
+    n = len(S[0]) - 1
+    right = ref.solve(p, *S, b, words, [0] * n, [0] * (n + 1), [0] * (16 * n + 16))[1:]
+    return [m for m in NAMES if solve(m, p, S, b, words) != right]

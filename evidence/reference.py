@@ -1,0 +1,699 @@
+"""Reference implementation of document 01 (Wiedemann solver modulo word-size primes).
+
+Plain Python 3, standard library only.  Written from 00-conditions.md, 01-scope.md and source 002 alone.
+
+Every public call takes lists of ints (32-bit numbers, 0 .. 2**32 - 1) or bytes, never changes an argument, and
+returns either ('ok', ...) or ('refused', number).  A lent slice that is written is passed in with its old contents
+(its length is checked) and its final contents are among the results.  After a refusal all lent slices keep their
+contents, so nothing more is returned.  Work slices: only the length is looked at.
+
+OPEN POINTS AND WHAT IS CHOSEN HERE
+===================================
+A. Checks of each call, in the order made.  Order = rising number; each is made over the whole input before the next.
+     field(p)                      3
+     field_sum/difference/product  3, 9 (either operand >= p)
+     field_inverse                 3, 9, 12
+     matrix_check                  3, 4, 5, 6, 7            (my own helper call; the paper names no such call)
+     product, transposed_product   3, 4, 5, 6, 7, 8 (len v != n), 9 (v), 11 (len out != n)
+     polynomial_apply  g(A)v       3, 4, 5, 6, 7, 8 (len v != n or len g not 1..n+1), 9 (v, g),
+                                   11 (len out != n or len work < 2n)
+     recurrence                    3, 8 (N > 8192), 9 (s), 11 (len poly != N+1 or len work < 4N+8)
+     solve                         3, 4, 5, 6, 7, 8 (len b != n), 9 (b), 10,
+                                   11 (len vector != n, len poly != n+1, len work < 16n+16)
+     check_solution  (Ax = b)      3, 4, 5, 6, 7, 8 (len x != n or len b != n), 9 (x, b)
+     check_kernel                  3, 4, 5, 6, 7, 8 (len w != n), 9 (w)
+     read_system                   2, 3, 4, 5, 6, 7, 11 (starts < n+1, columns < entries, values < entries, b < n)
+     write_system                  3, 4, 5, 6, 7, 8 (len b != n), 9 (b), 11 (out shorter than the text)
+     text_call                     1, 2, 3, 4, 5, 6, 7, 11 (n > 128, entries > 1024, or answer slice < 4608)
+     program                       as text_call, with an answer slice that is long enough (only n and entries give 11)
+B. Choices.
+  1. "Slices as long as stated": where the paper says "has n places", "n + 1 places", "N + 1 places" the length must be
+     EXACTLY that (longer is refused, 11); where it says "at least" a longer slice is taken.  Exactly: out of the three
+     products, recurrence polynomial, solver vector and polynomial.  At least: all work slices, the reader's four slices,
+     the text call's answer (4608), the writer's out (its text's length).
+  2. Elements (9) come before output lengths (11), and words (10) stand between them.  So an element >= p wins over a
+     short out slice, and also over bad words.
+  3. Words are "any 32-bit numbers": neither 8 nor 9 looks at them, only 10.
+  4. The values of a matrix are looked at by 7, never 9; elements of b given as a slice are looked at by 9 (0 is fine
+     there), `b` lines of a text by 7 (0 is refused there).
+  5. Check 4 on a matrix: len(starts) - 1 not in 1..4096; no starts -> 4; one start (n = 0) -> 4.
+  6. Check 5 on a matrix: starts[0] != 0, or starts fall anywhere, or starts[n] != len(columns), or
+     len(columns) != len(values), or more than 65536 entries (either slice).  All one number, so no inner order.
+  7. Check 6 on a matrix: a column >= n, or not strictly above the one before it in its row (equal -> 6).  The rows of a
+     matrix in slices cannot be out of order by themselves (falling starts are 5).
+  8. A field record with a bad p is 3 in every call that takes a field, also the recurrence; 3 comes before everything
+     except 1 and 2.  32-bit primes above 2147483647 -> 3.
+  9. The recurrence's list of more than 8192 elements -> 8 (also when the poly slice is right for it).  N = 0 is taken:
+     L = 0, f = 1, poly slice of one place.
+ 10. g of length 0 or over n + 1 -> 8.  g's leading coefficients may be 0, and g may be all zeros.
+ 11. Text, check 2 ("line forms and order of letters"): the whole text must be  system-line, a-lines, b-lines, `end`,
+     each with exactly its number of tab-parted fields and each closed by byte 10, nothing after the `end` line.  So 2 for:
+     empty text; missing last byte 10; bytes (even a byte 10) after end; missing end; `b` before `a`; a second system line;
+     blank line; blank instead of tab; carriage return; empty numeral; sign; leading zero (00, 01); numeral over
+     4294967295; wrong number of fields; upper case.  A missing end, or an a-line after a b-line, is 2 even where 3..7 apply too.
+ 12. A numeral over 4294967295 is 2 everywhere, also in the place of p, n, count, row, column or value.
+ 13. Header p bad (incl. 0, 1) -> 3; header n of 0 or over 4096 -> 4; header count != number of `a` lines, or over 65536
+     `a` lines (= count) -> 5, before any look at rows (6) or values (7).  All in that order whatever the order in the text.
+ 14. Row 0 or column 0 in a text, or over n -> 6; equal (row, column) twice -> 6; `b` rows the same.  6 of a `b` line
+     comes before 7 of an `a` line.
+ 15. The reader answers p, n and the entry count, beside the four slices.  It writes n+1 starts, `entries` columns and
+     values (columns from 0), and n elements of b (zeros for the rows that have no `b` line); the rest stays.
+ 16. The reader's slice lengths (11) come after 7.  Its entry count there is the header's (equal to the `a` lines by then).
+ 17. The writer has no check 2: the longest text possible (n = 4096, 65536 entries) is under 1,600,000 bytes.
+ 18. The text call: n of 129..4096 -> 11, n over 4096 -> 4; a text that is over 128 / 1024 and has a fault of 2..7 gets the
+     lower number.  A short answer slice (< 4608) is 11 even where the answer would fit, and only after 1..7.
+ 19. The text call's 24,576 bytes is below the reader's 2,097,152, so the length part of 2 is never reached there.
+ 20. Answer lines: tab-parted, byte 10 at the end, as in the system text.  f lines for ALL powers 0..D (zeros too, the
+     leading 1 too); x / w lines for ALL places (zeros too).
+ 21. Program: prints "refused" TAB number LF.  The paper names no exit status and no standard-error text: none here (0).
+ 22. "kind" is the string 'solved' or 'singular' here.  b = 0: solved, f = 1, D = 0, 0 passes, 0 applications.
+ 23. The offered-answer checks answer True / False after their refusals; an offered vector with an element >= p is 9, one
+     of wrong length 8 (not "no").
+ 24. "for j from 0 to N - L - 1": with L = N there is no j, so any monic f of degree N recurs.
+ 25. The recurrence's result f is always taken from the steps (where 2L <= N it is the only one anyway).
+ 26. Empty words (R = 0) are taken: 0 is a multiple of n.
+ 27. u (a words vector) is reduced modulo p element by element before use.
+ 28. `if 2 x L < r`: L is the value before this step (002 prints l_r, the misprint).
+"""
+
+import sys
+from functools import lru_cache
+
+MAX_P = 2147483647
+MAX_N = 4096
+MAX_ENTRIES = 65536
+MAX_LIST = 8192
+MAX_VECTORS = 64
+MAX_NUMERAL = 4294967295
+MAX_TEXT = 2097152
+CALL_TEXT = 24576
+CALL_N = 128
+CALL_ENTRIES = 1024
+CALL_ANSWER = 4608
+
+
+def refused(number):
+    return ('refused', number)
+
+
+# ---------------------------------------------------------------- field
+
+@lru_cache(maxsize=None)
+def is_prime(m):
+    if m < 2:
+        return False
+    d = 2
+    while d * d <= m:
+        if m % d == 0:
+            return False
+        d += 1
+    return True
+
+
+def inverse_mod(a, p):
+    """a^(p-2); a not 0, p prime."""
+    return pow(a, p - 2, p) if p > 2 else a
+
+
+def field(p):
+    if bad3(p):
+        return refused(3)
+    return ('ok', p)
+
+
+def field_sum(p, a, b):
+    if bad3(p):
+        return refused(3)
+    if a >= p or b >= p:
+        return refused(9)
+    return ('ok', (a + b) % p)
+
+
+def field_difference(p, a, b):
+    if bad3(p):
+        return refused(3)
+    if a >= p or b >= p:
+        return refused(9)
+    return ('ok', (a - b) % p)
+
+
+def field_product(p, a, b):
+    if bad3(p):
+        return refused(3)
+    if a >= p or b >= p:
+        return refused(9)
+    return ('ok', (a * b) % p)
+
+
+def field_inverse(p, a):
+    if bad3(p):
+        return refused(3)
+    if a >= p:
+        return refused(9)
+    if a == 0:
+        return refused(12)
+    return ('ok', inverse_mod(a, p))
+
+
+# ---------------------------------------------------------------- checks (True: turned down)
+
+def bad3(p):
+    return not (2 <= p <= MAX_P and is_prime(p))
+
+
+def bad4(starts):
+    return len(starts) == 0 or not (1 <= len(starts) - 1 <= MAX_N)
+
+
+def bad5(starts, columns, values):
+    if starts[0] != 0:
+        return True
+    for i in range(len(starts) - 1):
+        if starts[i] > starts[i + 1]:
+            return True
+    if starts[len(starts) - 1] != len(columns):
+        return True
+    if len(columns) != len(values):
+        return True
+    return len(columns) > MAX_ENTRIES
+
+
+def bad6(starts, columns):
+    n = len(starts) - 1
+    for i in range(n):
+        for k in range(starts[i], starts[i + 1]):
+            if columns[k] >= n:
+                return True
+            if k > starts[i] and columns[k] <= columns[k - 1]:
+                return True
+    return False
+
+
+def bad7(p, values):
+    for c in values:
+        if c == 0 or c >= p:
+            return True
+    return False
+
+
+def bad9(p, elements):
+    for c in elements:
+        if c >= p:
+            return True
+    return False
+
+
+def bad10(n, words):
+    return len(words) % n != 0 or len(words) > MAX_VECTORS * n
+
+
+def matrix_refusal(p, starts, columns, values):
+    """The first of 3, 4, 5, 6, 7 that turns p and the matrix down, or 0."""
+    if bad3(p):
+        return 3
+    if bad4(starts):
+        return 4
+    if bad5(starts, columns, values):
+        return 5
+    if bad6(starts, columns):
+        return 6
+    if bad7(p, values):
+        return 7
+    return 0
+
+
+def matrix_check(p, starts, columns, values):
+    number = matrix_refusal(p, starts, columns, values)
+    if number:
+        return refused(number)
+    return ('ok', len(starts) - 1)
+
+
+# ---------------------------------------------------------------- products (meanings, on accepted input)
+
+def times(p, starts, columns, values, v):
+    """Av"""
+    n = len(starts) - 1
+    result = []
+    for i in range(n):
+        total = 0
+        for k in range(starts[i], starts[i + 1]):
+            total += values[k] * v[columns[k]]
+        result.append(total % p)
+    return result
+
+
+def transposed_times(p, starts, columns, values, v):
+    n = len(starts) - 1
+    result = [0] * n
+    for i in range(n):
+        for k in range(starts[i], starts[i + 1]):
+            result[columns[k]] = (result[columns[k]] + values[k] * v[i]) % p
+    return result
+
+
+def polynomial_times(p, starts, columns, values, g, v):
+    """(g(A)v, products made): the sum of g[i] x A^i v, with len(g) - 1 products."""
+    n = len(starts) - 1
+    power = list(v)
+    result = [0] * n
+    made = 0
+    for i in range(len(g)):
+        if i > 0:
+            power = times(p, starts, columns, values, power)
+            made += 1
+        for k in range(n):
+            result[k] = (result[k] + g[i] * power[k]) % p
+    return result, made
+
+
+def polynomial_product(p, f, g):
+    result = [0] * (len(f) + len(g) - 1)
+    for i in range(len(f)):
+        for j in range(len(g)):
+            result[i + j] = (result[i + j] + f[i] * g[j]) % p
+    return result
+
+
+def dot(p, u, v):
+    return sum(a * b for a, b in zip(u, v)) % p
+
+
+# ---------------------------------------------------------------- product calls
+
+def product(p, starts, columns, values, v, out):
+    number = matrix_refusal(p, starts, columns, values)
+    if number:
+        return refused(number)
+    n = len(starts) - 1
+    if len(v) != n:
+        return refused(8)
+    if bad9(p, v):
+        return refused(9)
+    if len(out) != n:
+        return refused(11)
+    return ('ok', times(p, starts, columns, values, v))
+
+
+def transposed_product(p, starts, columns, values, v, out):
+    number = matrix_refusal(p, starts, columns, values)
+    if number:
+        return refused(number)
+    n = len(starts) - 1
+    if len(v) != n:
+        return refused(8)
+    if bad9(p, v):
+        return refused(9)
+    if len(out) != n:
+        return refused(11)
+    return ('ok', transposed_times(p, starts, columns, values, v))
+
+
+def polynomial_apply(p, starts, columns, values, g, v, out, work):
+    number = matrix_refusal(p, starts, columns, values)
+    if number:
+        return refused(number)
+    n = len(starts) - 1
+    if len(v) != n or not (1 <= len(g) <= n + 1):
+        return refused(8)
+    if bad9(p, v) or bad9(p, g):
+        return refused(9)
+    if len(out) != n or len(work) < 2 * n:
+        return refused(11)
+    result, made = polynomial_times(p, starts, columns, values, g, v)
+    return ('ok', result)
+
+
+# ---------------------------------------------------------------- shortest recurrence
+
+def coefficient(q, i):
+    return q[i] if i < len(q) else 0
+
+
+def shortest_recurrence(p, s):
+    """(L, f) by the steps of document 01.  f has L + 1 coefficients, lowest power first."""
+    q = [1]
+    t = [0]
+    L = 0
+    e = 1
+    for r in range(1, len(s) + 1):
+        d = 0
+        for i in range(0, L + 1):
+            d += coefficient(q, i) * s[r - 1 - i]
+        d = d % p
+        zt = [0] + t
+        if d == 0:
+            t = zt
+        else:
+            c = d * inverse_mod(e, p) % p
+            new_q = []
+            for i in range(max(len(q), len(zt))):
+                new_q.append((coefficient(q, i) - c * coefficient(zt, i)) % p)
+            if 2 * L < r:
+                t = q
+                L = r - L
+                e = d
+            else:
+                t = zt
+            q = new_q
+    f = [coefficient(q, L - i) for i in range(L + 1)]
+    return L, f
+
+
+def recurs(p, f, s):
+    """Document 01's definition: monic f of degree L = len(f) - 1 recurs on s."""
+    L = len(f) - 1
+    if f[L] != 1:
+        return False
+    for j in range(0, len(s) - L):
+        if sum(f[i] * s[i + j] for i in range(L + 1)) % p != 0:
+            return False
+    return True
+
+
+def solve_linear(p, rows, right, unknowns):
+    """('none',) or ('one', x) or ('many', x) for rows x = right, by elimination."""
+    m = [list(rows[k]) + [right[k]] for k in range(len(rows))]
+    pivots = []
+    r = 0
+    for c in range(unknowns):
+        k = r
+        while k < len(m) and m[k][c] % p == 0:
+            k += 1
+        if k == len(m):
+            continue
+        m[r], m[k] = m[k], m[r]
+        inv = inverse_mod(m[r][c] % p, p)
+        m[r] = [x * inv % p for x in m[r]]
+        for k in range(len(m)):
+            if k != r and m[k][c] % p != 0:
+                h = m[k][c]
+                m[k] = [(m[k][j] - h * m[r][j]) % p for j in range(unknowns + 1)]
+        pivots.append(c)
+        r += 1
+    for k in range(r, len(m)):
+        if m[k][unknowns] % p != 0:
+            return ('none',)
+    x = [0] * unknowns
+    for k in range(len(pivots)):
+        x[pivots[k]] = m[k][unknowns]
+    return ('one' if len(pivots) == unknowns else 'many', x)
+
+
+def least_recurrence_by_elimination(p, s):
+    """(least L, 'one' or 'many', an f) straight from the definition: for L = 0, 1, .. solve for f[0..L-1]."""
+    N = len(s)
+    for L in range(0, N + 1):
+        rows = [[s[i + j] for i in range(L)] for j in range(N - L)]
+        right = [(-s[L + j]) % p for j in range(N - L)]
+        found = solve_linear(p, rows, right, L)
+        if found[0] != 'none':
+            return L, found[0], found[1] + [1]
+
+
+def recurrence(p, s, polynomial, work):
+    if bad3(p):
+        return refused(3)
+    if len(s) > MAX_LIST:
+        return refused(8)
+    if bad9(p, s):
+        return refused(9)
+    if len(polynomial) != len(s) + 1 or len(work) < 4 * len(s) + 8:
+        return refused(11)
+    L, f = shortest_recurrence(p, s)
+    return ('ok', L, f + [0] * (len(s) - L))
+
+
+# ---------------------------------------------------------------- solver
+
+def solver_steps(p, starts, columns, values, b, words):
+    """The steps of document 01 on accepted input; products with A are counted as they are made.
+
+    Returns kind, F, vector, applications, and a list of passes (u, left, terms, f, r after)."""
+    n = len(starts) - 1
+    R = len(words) // n
+    r = list(b)
+    F = [1]
+    D = 0
+    applications = 0
+    passes = []
+    while any(r):
+        j = len(passes)
+        if j < R:
+            u = [w % p for w in words[j * n:(j + 1) * n]]
+        else:
+            u = [1 if k == j - R else 0 for k in range(n)]
+        left = n - D
+        terms = []
+        power = list(r)
+        for k in range(2 * left):
+            if k > 0:
+                power = times(p, starts, columns, values, power)
+                applications += 1
+            terms.append(dot(p, u, power))
+        t, f = shortest_recurrence(p, terms)
+        r, made = polynomial_times(p, starts, columns, values, f, r)
+        applications += made
+        F = polynomial_product(p, F, f)
+        D = D + t
+        passes.append((u, left, terms, f, r))
+    G = F[1:]
+    if D == 0:
+        return 'solved', F, [0] * n, applications, passes
+    vector, made = polynomial_times(p, starts, columns, values, G, b)
+    applications += made
+    if F[0] != 0:
+        c = (-inverse_mod(F[0], p)) % p
+        return 'solved', F, [c * x % p for x in vector], applications, passes
+    return 'singular', F, vector, applications, passes
+
+
+def solve(p, starts, columns, values, b, words, vector, polynomial, work):
+    """('ok', kind, D, passes, applications, vector slice, polynomial slice) or a refusal."""
+    number = matrix_refusal(p, starts, columns, values)
+    if number:
+        return refused(number)
+    n = len(starts) - 1
+    if len(b) != n:
+        return refused(8)
+    if bad9(p, b):
+        return refused(9)
+    if bad10(n, words):
+        return refused(10)
+    if len(vector) != n or len(polynomial) != n + 1 or len(work) < 16 * n + 16:
+        return refused(11)
+    kind, F, x, applications, passes = solver_steps(p, starts, columns, values, b, words)
+    D = len(F) - 1
+    return ('ok', kind, D, len(passes), applications, x, F + [0] * (n - D))
+
+
+# ---------------------------------------------------------------- checks of offered answers
+
+def check_solution(p, starts, columns, values, x, b):
+    number = matrix_refusal(p, starts, columns, values)
+    if number:
+        return refused(number)
+    n = len(starts) - 1
+    if len(x) != n or len(b) != n:
+        return refused(8)
+    if bad9(p, x) or bad9(p, b):
+        return refused(9)
+    return ('ok', times(p, starts, columns, values, x) == list(b))
+
+
+def check_kernel(p, starts, columns, values, w):
+    number = matrix_refusal(p, starts, columns, values)
+    if number:
+        return refused(number)
+    n = len(starts) - 1
+    if len(w) != n:
+        return refused(8)
+    if bad9(p, w):
+        return refused(9)
+    return ('ok', any(w) and not any(times(p, starts, columns, values, w)))
+
+
+# ---------------------------------------------------------------- system text
+
+def numeral(field_bytes):
+    """The number, or None if it is no numeral."""
+    if len(field_bytes) == 0 or len(field_bytes) > 10:
+        return None
+    for c in field_bytes:
+        if not (48 <= c <= 57):
+            return None
+    if len(field_bytes) > 1 and field_bytes[0] == 48:
+        return None
+    number = int(field_bytes.decode('ascii'))
+    return number if number <= MAX_NUMERAL else None
+
+
+def parse_line(line, word, count):
+    """The `count` numbers of a line `word`, number, .., number; None if the line has another form."""
+    fields = line.split(b'\t')
+    if len(fields) != count + 1 or fields[0] != word:
+        return None
+    numbers = [numeral(x) for x in fields[1:]]
+    if None in numbers:
+        return None
+    return numbers
+
+
+def parse_text(text):
+    """(p, n, count, a lines, b lines), or None where check 2 turns the text down."""
+    text = bytes(text)
+    if len(text) > MAX_TEXT:
+        return None
+    if not text.endswith(b'\n'):
+        return None
+    lines = text[:-1].split(b'\n')
+    header = parse_line(lines[0], b'system', 3)
+    if header is None:
+        return None
+    k = 1
+    a_lines = []
+    while k < len(lines) and lines[k].startswith(b'a\t'):
+        numbers = parse_line(lines[k], b'a', 3)
+        if numbers is None:
+            return None
+        a_lines.append(numbers)
+        k += 1
+    b_lines = []
+    while k < len(lines) and lines[k].startswith(b'b\t'):
+        numbers = parse_line(lines[k], b'b', 2)
+        if numbers is None:
+            return None
+        b_lines.append(numbers)
+        k += 1
+    if k != len(lines) - 1 or lines[k] != b'end':
+        return None
+    return header[0], header[1], header[2], a_lines, b_lines
+
+
+def parse_system(text):
+    """Checks 2 to 7 on a text: ('ok', p, n, starts, columns, values, b), all of exact length, or a refusal."""
+    parsed = parse_text(text)
+    if parsed is None:
+        return refused(2)
+    p, n, count, a_lines, b_lines = parsed
+    if bad3(p):
+        return refused(3)
+    if not (1 <= n <= MAX_N):
+        return refused(4)
+    if count != len(a_lines) or len(a_lines) > MAX_ENTRIES:
+        return refused(5)
+    before = (0, 0)
+    for row, column, value in a_lines:
+        if not (1 <= row <= n and 1 <= column <= n) or (row, column) <= before:
+            return refused(6)
+        before = (row, column)
+    before = 0
+    for row, value in b_lines:
+        if not (1 <= row <= n) or row <= before:
+            return refused(6)
+        before = row
+    for row, column, value in a_lines:
+        if value == 0 or value >= p:
+            return refused(7)
+    for row, value in b_lines:
+        if value == 0 or value >= p:
+            return refused(7)
+    starts = [0] * (n + 1)
+    for row, column, value in a_lines:
+        starts[row] += 1
+    for i in range(n):
+        starts[i + 1] += starts[i]
+    columns = [column - 1 for row, column, value in a_lines]
+    values = [value for row, column, value in a_lines]
+    b = [0] * n
+    for row, value in b_lines:
+        b[row - 1] = value
+    return ('ok', p, n, starts, columns, values, b)
+
+
+def read_system(text, starts, columns, values, b):
+    """('ok', p, n, entries, starts, columns, values, b), slices with their final contents, or a refusal."""
+    system = parse_system(text)
+    if system[0] == 'refused':
+        return system
+    p, n, starts1, columns1, values1, b1 = system[1:]
+    entries = len(values1)
+    if len(starts) < n + 1 or len(columns) < entries or len(values) < entries or len(b) < n:
+        return refused(11)
+    return ('ok', p, n, entries,
+            starts1 + list(starts[n + 1:]),
+            columns1 + list(columns[entries:]),
+            values1 + list(values[entries:]),
+            b1 + list(b[n:]))
+
+
+def line(*fields):
+    return '\t'.join(str(x) for x in fields).encode('ascii') + b'\n'
+
+
+def system_text(p, starts, columns, values, b):
+    n = len(starts) - 1
+    text = line('system', p, n, len(values))
+    for i in range(n):
+        for k in range(starts[i], starts[i + 1]):
+            text += line('a', i + 1, columns[k] + 1, values[k])
+    for i in range(n):
+        if b[i] != 0:
+            text += line('b', i + 1, b[i])
+    return text + line('end')
+
+
+def write_system(p, starts, columns, values, b, out):
+    """('ok', length, out with its final contents) or a refusal."""
+    number = matrix_refusal(p, starts, columns, values)
+    if number:
+        return refused(number)
+    n = len(starts) - 1
+    if len(b) != n:
+        return refused(8)
+    if bad9(p, b):
+        return refused(9)
+    text = system_text(p, starts, columns, values, b)
+    if len(out) < len(text):
+        return refused(11)
+    return ('ok', len(text), text + bytes(out[len(text):]))
+
+
+# ---------------------------------------------------------------- text call and program
+
+def text_call(text, answer):
+    """('ok', length, answer slice with its final contents) or a refusal."""
+    if len(text) > CALL_TEXT:
+        return refused(1)
+    system = parse_system(text)
+    if system[0] == 'refused':
+        return system
+    p, n, starts, columns, values, b = system[1:]
+    if n > CALL_N or len(values) > CALL_ENTRIES or len(answer) < CALL_ANSWER:
+        return refused(11)
+    kind, F, vector, applications, passes = solver_steps(p, starts, columns, values, b, [])
+    D = len(F) - 1
+    result = line('answer', kind, D, len(passes), applications)
+    for i in range(D + 1):
+        result += line('f', i, F[i])
+    for i in range(n):
+        result += line('x' if kind == 'solved' else 'w', i + 1, vector[i])
+    result += line('end')
+    return ('ok', len(result), result + bytes(answer[len(result):]))
+
+
+def text_call_number(text, answer):
+    """The one number that the exported call returns."""
+    return text_call(text, answer)[1]
+
+
+def program(standard_input):
+    """The bytes printed."""
+    result = text_call(standard_input, bytes(CALL_ANSWER))
+    if result[0] == 'refused':
+        return line('refused', result[1])
+    return result[2][:result[1]]
+
+
+if __name__ == '__main__':
+    sys.stdout.buffer.write(program(sys.stdin.buffer.read()))

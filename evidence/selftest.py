@@ -1,0 +1,586 @@
+"""Self-test of reference.py.  Run: python3 selftest.py [rounds]"""
+
+import itertools
+import random
+import re
+import sys
+
+import reference as ref
+
+PRIMES = (2, 3, 5, 7, 11, 101, 65537, 2147483647)
+rng = random.Random(20240611)
+counts = {}
+
+
+def expect(condition, *what):
+    if not condition:
+        raise AssertionError(' '.join(str(x) for x in what))
+
+
+def count(name):
+    counts[name] = counts.get(name, 0) + 1
+
+
+# ---------------------------------------------------------------- dense linear algebra, written apart from reference.py
+
+def d_inv(a, p):
+    """extended Euclid"""
+    r0, r1, s0, s1 = p, a % p, 0, 1
+    while r1:
+        q = r0 // r1
+        r0, r1, s0, s1 = r1, r0 - q * r1, s1, s0 - q * s1
+    assert r0 == 1
+    return s0 % p
+
+
+def d_mul(M, v, p):
+    return [sum(M[i][j] * v[j] for j in range(len(v))) % p for i in range(len(M))]
+
+
+def d_rank(rows, p):
+    rows = [[x % p for x in r] for r in rows]
+    rank = 0
+    width = len(rows[0]) if rows else 0
+    for c in range(width):
+        piv = next((k for k in range(rank, len(rows)) if rows[k][c]), None)
+        if piv is None:
+            continue
+        rows[rank], rows[piv] = rows[piv], rows[rank]
+        inv = d_inv(rows[rank][c], p)
+        for k in range(rank + 1, len(rows)):
+            h = rows[k][c] * inv % p
+            if h:
+                rows[k] = [(x - h * y) % p for x, y in zip(rows[k], rows[rank])]
+        rank += 1
+    return rank
+
+
+def d_in_span(v, vectors, p):
+    return d_rank(vectors + [v], p) == d_rank(vectors, p) if vectors else not any(v)
+
+
+def d_apply_poly(M, g, v, p):
+    """Horner"""
+    result = [0] * len(v)
+    for c in reversed(g):
+        result = [(x + c * y) % p for x, y in zip(d_mul(M, result, p), v)]
+    return result
+
+
+def dense_to_sparse(M):
+    starts, columns, values = [0], [], []
+    for row in M:
+        for j, x in enumerate(row):
+            if x:
+                columns.append(j)
+                values.append(x)
+        starts.append(len(columns))
+    return starts, columns, values
+
+
+def random_dense(p, n):
+    style = rng.randrange(6)
+    if style == 0:       # sparse
+        return [[rng.randrange(p) if rng.random() < 0.3 else 0 for _ in range(n)] for _ in range(n)]
+    if style == 1:       # dense
+        return [[rng.randrange(p) for _ in range(n)] for _ in range(n)]
+    if style == 2:       # diagonal with repeats
+        return [[rng.randrange(min(p, 4)) if i == j else 0 for j in range(n)] for i in range(n)]
+    if style == 3:       # Jordan-like
+        e = rng.randrange(min(p, 3))
+        return [[e if i == j else (1 if j == i + 1 and rng.random() < 0.7 else 0) for j in range(n)] for i in range(n)]
+    if style == 4:       # nilpotent, strictly upper
+        return [[rng.randrange(p) if j > i else 0 for j in range(n)] for i in range(n)]
+    k = rng.randrange(1, n + 1)  # low rank
+    B = [[rng.randrange(p) for _ in range(k)] for _ in range(n)]
+    C = [[rng.randrange(p) for _ in range(n)] for _ in range(k)]
+    return [[sum(B[i][t] * C[t][j] for t in range(k)) % p for j in range(n)] for i in range(n)]
+
+
+def random_words(p, n):
+    R = rng.choice((0, 0, 1, 1, 2, 3, 5, 64))
+    style = rng.randrange(4)
+    if style == 0:
+        return [0] * (R * n)
+    if style == 1:
+        return [rng.randrange(3) for _ in range(R * n)]
+    if style == 2:
+        return [rng.randrange(2 ** 32) for _ in range(R * n)]
+    return [rng.choice((0, 0, 0, 1, p, p - 1, 2 ** 32 - 1)) for _ in range(R * n)]
+
+
+def run(p, n, S, b, words):
+    """solve, with dirty slices"""
+    dirty = lambda k: [rng.randrange(2 ** 32) for _ in range(k)]
+    return ref.solve(p, *S, b, words, dirty(n), dirty(n + 1), dirty(16 * n + 16 + rng.randrange(3)))
+
+
+# ---------------------------------------------------------------- document 01, section Cases
+
+def document_cases():
+    text = b'system\t7\t2\t3\na\t1\t1\t2\na\t1\t2\t1\na\t2\t2\t3\nb\t1\t1\nb\t2\t1\nend\n'
+    want = b'answer\tsolved\t1\t1\t4\nf\t0\t4\nf\t1\t1\nx\t1\t5\nx\t2\t5\nend\n'
+    old = bytes(range(256)) * 18
+    expect(len(old) == 4608)
+    expect(ref.text_call(text, old) == ('ok', len(want), want + old[len(want):]))
+    expect(ref.program(text) == want)
+
+    diag = ([0, 1, 2], [0, 1], [2, 3])
+    U = ([0, 1, 1], [1], [1])
+    expect(run(7, 2, diag, [1, 1], []) == ('ok', 'solved', 2, 2, 7, [4, 5], [6, 2, 1]))
+    expect(run(7, 2, diag, [1, 1], [1, 1]) == ('ok', 'solved', 2, 1, 6, [4, 5], [6, 2, 1]))
+    expect(run(7, 2, diag, [1, 1], [8, 8]) == ('ok', 'solved', 2, 1, 6, [4, 5], [6, 2, 1]))
+    expect(run(7, 2, diag, [1, 1], [0, 0]) == ('ok', 'solved', 2, 3, 10, [4, 5], [6, 2, 1]))
+    got = run(7, 2, diag, [0, 1], [])
+    expect(got[1] == 'solved' and got[3] == 2 and got[4] == 7 and got[5] == [0, 5])
+    got = run(7, 2, U, [0, 1], [])
+    expect(got[1] == 'singular' and got[6] == [0, 0, 1] and got[5] == [1, 0] and got[4] == 6)
+    got = run(7, 2, U, [1, 0], [])
+    expect(got[1] == 'singular' and got[6] == [0, 1, 0] and got[5] == [1, 0] and got[4] == 4)
+    expect(ref.check_solution(7, *U, [0, 1], [1, 0]) == ('ok', True))
+    expect(run(7, 2, diag, [0, 0], []) == ('ok', 'solved', 0, 0, 0, [0, 0], [1, 0, 0]))
+    expect(run(7, 2, U, [0, 0], [5, 5]) == ('ok', 'solved', 0, 0, 0, [0, 0], [1, 0, 0]))
+    got = run(2, 1, ([0, 1], [0], [1]), [1], [])
+    expect(got[1] == 'solved' and got[5] == [1] and got[4] == 2)
+    expect(ref.recurrence(7, [1, 2, 4, 1], [9] * 5, [0] * 24) == ('ok', 1, [5, 1, 0, 0, 0]))
+    expect(ref.recurrence(7, [0, 1], [9] * 3, [0] * 16) == ('ok', 2, [0, 0, 1]))
+    expect(ref.field(2147483647) == ('ok', 2147483647))
+    expect(ref.field(2147483646) == ('refused', 3))
+    expect(ref.field(1) == ('refused', 3))
+    expect(run(7, 2, diag, [1, 1], [3] * 128)[0] == 'ok')
+    expect(run(7, 2, diag, [1, 1], [3] * 127) == ('refused', 10))
+    expect(run(7, 2, diag, [1, 1], [3] * 130) == ('refused', 10))
+    expect(ref.text_call(b'system\t7\t128\t0\nend\n', old)[0] == 'ok')
+    expect(ref.text_call(b'system\t7\t129\t0\nend\n', old) == ('refused', 11))
+
+
+# ---------------------------------------------------------------- solver against dense elimination
+
+def check_system(p, n, M, b, words_list):
+    S = dense_to_sparse(M)
+    krylov = [b]
+    for _ in range(n):
+        krylov.append(d_mul(M, krylov[-1], p))
+    results = []
+    for words in words_list:
+        R = len(words) // n
+        got = run(p, n, S, b, words)
+        expect(got[0] == 'ok', 'refused', got, p, M, b)
+        _, kind, D, passes, applications, vector, poly = got
+        where = (p, M, b, words, got)
+        f = poly[:D + 1]
+        expect(len(poly) == n + 1 and len(vector) == n and not any(poly[D + 1:]), 'lengths', where)
+        expect(f[D] == 1 and all(0 <= c < p for c in poly + vector), 'monic', where)
+        # minimal polynomial of b under A: D independent Krylov vectors, and f kills b
+        expect(d_rank(krylov[:D], p) == D, 'least degree', where)
+        expect(not any(d_apply_poly(M, f, b, p)), 'f(A)b', where)
+        expect((kind == 'solved') == d_in_span(b, krylov[1:], p), 'kind', where)
+        if kind == 'solved':
+            expect(d_mul(M, vector, p) == b, 'Ax = b', where)
+            expect(ref.check_solution(p, *S, vector, b) == ('ok', True), where)
+        else:
+            expect(kind == 'singular' and any(vector) and not any(d_mul(M, vector, p)), 'Aw = 0', where)
+            expect(d_rank(M, p) < n, 'singular matrix', where)
+            expect(ref.check_kernel(p, *S, vector) == ('ok', True), where)
+        expect(passes <= R + n, 'passes', where)
+        # the passes, one by one
+        trace = ref.solver_steps(p, *S, b, words)[4]
+        expect(len(trace) == passes, where)
+        r, before, total = b, 0, 0
+        for k, (u, left, terms, g, after) in enumerate(trace):
+            expect(any(r), 'pass on zero r', where)
+            expect(left == n - before and len(terms) == 2 * left and left >= 1, 'left', where)
+            want_u = [w % p for w in words[k * n:k * n + n]] if k < R else [int(i == k - R) for i in range(n)]
+            expect(u == want_u, 'u', where)
+            long = []
+            v = r
+            for _ in range(2 * n + 4):
+                long.append(sum(x * y for x, y in zip(u, v)) % p)
+                v = d_mul(M, v, p)
+            expect(long[:2 * left] == terms, 'terms', where)
+            # g is the least recurrence of the long sequence too
+            L, number, h = ref.least_recurrence_by_elimination(p, long)
+            expect((L, h) == (len(g) - 1, g) and number == 'one', 'f of pass', where)
+            r = d_apply_poly(M, g, r, p)
+            expect(r == after, 'r after', where)
+            total += 2 * left - 1
+            before += L
+            if L == 0:
+                count('passes of degree 0')
+            if k > 0 and L > 0:
+                count('true restarts, p = %d' % p)
+        expect(not any(r) and before == D, 'end', where)
+        expect(applications == (total + 2 * D - 1 if any(b) else 0), 'applications', where)
+        results.append((kind, D, vector, poly))
+        count(kind)
+    expect(all(x == results[0] for x in results), 'words change the answer', p, M, b, results)
+    # text round trip
+    length_out = ref.write_system(p, *S, b, b'\xee' * 5000)
+    expect(length_out[0] == 'ok')
+    text = length_out[2][:length_out[1]]
+    expect(length_out[2] == text + b'\xee' * (5000 - len(text)))
+    expect(ref.write_system(p, *S, b, b'\xee' * len(text)) == ('ok', len(text), text))
+    expect(ref.write_system(p, *S, b, b'\xee' * (len(text) - 1)) == ('refused', 11))
+    e = len(S[1])
+    back = ref.read_system(text, [77] * (n + 3), [78] * (e + 1), [79] * e, [80] * (n + 2))
+    expect(back == ('ok', p, n, e, S[0] + [77] * 2, S[1] + [78], S[2], list(b) + [80] * 2), 'read', back)
+    # text call = solver without words
+    got = run(p, n, S, b, [])
+    answer = ref.text_call(text, b'\x01' * 4700)
+    expect(answer[0] == 'ok' and answer[1] > 18)
+    lines = answer[2][:answer[1]].decode().split('\n')
+    expect(answer[2][answer[1]:] == b'\x01' * (4700 - answer[1]))
+    want = ['answer\t%s\t%d\t%d\t%d' % got[1:5]] + ['f\t%d\t%d' % (i, got[6][i]) for i in range(got[2] + 1)]
+    want += ['%s\t%d\t%d' % ('x' if got[1] == 'solved' else 'w', i + 1, got[5][i]) for i in range(n)] + ['end', '']
+    expect(lines == want, lines, want)
+    expect(ref.program(text) == answer[2][:answer[1]])
+
+
+def solver_tests(rounds):
+    # all systems with n <= 2, p <= 3 (n = 1: p <= 7; n = 3: p = 2), with all single word vectors
+    for p, n in ((2, 1), (3, 1), (5, 1), (7, 1), (2, 2), (3, 2), (2, 3)):
+        vectors = [list(v) for v in itertools.product(range(p), repeat=n)]
+        for cells in itertools.product(range(p), repeat=n * n):
+            M = [list(cells[i * n:(i + 1) * n]) for i in range(n)]
+            for b in vectors:
+                check_system(p, n, M, b, [[]] + vectors)
+                count('exhaustive systems')
+    for _ in range(rounds):
+        p = rng.choice(PRIMES)
+        n = rng.randrange(1, 9)
+        M = random_dense(p, n)
+        style = rng.randrange(4)
+        if style == 0:
+            b = [rng.randrange(p) if rng.random() < 0.4 else 0 for _ in range(n)]
+        elif style == 1:
+            b = d_mul(M, [rng.randrange(p) for _ in range(n)], p)
+        else:
+            b = [rng.randrange(p) for _ in range(n)]
+        check_system(p, n, M, b, [[]] + [random_words(p, n) for _ in range(3)])
+        count('random systems')
+
+
+# ---------------------------------------------------------------- products, recurrence, field
+
+def product_tests(rounds):
+    for _ in range(rounds):
+        p = rng.choice(PRIMES)
+        n = rng.randrange(1, 9)
+        M = random_dense(p, n)
+        S = dense_to_sparse(M)
+        v = [rng.randrange(p) for _ in range(n)]
+        expect(ref.product(p, *S, v, [5] * n) == ('ok', d_mul(M, v, p)))
+        T = [[M[j][i] for j in range(n)] for i in range(n)]
+        expect(ref.transposed_product(p, *S, v, [5] * n) == ('ok', d_mul(T, v, p)))
+        g = [rng.randrange(p) for _ in range(rng.randrange(1, n + 2))]
+        expect(ref.polynomial_apply(p, *S, g, v, [5] * n, [6] * (2 * n)) == ('ok', d_apply_poly(M, g, v, p)))
+        y = d_mul(M, v, p)
+        expect(ref.check_solution(p, *S, v, y) == ('ok', True))
+        y2 = list(y)
+        y2[rng.randrange(n)] = rng.randrange(p)
+        expect(ref.check_solution(p, *S, v, y2) == ('ok', y2 == y))
+        expect(ref.check_kernel(p, *S, v) == ('ok', any(v) and not any(y)))
+        expect(ref.check_kernel(p, *S, [0] * n) == ('ok', False))
+
+
+def recurrence_one(p, s):
+    L, f = ref.shortest_recurrence(p, s)
+    expect(len(f) == L + 1 and f[L] == 1 and ref.recurs(p, f, s), 'recurs', p, s, f)
+    least, number, h = ref.least_recurrence_by_elimination(p, s)
+    expect(L == least, 'least', p, s, L, least)
+    if 2 * L <= len(s):
+        expect(number == 'one' and f == h, 'only one', p, s, f, h)
+    else:
+        count('recurrences with 2L > N')
+    expect(ref.recurrence(p, s, [7] * (len(s) + 1), [8] * (4 * len(s) + 8)) == ('ok', L, f + [0] * (len(s) - L)))
+    count('recurrences')
+
+
+def recurrence_tests(rounds):
+    for N in range(0, 11):
+        for s in itertools.product(range(2), repeat=N):
+            recurrence_one(2, list(s))
+    for N in range(0, 7):
+        for s in itertools.product(range(3), repeat=N):
+            recurrence_one(3, list(s))
+    for _ in range(rounds):
+        p = rng.choice(PRIMES)
+        N = rng.randrange(0, 20)
+        style = rng.randrange(3)
+        if style == 0:
+            s = [rng.randrange(p) for _ in range(N)]
+        elif style == 1:
+            s = [rng.randrange(p) if rng.random() < 0.2 else 0 for _ in range(N)]
+        else:
+            k = rng.randrange(1, 7)
+            c = [rng.randrange(p) for _ in range(k)]
+            s = [rng.randrange(p) for _ in range(k)]
+            while len(s) < N:
+                s.append(sum(c[i] * s[len(s) - k + i] for i in range(k)) % p)
+            s = s[:N]
+        recurrence_one(p, s)
+
+
+def field_tests():
+    sieve = [True] * 3000
+    sieve[0] = sieve[1] = False
+    for i in range(2, 3000):
+        if sieve[i]:
+            for j in range(2 * i, 3000, i):
+                sieve[j] = False
+    for m in range(3000):
+        expect(ref.is_prime(m) == sieve[m])
+        expect(ref.field(m) == (('ok', m) if sieve[m] else ('refused', 3)))
+    for m in (2147483646, 2147483648, 2147483659, 4294967291, 4294967295, 2147395600, 46337 * 46337, 1373653, 3215031751):
+        expect(ref.field(m) == ('refused', 3), m)
+    for p in (2, 3, 5, 7, 11, 13):
+        for a in range(p + 3):
+            for b in range(p + 3):
+                ok = a < p and b < p
+                expect(ref.field_sum(p, a, b) == (('ok', (a + b) % p) if ok else ('refused', 9)))
+                expect(ref.field_difference(p, a, b) == (('ok', (a + p - b) % p) if ok else ('refused', 9)))
+                expect(ref.field_product(p, a, b) == (('ok', a * b % p) if ok else ('refused', 9)))
+            got = ref.field_inverse(p, a)
+            expect(got == ('refused', 9) if a >= p else got == ('refused', 12) if a == 0 else got[1] * a % p == 1)
+    expect(ref.field_sum(9, 100, 100) == ('refused', 3))
+    expect(ref.field_inverse(4, 0) == ('refused', 3))
+    expect(ref.field_inverse(2147483647, 2147483646) == ('ok', 2147483646))
+
+
+# ---------------------------------------------------------------- refusals against an independent list of causes
+
+def matrix_causes(p, starts, columns, values):
+    """All numbers 3..7 that apply, looked at separately; the call must give the least."""
+    causes = set()
+    prime = 2 <= p <= 2147483647 and all(p % d for d in range(2, min(p - 1, int(p ** 0.5) + 1) + 1) if d < p)
+    if not prime:
+        causes.add(3)
+    n = len(starts) - 1
+    if n < 1 or n > 4096:
+        causes.add(4)
+    m = len(columns)
+    if len(starts) and (starts[0] != 0 or sorted(starts) != list(starts) or starts[-1] != m) or len(values) != m or m > 65536:
+        causes.add(5)
+    if not causes & {4, 5}:
+        rows = [columns[starts[i]:starts[i + 1]] for i in range(n)]
+        if any(c >= n for c in columns) or any(sorted(set(r)) != list(r) for r in rows):
+            causes.add(6)
+    if any(v < 1 or v > p - 1 for v in values):
+        causes.add(7)
+    return causes, n
+
+
+def mutate(values, p):
+    values = list(values)
+    style = rng.randrange(5)
+    if style == 0 and values:
+        values[rng.randrange(len(values))] = rng.choice((0, 1, p, p - 1 if p else 0, 2 ** 32 - 1, rng.randrange(2 ** 32), rng.randrange(4)))
+    elif style == 1 and values:
+        del values[rng.randrange(len(values))]
+    elif style == 2:
+        values.insert(rng.randrange(len(values) + 1), rng.randrange(4))
+    elif style == 3:
+        values = values[::-1]
+    else:
+        values = []
+    return values
+
+
+def refusal_tests(rounds):
+    for _ in range(rounds):
+        p = rng.choice((2, 3, 5, 7, 101, 2147483647))
+        n = rng.randrange(1, 5)
+        starts, columns, values = dense_to_sparse(random_dense(p, n))
+        v = [rng.randrange(p) for _ in range(n)]
+        b = [rng.randrange(p) for _ in range(n)]
+        g = [rng.randrange(p) for _ in range(rng.randrange(1, n + 2))]
+        words = [rng.randrange(2 ** 32) for _ in range(n * rng.choice((0, 1, 2, 64)))]
+        slices = {'starts': starts, 'columns': columns, 'values': values, 'v': v, 'b': b, 'g': g, 'words': words,
+                  'out': [9] * n, 'poly': [9] * (n + 1), 'work': [9] * (16 * n + 16), 'gwork': [9] * (2 * n)}
+        for _ in range(rng.choice((0, 1, 1, 2, 3))):
+            if rng.random() < 0.15:
+                p = rng.choice((0, 1, 4, 9, 91, 2147483646, 2147483648, 4294967291, 4294967295))
+            name = rng.choice(list(slices))
+            slices[name] = mutate(slices[name], p)
+        starts, columns, values, v, b, g, words = (slices[k] for k in ('starts', 'columns', 'values', 'v', 'b', 'g', 'words'))
+        causes, m = matrix_causes(p, starts, columns, values)
+        A = (p, starts, columns, values)
+        long_v = {8} if len(v) != m else set()
+        long_b = {8} if len(b) != m else set()
+        big = lambda x: {9} if any(c >= p for c in x) else set()
+        w10 = {10} if m < 1 or len(words) % m or len(words) // m > 64 else set()
+        o11 = {11} if len(slices['out']) != m else set()
+
+        def same(got, all_causes, name):
+            want = min(all_causes) if all_causes else None
+            expect((got[1] if got[0] == 'refused' else None) == want, name, got, all_causes, A, slices)
+            count('refusal ' + str(want) if want else 'accepted')
+
+        same(ref.matrix_check(*A), causes, 'matrix_check')
+        same(ref.product(*A, v, slices['out']), causes | long_v | big(v) | o11, 'product')
+        same(ref.transposed_product(*A, v, slices['out']), causes | long_v | big(v) | o11, 'transposed')
+        same(ref.polynomial_apply(*A, g, v, slices['out'], slices['gwork']),
+             causes | long_v | ({8} if not 1 <= len(g) <= m + 1 else set()) | big(v) | big(g) | o11 |
+             ({11} if len(slices['gwork']) < 2 * m else set()), 'polynomial_apply')
+        same(ref.solve(*A, b, words, slices['out'], slices['poly'], slices['work']),
+             causes | long_b | big(b) | w10 | o11 | ({11} if len(slices['poly']) != m + 1 else set()) |
+             ({11} if len(slices['work']) < 16 * m + 16 else set()), 'solve')
+        same(ref.check_solution(*A, v, b), causes | long_v | long_b | big(v) | big(b), 'check_solution')
+        same(ref.check_kernel(*A, v), causes | long_v | big(v), 'check_kernel')
+        got = ref.write_system(*A, b, bytes(2000))
+        same(got, causes | long_b | big(b), 'write')
+        if got[0] == 'ok':
+            expect(ref.write_system(*A, b, bytes(got[1])) == ('ok', got[1], got[2][:got[1]]))
+            same(ref.write_system(*A, b, bytes(got[1] - 1)), {11}, 'write short')
+        s = mutate(b, p)
+        bp = {3} if 3 in causes else set()
+        poly = [1] * (len(s) + rng.choice((1, 1, 1, 0, 2)))
+        work = [1] * (4 * len(s) + rng.choice((8, 8, 9, 7)))
+        same(ref.recurrence(p, s, poly, work), bp | big(s) | ({11} if len(poly) != len(s) + 1 or len(work) < 4 * len(s) + 8 else set()),
+             'recurrence')
+    expect(ref.recurrence(7, [0] * 8193, [0] * 8194, [0] * 40000) == ('refused', 8))
+    expect(ref.recurrence(7, [7] * 8193, [0], []) == ('refused', 8))
+    expect(ref.recurrence(6, [7] * 8193, [0], []) == ('refused', 3))
+    expect(ref.recurrence(7, [0] * 8192, [0] * 8193, [0] * (4 * 8192 + 8)) == ('ok', 0, [1] + [0] * 8192))
+    expect(ref.matrix_check(7, [0] * 4097, [], []) == ('ok', 4096))
+    expect(ref.matrix_check(7, [0] * 4098, [], []) == ('refused', 4))
+    full = [0] + [256 * (i + 1) for i in range(256)]
+    expect(ref.matrix_check(7, full, list(range(256)) * 256, [1] * 65536) == ('ok', 256))
+    more = full + [65537]
+    expect(ref.matrix_check(7, more, list(range(256)) * 256 + [0], [1] * 65537) == ('refused', 5))
+
+
+# ---------------------------------------------------------------- texts
+
+NUM = rb'(?:0|[1-9][0-9]{0,9})'
+FORM = re.compile(rb'system(?:\t' + NUM + rb'){3}\n(?:a(?:\t' + NUM + rb'){3}\n)*(?:b(?:\t' + NUM + rb'){2}\n)*end\n')
+
+
+def text_causes(text):
+    """All numbers 2..7 that apply; the reader must give the least."""
+    if len(text) > 2097152 or not FORM.fullmatch(text) or any(int(x) > 4294967295 for x in re.findall(rb'[0-9]+', text)):
+        return {2}, None
+    causes = set()
+    rows = [r.split(b'\t') for r in text.split(b'\n')]
+    p, n, m = (int(x) for x in rows[0][1:])
+    a = [tuple(int(x) for x in r[1:]) for r in rows if r[0] == b'a']
+    b = [tuple(int(x) for x in r[1:]) for r in rows if r[0] == b'b']
+    if p < 2 or p > 2147483647 or any(p % d == 0 for d in range(2, int(p ** 0.5) + 1)):
+        causes.add(3)
+    if n < 1 or n > 4096:
+        causes.add(4)
+    if m != len(a) or m > 65536:
+        causes.add(5)
+    places = [x[:2] for x in a]
+    brows = [x[0] for x in b]
+    if sorted(set(places)) != places or sorted(set(brows)) != brows or any(not 1 <= i <= n for x in places for i in x) \
+            or any(not 1 <= i <= n for i in brows):
+        causes.add(6)
+    if any(not 1 <= x[-1] < p for x in a + b):
+        causes.add(7)
+    return causes, (p, n, m, a, b)
+
+
+def text_tests(rounds):
+    pieces = [b'\t', b'\n', b'0', b'1', b'2', b'a', b'b', b'end\n', b'a\t1\t1\t1\n', b'b\t1\t1\n', b'system\t7\t2\t1\n', b' ', b'\r',
+              b'-', b'+', b'9999999999', b'4294967295', b'4294967296', b'00', b'\x00', b'\xff', b'5' * 5000]
+    for _ in range(rounds):
+        p = rng.choice((2, 3, 5, 7, 101))
+        n = rng.randrange(1, 4)
+        S = dense_to_sparse(random_dense(p, n))
+        b = [rng.randrange(p) for _ in range(n)]
+        text = ref.system_text(p, *S, b)
+        for _ in range(rng.choice((0, 1, 1, 1, 2, 2, 3))):
+            style = rng.randrange(6)
+            k = rng.randrange(len(text) + 1)
+            if style == 0:
+                text = text[:k] + rng.choice(pieces) + text[k:]
+            elif style == 1:
+                text = text[:k] + text[k + rng.randrange(1, 4):]
+            elif style in (2, 3):
+                nums = list(re.finditer(rb'[0-9]+', text))
+                if nums:
+                    m = rng.choice(nums)
+                    new = str(rng.choice((0, 1, 2, 3, 4, 5, 6, 7, 8, 129, 4096, 4097, 4294967295, 4294967296))).encode()
+                    text = text[:m.start()] + new + text[m.end():]
+            elif style == 4:
+                rows = text.split(b'\n')
+                i, j = rng.randrange(len(rows)), rng.randrange(len(rows))
+                rows[i], rows[j] = rows[j], rows[i]
+                text = b'\n'.join(rows)
+            else:
+                rows = text.split(b'\n')
+                i = rng.randrange(len(rows))
+                rows.insert(i, rows[i])
+                text = b'\n'.join(rows)
+        causes, parsed = text_causes(text)
+        lengths = [rng.choice((0, 1, 2, 3, 4, 10, 10, 10)) if rng.random() < 0.2 else 200 for _ in range(4)]
+        got = ref.read_system(text, *[[9] * k for k in lengths])
+        call = ref.text_call(text, bytes(rng.choice((4608, 4608, 4607, 0, 5000))) if rng.random() < 0.3 else bytes(4608))
+        if causes:
+            expect(got == ('refused', min(causes)), text, got, causes)
+            expect(call == ('refused', min(causes)), text, call, causes)
+            expect(ref.program(text) == b'refused\t%d\n' % min(causes))
+            count('text refusal %d%s' % (min(causes), ' (of several)' if len(causes) > 1 else ''))
+        else:
+            p, n, m, a, bl = parsed
+            need = [n + 1, m, m, n]
+            if any(x < y for x, y in zip(lengths, need)):
+                expect(got == ('refused', 11))
+                count('text refusal 11')
+            else:
+                expect(got[:4] == ('ok', p, n, m))
+                expect([len(x) for x in got[4:]] == lengths)
+                for x, y in zip(got[4:], need):
+                    expect(set(x[y:]) <= {9})
+                s, c, v, bb = (x[:y] for x, y in zip(got[4:], need))
+                expect(ref.matrix_check(p, s, c, v) == ('ok', n))
+                expect([(i + 1, c[k] + 1, v[k]) for i in range(n) for k in range(s[i], s[i + 1])] == a)
+                expect([(i + 1, bb[i]) for i in range(n) if bb[i]] == bl)
+                expect(ref.write_system(p, s, c, v, bb, bytes(len(text))) == ('ok', len(text), text), 'written again')
+                count('text read')
+                if n <= 128:
+                    expect((call[0] == 'ok') or call == ('refused', 11))
+                else:
+                    expect(call == ('refused', 11))
+    # sizes
+    answer = bytes(4608)
+    short = b'system\t7\t1\t0\nend\n'
+    expect(ref.text_call(short, answer)[1] > 18)
+    expect(ref.text_call(b'', answer) == ('refused', 2) and ref.program(b'') == b'refused\t2\n')
+    expect(ref.text_call(b'x' * 24577, b'') == ('refused', 1) and ref.text_call(b'x' * 24576, b'') == ('refused', 2))
+    expect(ref.text_call(short, bytes(4607)) == ('refused', 11))
+    big = ref.system_text(7, *dense_to_sparse([[1] * 33 for _ in range(33)]), [0] * 33)
+    expect(len(big) <= 24576 and ref.text_call(big, answer) == ('refused', 11))
+    M = [[1] * 32 for _ in range(32)]
+    big = ref.system_text(7, *dense_to_sparse(M), [0] * 32)
+    expect(ref.text_call(big, answer)[0] == 'ok')
+    many = b'system\t7\t300\t65537\n' + b''.join(b'a\t%d\t%d\t1\n' % (i // 300 + 1, i % 300 + 1) for i in range(65537)) + b'end\n'
+    expect(ref.read_system(many, [0] * 301, [0] * 70000, [0] * 70000, [0] * 300) == ('refused', 5))
+    many = b'system\t7\t300\t65536\n' + b''.join(b'a\t%d\t%d\t1\n' % (i // 300 + 1, i % 300 + 1) for i in range(65536)) + b'end\n'
+    expect(ref.read_system(many, [0] * 301, [0] * 65536, [0] * 65536, [0] * 300)[:4] == ('ok', 7, 300, 65536))
+    expect(ref.read_system(b'\n' * 2097153, [], [], [], []) == ('refused', 2))
+    # longest answer
+    p, n = 2147483647, 128
+    M = [[0] * n for _ in range(n)]
+    for i in range(n):
+        M[i][(i + 1) % n] = p - 1 - i
+        M[i][(i + 7) % n] = p - 2 - 3 * i
+    text = ref.system_text(p, *dense_to_sparse(M), [p - 1 - i for i in range(n)])
+    got = ref.text_call(text, answer)
+    expect(got[0] == 'ok' and got[1] <= 4608)
+    counts['longest answer seen'] = got[1]
+
+
+if __name__ == '__main__':
+    rounds = int(sys.argv[1]) if len(sys.argv) > 1 else 1500
+    document_cases()
+    field_tests()
+    product_tests(rounds)
+    recurrence_tests(rounds)
+    refusal_tests(rounds * 4)
+    text_tests(rounds * 8)
+    solver_tests(rounds)
+    for name in sorted(counts):
+        print('%-40s %d' % (name, counts[name]))
+    print('all passed')
