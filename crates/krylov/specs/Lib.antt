@@ -1,0 +1,5 @@
+pub mod Operator
+pub mod Dependence
+pub mod Pass
+pub mod Run
+pub mod Verdict

@@ -1,0 +1,7 @@
+-- the crate's root
+pub mod Numbers
+pub mod Prime
+pub mod Least
+pub mod Inverse
+pub mod Residue
+pub mod Lists
