@@ -5,6 +5,7 @@
 --     by-wheel         neither 2 nor 3 nor a d = 6k ± 1 with d · d ≤ p divides p: then p is prime
 --     WheelFree p d    no 6k ± 1 from 5 to d − 1 divides p; wheel-start, wheel-turn and wheel-end for a loop that tries d and d + 2
 --     isPrime-Prime    the meaning's isPrime, a test of all p − 2 candidates, says Prime p; isPrime-small, isPrime-divided: it says no to 0, 1 and any p with a divisor
+--     isModulus-prime, isModulus-Prime, isModulus-le, isModulus-small, isModulus-large      the meaning's isModulus: prime, and at most 2³¹ − 1
 --     trial p n d      no e from d on with e · e ≤ p divides p, as a test of at most n numbers e
 --     primeTest p      trial division by 2, 3, 4 .. up to the root
 --     primeTest-Prime, primeTest-isPrime      it says Prime p, so what isPrime says
@@ -20,10 +21,10 @@ use native.Mathlib.Bridge.{le-prop}
 use native.Mathlib.Omega.{arith}
 use lib.Dec.{leb, ltb, eqb}
 use Rattle.meaning.specs.List.{all}
-use Rattle.meaning.specs.Field.{isPrime}
-use Rattle.laws.specs.Bool.{and-left, and-right, and-both, same-test}
+use Rattle.meaning.specs.Field.{isPrime, isModulus}
+use Rattle.laws.specs.Bool.{and-left, and-right, and-both, and-false-right, same-test}
 use Rattle.laws.specs.List.{all-at, all-of}
-use borrow.Author.Tests.{leb-true, ltb-true, ltb-false, eqb-false, le-leb, not-true, ne-eqb}
+use borrow.Author.Tests.{leb-true, ltb-true, ltb-false, eqb-false, le-leb, lt-leb, not-true, ne-eqb}
 
 pub record Prime (p : ℕ) : Type 0 where
   pub two-le : 2 ≤ p
@@ -133,6 +134,29 @@ isPrime-small p l = refuted p (λ h. omega (arith, h .two-le))
 
 pub isPrime-divided : (p d : ℕ) → 2 ≤ d → d < p → p % d ≡ 0 → isPrime p ≡ false
 isPrime-divided p d a b z = refuted p (λ h. h .no-divisor d a b z)
+
+pub isModulus-prime : (p : ℕ) → isModulus p ≡ true → isPrime p ≡ true
+unfolding isModulus
+isModulus-prime p e = and-left (isPrime p) (leb p 2147483647) e
+
+pub isModulus-Prime : (p : ℕ) → isModulus p ≡ true → Prime p
+isModulus-Prime p e = isPrime-Prime p .0 (isModulus-prime p e)
+
+pub isModulus-le : (p : ℕ) → isModulus p ≡ true → p ≤ 2147483647
+unfolding isModulus
+isModulus-le p e = leb-true p 2147483647 (and-right (isPrime p) (leb p 2147483647) e)
+
+pub isModulus-small : (p : ℕ) → p ≤ 2147483647 → isModulus p ≡ isPrime p
+unfolding isModulus
+isModulus-small p l = ap (λ b. isPrime p && b) (le-leb p 2147483647 l) ∙ and-true (isPrime p)
+  where
+    and-true : (b : Bool) → b && true ≡ b
+    and-true true = refl
+    and-true false = refl
+
+pub isModulus-large : (p : ℕ) → 2147483647 < p → isModulus p ≡ false
+unfolding isModulus
+isModulus-large p l = and-false-right (isPrime p) (lt-leb p 2147483647 l)
 
 -- the quick test
 

@@ -1,0 +1,6 @@
+-- the crate's root
+pub mod Lists
+pub mod Recurrence
+pub mod Operator
+pub mod Run
+pub mod ThirdCondition

@@ -1,0 +1,334 @@
+-- The meaning's shortest recurrence is the theory's over the residues modulo p, and so it is a shortest recurrence.
+--     step-zero, step-grow, step-stay      the cases of the meaning's step: the discrepancy is 0; it is not and 2·L < r; it is not and r ≤ 2·L
+--     steps-zero, steps-suc    the clauses of the meaning's steps
+--     discrepancy-lt           the discrepancy is below p
+--     StepsReduced p c         every element of q and of t is below p, and e is
+--     reduced-update, steps-reduced      q′ is so; the steps keep it
+--     state c                  q, t, L and e as the theory's: lists by coef, e by mk
+--     mk-discrepancy, coef-update, state-start, state-step      through it the meaning's are the theory's
+--     state-steps              and so are r steps, of any list s
+--     steps-within, steps-head, steps-above      L ≤ r; q begins with 1 and is 0 above L
+--     degree-is, coef-generator      L and f are the theory's
+--     degree-within, length-generator, reduced-generator, generator-monic      L ≤ N; f has L + 1 elements, all below p; it is monic
+--     IsMonic p d f, monic-to, monic-from        what isMonic tests
+--     recurs-to, recurs-from   what recurs tests
+--     generator-shortest       f is the theory's shortest recurrence of the list's terms
+--     isShortest               document 01's sentence: the least L, f recurs, and where 2 × L ≤ N no other does
+use mathlib.Core.Path.{_≡_, refl, sym, ap, ap₂, subst, _∙_}
+use mathlib.Core.Logic.{_≢_}
+use mathlib.Core.Bool.{true, _&&_}
+use mathlib.Core.List.{List, [], _∷_}
+use Prim.Native.Nat.{ℕ, zero, suc, _+_, _-_, _*_, _%_, _≤_, _<_, max}
+use native.Mathlib.Nat.{mod-lt, mod-eq-of-lt}
+use native.Mathlib.Numerals.{add-one}
+use native.Mathlib.Decide.{decLt, ℕ-discrete}
+use native.Mathlib.Omega.{arith}
+use lib.Dec.{eqb, ltb}
+use lib.ListN.{length}
+use borrow.Author.Tests.{eqb-true, eq-eqb, ne-eqb, lt-ltb, le-ltb}
+use Rattle.meaning.specs.List.{at, sum as sumℕ, every}
+use Rattle.meaning.specs.Field.{minus, times, inverse}
+use Rattle.meaning.specs.Recurrence.{isMonic, recurs, IsShortest, Steps, start, discrepancy, update, step, steps, reversed, degree, generator}
+use Rattle.laws.specs.Bool.{and-left, and-right, and-both}
+use Rattle.laws.specs.List.{length-table, all-at, all-of}
+use Rattle.algebra.specs.Ring.{Ring, Field, ring-laws}
+use Rattle.algebra.specs.Sum.{sum, sum-ext}
+use Rattle.algebra.specs.Polynomial.{Below, Monic, Recurs, Shortest, shift, const}
+use Rattle.algebra.specs.Polynomial as polynomial
+use Rattle.residue.specs.Prime.{Prime}
+use Rattle.residue.specs.Residue.{residues, mk, mk-zero, mk-one, mk-inj, mk-zero-iff, mk-inv}
+use Rattle.residue.specs.Lists.{Reduced, reduced-getD, reduced-table, coef, coef-below, coef-ext}
+use Rattle.sequence.specs.Reversal.{reverse, reverse-within, reverse-above}
+use Rattle.sequence.specs.Steps.{State, advance-zero, advance-grow, advance-stay, next-q}
+use Rattle.sequence.specs.Steps as theory
+use Rattle.sequence.specs.Invariant.{invariant}
+use Rattle.sequence.specs.Shortest as shortest
+use Rattle.bridge.specs.Lists.{every-reduced, reduced-every, table-coef, coef-nil, coef-one, coef-shift, mk-dot-mod, mk-times, mk-difference, times-lt, minus-lt}
+
+-- ---- the meaning's step by its cases
+
+module _ (p : ℕ) (s : List ℕ) where
+  pub step-zero : (r : ℕ) (c : Steps) → discrepancy p s r c ≡ 0 → step p s r c ≡ record { q = c .q; t = 0 ∷ c .t; L = c .L; e = c .e }
+  unfolding step
+  step-zero r c z = rw (eq-eqb (discrepancy p s r c) 0 z)
+
+  pub step-grow : (r : ℕ) (c : Steps) → discrepancy p s r c ≢ 0 → 2 * c .L < r
+      → step p s r c ≡ record { q = update p (discrepancy p s r c) c; t = c .q; L = r - c .L; e = discrepancy p s r c }
+  unfolding step
+  step-grow r c z l = rw (ne-eqb (discrepancy p s r c) 0 z, lt-ltb (2 * c .L) r l)
+
+  pub step-stay : (r : ℕ) (c : Steps) → discrepancy p s r c ≢ 0 → r ≤ 2 * c .L
+      → step p s r c ≡ record { q = update p (discrepancy p s r c) c; t = 0 ∷ c .t; L = c .L; e = c .e }
+  unfolding step
+  step-stay r c z l = rw (ne-eqb (discrepancy p s r c) 0 z, le-ltb (2 * c .L) r l)
+
+  pub steps-zero : steps p s 0 ≡ start
+  unfolding steps
+  steps-zero = refl
+
+  pub steps-suc : (r : ℕ) → steps p s (suc r) ≡ step p s (suc r) (steps p s r)
+  unfolding steps
+  steps-suc r = refl
+
+  pub discrepancy-lt : 0 < p → (r : ℕ) (c : Steps) → discrepancy p s r c < p
+  unfolding discrepancy
+  discrepancy-lt k r c = mod-lt (sumℕ (c .L + 1) (λ i. at (c .q) i * at s (r - 1 - i))) k
+
+-- ---- elements below p
+
+pub record StepsReduced (p : ℕ) (c : Steps) : Type 0 where
+  pub q : Reduced p (c .q)
+  pub t : Reduced p (c .t)
+  pub e : c .e < p
+
+module _ (p : ℕ) (h : Prime p) where
+  reduced-cons : (a : ℕ) (l : List ℕ) → a < p → Reduced p l → Reduced p (a ∷ l)
+  reduced-cons a l k r zero i = k
+  reduced-cons a l k r (suc j) i = r j (omega arith)
+
+  reduced-nil : Reduced p []
+  reduced-nil i k = absurd (omega arith)
+
+  positive : 0 < p
+  positive = omega (arith, h .two-le)
+
+  pub reduced-update : (d : ℕ) (c : Steps) → Reduced p (update p d c)
+  unfolding update
+  reduced-update d c =
+      reduced-table p (max (length (c .q)) (length (c .t) + 1)) (λ i. minus p (at (c .q) i) (times p (times p d (inverse p (c .e))) (at (0 ∷ c .t) i)))
+      (λ i k. minus-lt p h (at (c .q) i) (times p (times p d (inverse p (c .e))) (at (0 ∷ c .t) i)))
+
+  start-reduced : StepsReduced p start
+  unfolding start
+  start-reduced = record { q = reduced-cons 1 [] (h .two-le) reduced-nil; t = reduced-nil; e = h .two-le }
+
+  step-reduced : (s : List ℕ) (r : ℕ) (c : Steps) → StepsReduced p c → StepsReduced p (step p s r c)
+  step-reduced s r c I =
+      elim (ℕ-discrete d 0) [
+        | yes z ↦ rw (step-zero p s r c z) (record { q = I .q; t = reduced-cons 0 (c .t) positive (I .t); e = I .e })
+        | no z ↦ elim (decLt (2 * c .L) r) [
+          | yes l ↦ rw (step-grow p s r c z l) (record { q = reduced-update d c; t = I .q; e = discrepancy-lt p s positive r c })
+          | no l ↦ rw (step-stay p s r c z (omega arith)) (record { q = reduced-update d c; t = reduced-cons 0 (c .t) positive (I .t); e = I .e })
+        ]
+      ]
+    where
+      d : ℕ
+      d = discrepancy p s r c
+
+  pub steps-reduced : (s : List ℕ) (r : ℕ) → StepsReduced p (steps p s r)
+  steps-reduced s zero = rw steps-zero start-reduced
+  steps-reduced s (suc r) = rw steps-suc (step-reduced s (suc r) (steps p s r) (steps-reduced s r))
+
+-- ---- the steps
+
+module _ (p : ℕ) (h : Prime p) where
+  open Field (residues p h) using (ring as R, inv)
+  open Ring R using (C, add as _⊕_, mul as _⊗_, neg as ⊖_, zero as 𝟎, one as 𝟏)
+
+  infixl 60 _⊕_
+  infixl 70 _⊗_
+  infix 75 ⊖_
+  abbrev pub state : Steps → State (residues p h)
+  state c = record { q = coef p h (c .q); t = coef p h (c .t); L = c .L; e = mk p h (c .e) }
+
+  same-state : {q q′ t t′ : ℕ → C} {L : ℕ} {e e′ : C} → q ≡ q′ → t ≡ t′ → e ≡ e′
+      → _≡_ {A = State (residues p h)} (record { q = q; t = t; L = L; e = e }) (record { q = q′; t = t′; L = L; e = e′ })
+  same-state {L} a b c = λ i. record { q = a i; t = b i; L = L; e = c i }
+
+  pub state-start : state start ≡ theory.start (residues p h)
+  unfolding start
+  state-start = same-state (coef-one p h 1 ∙ ap (const R) (mk-one p h)) (coef-nil p h) (mk-one p h)
+
+  pub mk-discrepancy : (s : List ℕ) (r : ℕ) (c : Steps) → mk p h (discrepancy p s (suc r) c) ≡ theory.discrepancy (residues p h) (coef p h s) r (state c)
+  unfolding discrepancy
+  mk-discrepancy s r c =
+      mk-dot-mod p h (c .L + 1) (λ i. at (c .q) i) (λ i. at s (suc r - 1 - i))
+      ∙ ap (λ n. sum R n (λ i. coef p h (c .q) i ⊗ coef p h s (suc r - 1 - i))) (add-one (c .L))
+      ∙ sum-ext R (suc (c .L)) (λ i. coef p h (c .q) i ⊗ coef p h s (suc r - 1 - i)) (λ i. coef p h (c .q) i ⊗ coef p h s (r - i)) (λ i l. ap (λ j. coef p h (c .q) i ⊗ coef p h s j) (omega arith))
+
+  pub coef-update : (d : ℕ) (c : Steps) → coef p h (update p d c) ≡ next-q (residues p h) (state c) (mk p h d)
+  unfolding update
+  coef-update d c = table-coef p h n f (next-q (residues p h) (state c) (mk p h d)) (λ i k. place i) above
+    where
+      n : ℕ
+      n = max (length (c .q)) (length (c .t) + 1)
+
+      f : ℕ → ℕ
+      f i = minus p (at (c .q) i) (times p (times p d (inverse p (c .e))) (at (0 ∷ c .t) i))
+
+      shifted : (i : ℕ) → coef p h (0 ∷ c .t) i ≡ shift R (coef p h (c .t)) i
+      shifted i = ap (λ (g : ℕ → C). g i) (coef-shift p h (c .t))
+
+      vanish : (x : C) → 𝟎 ⊕ ⊖ (x ⊗ 𝟎) ≡ 𝟎
+      vanish x = simp ring-laws
+
+      place : (i : ℕ) → mk p h (f i) ≡ next-q (residues p h) (state c) (mk p h d) i
+      place i =
+          mk-difference p h (at (c .q) i) (times p (times p d (inverse p (c .e))) (at (0 ∷ c .t) i)) (times-lt p h (times p d (inverse p (c .e))) (at (0 ∷ c .t) i))
+          ∙ ap (λ x. coef p h (c .q) i ⊕ ⊖ x)
+          (mk-times p h (times p d (inverse p (c .e))) (at (0 ∷ c .t) i)
+          ∙ ap₂ _⊗_ (mk-times p h d (inverse p (c .e)) ∙ ap (λ x. mk p h d ⊗ x) (mk-inv p h (c .e))) (shifted i))
+
+      above : Below R n (next-q (residues p h) (state c) (mk p h d))
+      above i l =
+          ap₂ (λ a b. a ⊕ ⊖ (mk p h d ⊗ inv (mk p h (c .e)) ⊗ b)) (coef-below p h (c .q) i (omega arith)) (sym (shifted i) ∙ coef-below p h (0 ∷ c .t) i (omega arith))
+          ∙ vanish (mk p h d ⊗ inv (mk p h (c .e)))
+
+  pub state-step : (s : List ℕ) (r : ℕ) (c : Steps) → state (step p s (suc r) c) ≡ theory.step (residues p h) (coef p h s) r (state c)
+  state-step s r c =
+      elim (ℕ-discrete d 0) [
+        | yes z ↦ ap state (step-zero p s (suc r) c z) ∙ same-state refl (coef-shift p h (c .t)) refl ∙ sym (advance-zero (residues p h) r (state c) D (sym (mk-discrepancy s r c) ∙ ap (mk p h) z ∙ mk-zero p h))
+        | no z ↦ elim (decLt (2 * c .L) (suc r)) [
+          | yes l ↦ ap state (step-grow p s (suc r) c z l) ∙ same-state updated refl (mk-discrepancy s r c) ∙ sym (advance-grow (residues p h) r (state c) D (nonzero z) l)
+          | no l ↦ ap state (step-stay p s (suc r) c z (omega arith)) ∙ same-state updated (coef-shift p h (c .t)) refl ∙ sym (advance-stay (residues p h) r (state c) D (nonzero z) (omega arith))
+        ]
+      ]
+    where
+      d : ℕ
+      d = discrepancy p s (suc r) c
+
+      D : C
+      D = theory.discrepancy (residues p h) (coef p h s) r (state c)
+
+      updated : coef p h (update p d c) ≡ next-q (residues p h) (state c) D
+      updated = coef-update d c ∙ ap (next-q (residues p h) (state c)) (mk-discrepancy s r c)
+
+      nonzero : d ≢ 0 → D ≢ 𝟎
+      nonzero z e =
+          z (sym (mod-eq-of-lt (discrepancy-lt p s (positive p h) (suc r) c)) ∙ mk-zero-iff p h d .0 (mk-discrepancy s r c ∙ e))
+
+  pub state-steps : (s : List ℕ) (r : ℕ) → state (steps p s r) ≡ theory.steps (residues p h) (coef p h s) r
+  state-steps s zero = ap state (steps-zero p s) ∙ state-start ∙ sym (theory.steps-zero (residues p h) (coef p h s))
+  state-steps s (suc r) =
+      ap state (steps-suc p s r) ∙ state-step s r (steps p s r) ∙ ap (theory.step (residues p h) (coef p h s) r) (state-steps s r)
+      ∙ sym (theory.steps-suc (residues p h) (coef p h s) r)
+
+  -- ---- what the theory knows of the steps
+
+  pub steps-within : (s : List ℕ) (r : ℕ) → steps p s r .L ≤ r
+  steps-within s r = subst (λ st. st .L ≤ r) (sym (state-steps s r)) (invariant (residues p h) (coef p h s) r .within)
+
+  pub steps-head : (s : List ℕ) (r : ℕ) → at (steps p s r .q) 0 ≡ 1
+  steps-head s r =
+      mk-inj p h (at (steps p s r .q) 0) 1 (reduced-getD p (steps p s r .q) (positive p h) (steps-reduced p h s r .q) 0) (h .two-le)
+      (subst (λ st. st .q 0 ≡ 𝟏) (sym (state-steps s r)) (invariant (residues p h) (coef p h s) r .head) ∙ sym (mk-one p h))
+
+  pub steps-above : (s : List ℕ) (r i : ℕ) → steps p s r .L < i → at (steps p s r .q) i ≡ 0
+  steps-above s r i l =
+      mk-inj p h (at (steps p s r .q) i) 0 (reduced-getD p (steps p s r .q) (positive p h) (steps-reduced p h s r .q) i) (positive p h)
+      (below i l ∙ sym (mk-zero p h))
+    where
+      below : Below R (suc (steps p s r .L)) (coef p h (steps p s r .q))
+      below =
+          subst (λ st. Below R (suc (st .L)) (st .q)) (sym (state-steps s r)) (invariant (residues p h) (coef p h s) r .gap .below)
+
+  -- ---- the generator
+
+  pub length-generator : (s : List ℕ) → length (generator p s) ≡ degree p s + 1
+  unfolding generator reversed
+  length-generator s = length-table (degree p s + 1) (λ i. at (steps p s (length s) .q) (degree p s - i))
+
+  pub reduced-generator : (s : List ℕ) → Reduced p (generator p s)
+  unfolding generator reversed
+  reduced-generator s =
+      reduced-table p (degree p s + 1) (λ i. at (steps p s (length s) .q) (degree p s - i))
+      (λ i k. reduced-getD p (steps p s (length s) .q) (positive p h) (steps-reduced p h s (length s) .q) (degree p s - i))
+
+  pub degree-is : (s : List ℕ) → degree p s ≡ theory.steps (residues p h) (coef p h s) (length s) .L
+  unfolding degree
+  degree-is s = ap (λ st. st .L) (state-steps s (length s))
+
+  pub degree-within : (s : List ℕ) → degree p s ≤ length s
+  unfolding degree
+  degree-within s = steps-within s (length s)
+
+  coef-reversed : (L : ℕ) (q : List ℕ) → coef p h (reversed L q) ≡ reverse R L (coef p h q)
+  unfolding reversed
+  coef-reversed L q =
+      table-coef p h (L + 1) (λ i. at q (L - i)) (reverse R L (coef p h q)) (λ i k. sym (reverse-within R L (coef p h q) i (omega arith)))
+      (λ i k. reverse-above R L (coef p h q) i (omega arith))
+
+  pub coef-generator : (s : List ℕ) → coef p h (generator p s) ≡ shortest.generator (residues p h) (coef p h s) (length s)
+  unfolding generator degree
+  coef-generator s =
+      coef-reversed (steps p s (length s) .L) (steps p s (length s) .q) ∙ ap (λ st. reverse R (st .L) (st .q)) (state-steps s (length s))
+
+  pub generator-shortest : (s : List ℕ) → Shortest R (length s) (coef p h s) (degree p s) (coef p h (generator p s))
+  generator-shortest s =
+      rw (degree-is s, coef-generator s) (shortest.shortest (residues p h) (coef p h s) (length s))
+
+-- ---- what isMonic and recurs test
+
+module _ (p : ℕ) (h : Prime p) where
+  open Field (residues p h) using (ring as R, inv)
+  open Ring R using (C, add as _⊕_, mul as _⊗_, neg as ⊖_, zero as 𝟎, one as 𝟏)
+
+  infixl 60 _⊕_
+  infixl 70 _⊗_
+  infix 75 ⊖_
+  pub record IsMonic (d : ℕ) (f : List ℕ) : Type 0 where
+    pub size : length f ≡ d + 1
+    pub reduced : Reduced p f
+    pub monic : Monic R d (coef p h f)
+
+  pub monic-to : (d : ℕ) (f : List ℕ) → isMonic p d f ≡ true → IsMonic d f
+  unfolding isMonic
+  monic-to d f e =
+      record {
+        size = size;
+        reduced = every-reduced p f (and-right (eqb (length f) (d + 1)) (every (λ a. ltb a p) f) left);
+        monic = record { lead = ap (mk p h) (eqb-true (at f d) 1 (and-right (eqb (length f) (d + 1) && every (λ a. ltb a p) f) (eqb (at f d) 1) e)) ∙ mk-one p h; above = λ i l. coef-below p h f i (omega (arith, size)) };
+      }
+    where
+      left : eqb (length f) (d + 1) && every (λ a. ltb a p) f ≡ true
+      left = and-left (eqb (length f) (d + 1) && every (λ a. ltb a p) f) (eqb (at f d) 1) e
+
+      size : length f ≡ d + 1
+      size = eqb-true (length f) (d + 1) (and-left (eqb (length f) (d + 1)) (every (λ a. ltb a p) f) left)
+
+  pub monic-from : (d : ℕ) (f : List ℕ) → IsMonic d f → isMonic p d f ≡ true
+  unfolding isMonic
+  monic-from d f m =
+      and-both (and-both (eq-eqb (length f) (d + 1) (m .size)) (reduced-every p f (m .reduced)))
+      (eq-eqb (at f d) 1 (mk-inj p h (at f d) 1 (m .reduced d (omega (arith, m .size))) (h .two-le) (m .monic .lead ∙ sym (mk-one p h))))
+
+  mk-at : (s f : List ℕ) (d j : ℕ) → mk p h (sumℕ (d + 1) (λ i. at f i * at s (i + j)) % p) ≡ polynomial.at R (coef p h s) d (coef p h f) j
+  mk-at s f d j =
+      mk-dot-mod p h (d + 1) (λ i. at f i) (λ i. at s (i + j)) ∙ ap (λ n. sum R n (λ i. coef p h f i ⊗ coef p h s (i + j))) (add-one d)
+
+  pub recurs-to : (s : List ℕ) (d : ℕ) (f : List ℕ) → recurs p s d f ≡ true → Recurs R (length s) (coef p h s) d (coef p h f)
+  unfolding recurs
+  recurs-to s d f e j l =
+      sym (mk-at s f d j)
+      ∙ ap (mk p h) (eqb-true (sumℕ (d + 1) (λ i. at f i * at s (i + j)) % p) 0 (all-at (length s - d) (λ j. eqb (sumℕ (d + 1) (λ i. at f i * at s (i + j)) % p) 0) e j (omega arith)))
+      ∙ mk-zero p h
+
+  pub recurs-from : (s : List ℕ) (d : ℕ) (f : List ℕ) → Recurs R (length s) (coef p h s) d (coef p h f) → recurs p s d f ≡ true
+  unfolding recurs
+  recurs-from s d f e =
+      all-of (length s - d) (λ j. eqb (sumℕ (d + 1) (λ i. at f i * at s (i + j)) % p) 0)
+      (λ j l. eq-eqb (sumℕ (d + 1) (λ i. at f i * at s (i + j)) % p) 0 (mk-inj p h (sumℕ (d + 1) (λ i. at f i * at s (i + j)) % p) 0 (mod-lt (sumℕ (d + 1) (λ i. at f i * at s (i + j))) (positive p h)) (positive p h) (mk-at s f d j ∙ e j (omega arith) ∙ sym (mk-zero p h))))
+
+  pub generator-monic : (s : List ℕ) → IsMonic (degree p s) (generator p s)
+  generator-monic s =
+      record { size = length-generator p h s; reduced = reduced-generator p h s; monic = generator-shortest p h s .monic }
+
+  pub isShortest : (s : List ℕ) → IsShortest p s (degree p s) (generator p s)
+  isShortest s =
+      record {
+        monic = monic-from (degree p s) (generator p s) (generator-monic s);
+        fits = recurs-from s (degree p s) (generator p s) (S .recurs);
+        shortest = λ k g m e. S .least k (coef p h g) (monic-to k g m .monic) (recurs-to s k g e);
+        only = only;
+      }
+    where
+      S : Shortest R (length s) (coef p h s) (degree p s) (coef p h (generator p s))
+      S = generator-shortest p h s
+
+      only : 2 * degree p s ≤ length s → (g : List ℕ) → isMonic p (degree p s) g ≡ true → recurs p s (degree p s) g ≡ true → g ≡ generator p s
+      only l g m e =
+          coef-ext p h g (generator p s) (M .reduced) (reduced-generator p h s) (M .size ∙ sym (length-generator p h s))
+          (λ i k. ap (λ (f : ℕ → C). f i) (shortest.unique (residues p h) (length s) (coef p h s) (degree p s) (coef p h (generator p s)) l S (coef p h g) (M .monic) (recurs-to s (degree p s) g e)))
+        where
+          M : IsMonic (degree p s) g
+          M = monic-to (degree p s) g m

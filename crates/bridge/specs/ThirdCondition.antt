@@ -1,0 +1,410 @@
+-- The customer's third condition holds of the meaning's `solve`.
+--     verdict-zero, verdict-singular, verdict-solved      the meaning's verdict by its cases: D = 0; D > 0 and F[0] = 0; neither is 0
+--     solved≢singular      the kinds differ
+--     span-to, span-from   "b is a sum of multiples of Ab, A²b, .., Aⁿb" is the theory's Span
+-- Of any c in which a run stands (Run's Stands) with r = 0, for any size, 0 included, and any projections:
+--     end-verdict          the theory's Verdict of D and F
+--     end-monic, end-annihilates, end-lowest      F is monic of degree D, F(A)b = 0, and every other such g has a higher degree
+--     IsSingular, IsSolved, end-singular, end-solved      kind and vector where F[0] is 0, and where it is not
+--     end-exactly, end-solves, end-not-zero, end-to-zero      the kind is solved exactly if b is in the span; what the vector is then, and otherwise
+--     end-found            D > 0 if b is not zero
+--     same-ends            two such ends on one system agree
+-- Of a run with any list of projections that ends with r = 0:
+--     run-counted          its applications
+--     thirdCondition, sameAnswer      the third condition; two such runs agree
+-- Of `solve`:
+--     projections-zero, length-projections      the words' projections are such a list, of R + n
+--     passed               where nothing is turned down, the first check does not, nor do the rest
+--     Accepted p A b, accepted      what the checks of a run say: p is prime, n ≥ 1, b has n elements, all below p
+--     everyRun             the third condition of every run, whatever the words
+--     everyTwoRuns         every two runs on one system give the same kind, vector and polynomial, whatever their words
+use mathlib.Core.Path.{_≡_, refl, sym, ap, ap₂, fun-ext, subst, _∙_}
+use mathlib.Core.Logic.{_≢_, _⊎_, inl, inr, _↔_}
+use mathlib.Core.Bool.{Bool, true, false, not, cond, _&&_}
+use mathlib.Core.List.{List, _∷_}
+use Prim.Native.Nat.{ℕ, zero, suc, _+_, _-_, _*_, _/_, _%_, _≤_, _<_}
+use native.Mathlib.Numerals.{add-one}
+use native.Mathlib.Decide.{ℕ-discrete}
+use native.Mathlib.Omega.{arith}
+use lib.Dec.{eqb, leb}
+use lib.ListN.{length, drop, length-append, length-drop}
+use lib.Seq.{getD-drop}
+use borrow.Author.Tests.{eq-eqb, ne-eqb, eqb-true, leb-true, not-false}
+use Rattle.meaning.specs.List.{at, sum as sumℕ, table, zeros, isZero, every}
+use Rattle.meaning.specs.Field.{isPrime, isModulus, minus, times, inverse}
+use Rattle.meaning.specs.Matrix.{Matrix, size, product, power, apply}
+use Rattle.meaning.specs.Recurrence.{isMonic}
+use Rattle.meaning.specs.Solver.{vectors, units, projections, Run, begin, run, Kind, solved, singular, verdict, close, solve}
+use Rattle.meaning.specs.ThirdCondition.{inSpan, termCost, ThirdCondition, SameAnswer}
+use Rattle.meaning.specs.Refusal.{Check, check, first, elements, sizeTaken, startsTaken, columnsTaken, valueTaken, matrixChecks}
+use Rattle.meaning.specs.Calls.{systemChecks, runChecks, EveryRun, EveryTwoRuns}
+use Rattle.laws.specs.Bool.{and-left, and-right, test-cases, never}
+use Rattle.laws.specs.List.{length-table}
+use Rattle.laws.specs.Refusal.{first-cons}
+use Rattle.algebra.specs.Ring.{Ring, Field, ring-laws}
+use Rattle.algebra.specs.Ring as ring
+use Rattle.algebra.specs.Sum.{sum, sum-ext, sum-zeros}
+use Rattle.algebra.specs.Polynomial.{Below}
+use Rattle.residue.specs.Prime.{Prime, isPrime-Prime}
+use Rattle.residue.specs.Residue.{residues, mk, value, mk-zero, mk-inj, mk-inv, mk-value}
+use Rattle.residue.specs.Lists.{Reduced, reduced-getD, coef, coef-below, coef-ext, coef-table, values}
+use Rattle.krylov.specs.Operator.{Kills, times-at, power-below, apply-below, apply-degree-zero}
+use Rattle.krylov.specs.Operator as theory
+use Rattle.krylov.specs.Verdict.{Span, tail, solution, Verdict, verdict-unique, solution-zero}
+use Rattle.krylov.specs.Verdict as theory-verdict
+use Rattle.bridge.specs.Lists.{reduced-table-mod, every-reduced, table-coef, mk-dot-mod, mk-times, mk-difference}
+use Rattle.bridge.specs.Recurrence.{monic-to, monic-from}
+use Rattle.bridge.specs.Operator.{operator, operator-linear, coef-product, length-product, reduced-product, coef-power, coef-apply, length-apply, reduced-apply, coef-zeros, isZero-null, null-isZero, zeros-from-null}
+use Rattle.bridge.specs.Run.{Stands, run-begun, run-rest, run-few, run-cost, units-end}
+
+-- ---- the meaning's verdict by its cases
+
+module _ (p : ℕ) (A : Matrix) (b F : List ℕ) (D : ℕ) where
+  pub verdict-zero : D ≡ 0 → verdict p A b F D ≡ (solved, zeros (size A))
+  unfolding verdict
+  verdict-zero e = rw (eq-eqb D 0 e)
+
+  pub verdict-singular : D ≢ 0 → at F 0 ≡ 0 → verdict p A b F D ≡ (singular, apply p A (drop 1 F) b)
+  unfolding verdict
+  verdict-singular e z = rw (ne-eqb D 0 e, eq-eqb (at F 0) 0 z)
+
+  pub verdict-solved : D ≢ 0 → at F 0 ≢ 0 → verdict p A b F D ≡ (solved, table (size A) (λ i. times p (minus p 0 (at (apply p A (drop 1 F) b) i)) (inverse p (at F 0))))
+  unfolding verdict
+  verdict-solved e z = rw (ne-eqb D 0 e, ne-eqb (at F 0) 0 z)
+
+pub solved≢singular : solved ≢ singular
+solved≢singular e = let z : _≡_ {A = ℕ} 0 1 = cc in omega arith
+
+module _ (p : ℕ) (h : Prime p) (A : Matrix) (b : List ℕ) (size-b : length b ≡ size A) (reduced-b : Reduced p b) where
+  open Field (residues p h) using (ring as R, inv, one≢zero)
+  open Ring R using (C, add as _⊕_, mul as _⊗_, neg as ⊖_, zero as 𝟎, one as 𝟏)
+
+  infixl 60 _⊕_
+  infixl 70 _⊗_
+  infix 75 ⊖_
+  below-b : Below R (size A) (coef p h b)
+  below-b i l = coef-below p h b i (omega arith)
+
+  positive : 0 < p
+  positive = omega (arith, h .two-le)
+
+  -- ---- the span
+
+  spanned : List ℕ → ℕ → ℕ
+  spanned c j = sumℕ (size A) (λ i. at c i * at (power p A (i + 1) b) j) % p
+
+  mk-spanned : (c : List ℕ) (j : ℕ) → mk p h (spanned c j) ≡ sum R (size A) (λ i. coef p h c i ⊗ theory.power R (operator p h A) (suc i) (coef p h b) j)
+  unfolding spanned
+  mk-spanned c j =
+      mk-dot-mod p h (size A) (λ i. at c i) (λ i. at (power p A (i + 1) b) j)
+      ∙ sum-ext R (size A) (λ i. coef p h c i ⊗ coef p h (power p A (i + 1) b) j) (λ i. coef p h c i ⊗ theory.power R (operator p h A) (suc i) (coef p h b) j) (λ i l. ap (λ (v : ℕ → C). coef p h c i ⊗ v j) (coef-power p h A (i + 1) b ∙ ap (λ k. theory.power R (operator p h A) k (coef p h b)) (add-one i)))
+
+  pub span-to : inSpan p A b → Span R (size A) (operator p h A) (coef p h b)
+  unfolding spanned
+  span-to (c, e) =
+      record {
+        coefficient = coef p h c;
+        equation = ap (coef p h) e ∙ table-coef p h (size A) (spanned c) (λ j. sum R (size A) (λ i. coef p h c i ⊗ theory.power R (operator p h A) (suc i) (coef p h b) j)) (λ j l. mk-spanned c j) below;
+      }
+    where
+      below : Below R (size A) (λ j. sum R (size A) (λ i. coef p h c i ⊗ theory.power R (operator p h A) (suc i) (coef p h b) j))
+      below j l =
+          sum-zeros R (size A) (λ i. coef p h c i ⊗ theory.power R (operator p h A) (suc i) (coef p h b) j)
+          (λ i k. ap (λ x. coef p h c i ⊗ x) (power-below R (size A) (operator p h A) (operator-linear p h A) (suc i) (coef p h b) below-b j l) ∙ ring.mul-zero R (coef p h c i))
+
+  pub span-from : Span R (size A) (operator p h A) (coef p h b) → inSpan p A b
+  unfolding spanned
+  span-from S = (c, coef-ext p h b (table (size A) (spanned c)) reduced-b (reduced-table-mod p (size A) (λ j. sumℕ (size A) (λ i. at c i * at (power p A (i + 1) b) j)) positive) (size-b ∙ sym (length-table (size A) (spanned c))) (λ j k. place j (omega arith)))
+    where
+      c : List ℕ
+      c = values p h (size A) (S .coefficient)
+
+      place : (j : ℕ) → j < size A → coef p h b j ≡ coef p h (table (size A) (spanned c)) j
+      place j l =
+          ap (λ (v : ℕ → C). v j) (S .equation)
+          ∙ sum-ext R (size A) (λ i. S .coefficient i ⊗ theory.power R (operator p h A) (suc i) (coef p h b) j) (λ i. coef p h c i ⊗ theory.power R (operator p h A) (suc i) (coef p h b) j) (λ i k. ap (λ x. x ⊗ theory.power R (operator p h A) (suc i) (coef p h b) j) (sym (coef-table p h (size A) (λ i. value p h (S .coefficient i)) i k ∙ mk-value p h (S .coefficient i))))
+          ∙ sym (mk-spanned c j) ∙ sym (coef-table p h (size A) (spanned c) j l)
+
+  -- ---- a run that ends at r = 0
+
+  -- g(A)b = 0 in the meaning, for g monic
+  kills-from : (k : ℕ) (g : List ℕ) → isMonic p k g ≡ true → apply p A g b ≡ zeros (size A) → Kills R (operator p h A) k (coef p h g) (coef p h b)
+  kills-from k g m e =
+      record {
+        monic = monic-to p h k g m .monic;
+        vanishes =
+            ap (λ i. theory.apply R (operator p h A) i (coef p h g) (coef p h b)) (sym (monic-to p h k g m .size ∙ add-one k))
+            ∙ sym (coef-apply p h A g b size-b) ∙ ap (coef p h) e ∙ coef-zeros p h (size A);
+      }
+
+  module _ {us : List (ℕ → C)} (c : Run) (I : Stands p h A b us c) (z : isZero (c .residual) ≡ true) where
+    pub end-verdict : Verdict (residues p h) (size A) (operator p h A) (coef p h b) (c .found) (coef p h (c .factor))
+    end-verdict =
+        theory-verdict.verdict (residues p h) (size A) (operator p h A) (coef p h b) (operator-linear p h A) below-b (I .reached) (isZero-null p h (c .residual) z)
+
+    pub end-monic : isMonic p (c .found) (c .factor) ≡ true
+    end-monic =
+        monic-from p h (c .found) (c .factor) (record { size = I .size-factor; reduced = I .reduced-factor; monic = end-verdict .kills .monic })
+
+    pub end-annihilates : apply p A (c .factor) b ≡ zeros (size A)
+    end-annihilates =
+        zeros-from-null p h (size A) (apply p A (c .factor) b) (length-apply p h A (c .factor) b) (reduced-apply p h A (c .factor) b)
+        (coef-apply p h A (c .factor) b size-b
+        ∙ ap (λ i. theory.apply R (operator p h A) i (coef p h (c .factor)) (coef p h b)) (I .size-factor ∙ add-one (c .found))
+        ∙ end-verdict .kills .vanishes)
+
+    pub end-lowest : (k : ℕ) (g : List ℕ) → isMonic p k g ≡ true → apply p A g b ≡ zeros (size A) → g ≢ c .factor → c .found < k
+    end-lowest k g m e x = go (ℕ-discrete k (c .found))
+      where
+        G : Kills R (operator p h A) k (coef p h g) (coef p h b)
+        G = kills-from k g m e
+
+        go : Dec (k ≡ c .found) → c .found < k
+        go (yes q) =
+            absurd (x (coef-ext p h g (c .factor) (monic-to p h k g m .reduced) (I .reduced-factor)
+            (monic-to p h k g m .size ∙ ap (λ i. i + 1) q ∙ sym (I .size-factor))
+            (λ i l. ap (λ (f : ℕ → C). f i) (end-verdict .only (coef p h g) (subst (λ d. Kills R (operator p h A) d (coef p h g) (coef p h b)) q G)))))
+        go (no q) = omega (arith, end-verdict .least k (coef p h g) G)
+
+    -- ---- kind and vector
+
+    head-zero : at (c .factor) 0 ≡ 0 → coef p h (c .factor) 0 ≡ 𝟎
+    head-zero e = ap (mk p h) e ∙ mk-zero p h
+
+    head-nonzero : at (c .factor) 0 ≢ 0 → coef p h (c .factor) 0 ≢ 𝟎
+    head-nonzero f e =
+        f (mk-inj p h (at (c .factor) 0) 0 (reduced-getD p (c .factor) positive (I .reduced-factor) 0) positive (e ∙ sym (mk-zero p h)))
+
+    -- F is 1 if its degree is 0
+    degree-nonzero : at (c .factor) 0 ≡ 0 → c .found ≢ 0
+    degree-nonzero e d =
+        one≢zero (sym (end-verdict .kills .monic .lead) ∙ ap (coef p h (c .factor)) d ∙ head-zero e)
+
+    -- G(A)b, G = (F − F[0]) / z
+    coef-tail : coef p h (apply p A (drop 1 (c .factor)) b) ≡ theory.apply R (operator p h A) (c .found) (tail R (coef p h (c .factor))) (coef p h b)
+    coef-tail =
+        coef-apply p h A (drop 1 (c .factor)) b size-b
+        ∙ ap₂ (λ m g. theory.apply R (operator p h A) m g (coef p h b)) (length-drop 1 (c .factor) ∙ omega (arith, I .size-factor)) (fun-ext (λ i. ap (mk p h) (getD-drop 1 (c .factor) i 0 ∙ ap (at (c .factor)) (omega arith))))
+
+    pub record IsSolved (k : Kind) (x : List ℕ) : Type 0 where
+      pub kind : k ≡ solved
+      pub vector : coef p h x ≡ solution (residues p h) (operator p h A) (coef p h b) (c .found) (coef p h (c .factor))
+
+    pub record IsSingular (k : Kind) (w : List ℕ) : Type 0 where
+      pub kind : k ≡ singular
+      pub vector : coef p h w ≡ theory.apply R (operator p h A) (c .found) (tail R (coef p h (c .factor))) (coef p h b)
+
+    pub end-singular : at (c .factor) 0 ≡ 0 → IsSingular (verdict p A b (c .factor) (c .found) .0) (verdict p A b (c .factor) (c .found) .1)
+    end-singular e =
+        rw (verdict-singular p A b (c .factor) (c .found) (degree-nonzero e) e) (record { kind = refl; vector = coef-tail })
+
+    pub end-solved : at (c .factor) 0 ≢ 0 → IsSolved (verdict p A b (c .factor) (c .found) .0) (verdict p A b (c .factor) (c .found) .1)
+    end-solved f = go (ℕ-discrete (c .found) 0)
+      where
+        w : List ℕ
+        w = apply p A (drop 1 (c .factor)) b
+
+        x : ℕ → C
+        x = solution (residues p h) (operator p h A) (coef p h b) (c .found) (coef p h (c .factor))
+
+        signed : (a y : C) → (𝟎 ⊕ ⊖ a) ⊗ y ≡ ⊖ y ⊗ a
+        signed a y = simp ring-laws
+
+        place : (i : ℕ) → mk p h (times p (minus p 0 (at w i)) (inverse p (at (c .factor) 0))) ≡ x i
+        place i =
+            mk-times p h (minus p 0 (at w i)) (inverse p (at (c .factor) 0))
+            ∙ ap₂ _⊗_ (mk-difference p h 0 (at w i) (reduced-getD p w positive (reduced-apply p h A (drop 1 (c .factor)) b) i) ∙ ap (λ a. a ⊕ ⊖ coef p h w i) (mk-zero p h)) (mk-inv p h (at (c .factor) 0))
+            ∙ signed (coef p h w i) (inv (coef p h (c .factor) 0)) ∙ ap (λ (v : ℕ → C). ⊖ inv (coef p h (c .factor) 0) ⊗ v i) coef-tail
+            ∙ sym (times-at R (⊖ inv (coef p h (c .factor) 0)) (theory.apply R (operator p h A) (c .found) (tail R (coef p h (c .factor))) (coef p h b)) i)
+
+        above : Below R (size A) x
+        above i l =
+            times-at R (⊖ inv (coef p h (c .factor) 0)) (theory.apply R (operator p h A) (c .found) (tail R (coef p h (c .factor))) (coef p h b)) i
+            ∙ ap (λ a. ⊖ inv (coef p h (c .factor) 0) ⊗ a) (apply-below R (size A) (operator p h A) (operator-linear p h A) (c .found) (tail R (coef p h (c .factor))) (coef p h b) below-b i l)
+            ∙ ring.mul-zero R (⊖ inv (coef p h (c .factor) 0))
+
+        divided : coef p h (table (size A) (λ i. times p (minus p 0 (at w i)) (inverse p (at (c .factor) 0)))) ≡ x
+        divided =
+            table-coef p h (size A) (λ i. times p (minus p 0 (at w i)) (inverse p (at (c .factor) 0))) x (λ i l. place i) above
+
+        go : Dec (c .found ≡ 0) → IsSolved (verdict p A b (c .factor) (c .found) .0) (verdict p A b (c .factor) (c .found) .1)
+        go (yes d) =
+            rw (verdict-zero p A b (c .factor) (c .found) d)
+            (record { kind = refl; vector = coef-zeros p h (size A) ∙ sym (solution-zero (residues p h) (size A) (operator p h A) (coef p h b) (operator-linear p h A) (coef p h (c .factor))) ∙ ap (λ m. solution (residues p h) (operator p h A) (coef p h b) m (coef p h (c .factor))) (sym d) })
+        go (no d) = rw (verdict-solved p A b (c .factor) (c .found) d f) (record { kind = refl; vector = divided })
+
+    -- ---- the sentences of the third condition
+
+    when-solved : close p A b c .kind ≡ solved → at (c .factor) 0 ≢ 0
+    unfolding close
+    when-solved k e = solved≢singular (sym k ∙ end-singular e .kind)
+
+    when-singular : close p A b c .kind ≡ singular → at (c .factor) 0 ≡ 0
+    unfolding close
+    when-singular k =
+        elim (ℕ-discrete (at (c .factor) 0) 0) [ yes e ↦ e | no f ↦ absurd (solved≢singular (sym (end-solved f .kind) ∙ k)) ]
+
+    pub end-exactly : (close p A b c .kind ≡ solved) ↔ inSpan p A b
+    unfolding close
+    end-exactly =
+        (λ k. span-from (end-verdict .solvable .0 (head-nonzero (when-solved k))), λ s. end-solved (λ e. end-verdict .solvable .1 (span-to s) (head-zero e)) .kind)
+
+    pub end-solves : close p A b c .kind ≡ solved → product p A (close p A b c .vector) ≡ b
+    unfolding close
+    end-solves k =
+        coef-ext p h (product p A x) b (reduced-product p h A x) reduced-b (length-product p h A x ∙ sym size-b)
+        (λ i l. ap (λ (v : ℕ → C). v i) (coef-product p h A x ∙ ap (operator p h A) (end-solved (when-solved k) .vector) ∙ end-verdict .solved (head-nonzero (when-solved k))))
+      where
+        x : List ℕ
+        x = verdict p A b (c .factor) (c .found) .1
+
+    pub end-not-zero : close p A b c .kind ≡ singular → close p A b c .vector ≢ zeros (size A)
+    unfolding close
+    end-not-zero k e =
+        end-verdict .nonzero (head-zero (when-singular k)) (sym (end-singular (when-singular k) .vector) ∙ ap (coef p h) e ∙ coef-zeros p h (size A))
+
+    pub end-to-zero : close p A b c .kind ≡ singular → product p A (close p A b c .vector) ≡ zeros (size A)
+    unfolding close
+    end-to-zero k =
+        zeros-from-null p h (size A) (product p A w) (length-product p h A w) (reduced-product p h A w)
+        (coef-product p h A w ∙ ap (operator p h A) (end-singular (when-singular k) .vector) ∙ end-verdict .singular (head-zero (when-singular k)))
+      where
+        w : List ℕ
+        w = verdict p A b (c .factor) (c .found) .1
+
+    -- a degree of 0 is found of b = 0 only
+    pub end-found : isZero b ≡ false → 0 < c .found
+    end-found e = go (ℕ-discrete (c .found) 0)
+      where
+        go : Dec (c .found ≡ 0) → 0 < c .found
+        go (no d) = omega arith
+        go (yes d) = never (isZero b) (null-isZero p h b reduced-b (sym (apply-degree-zero R (operator p h A) (K .monic) (coef p h b)) ∙ K .vanishes)) e
+          where
+            K : Kills R (operator p h A) 0 (coef p h (c .factor)) (coef p h b)
+            K = subst (λ k. Kills R (operator p h A) k (coef p h (c .factor)) (coef p h b)) d (end-verdict .kills)
+
+  -- two runs on one system
+  module _ {us us′ : List (ℕ → C)} (c c′ : Run) (I : Stands p h A b us c) (I′ : Stands p h A b us′ c′) (z : isZero (c .residual) ≡ true) (z′ : isZero (c′ .residual) ≡ true) where
+    pub same-ends : SameAnswer (close p A b c) (close p A b c′)
+    unfolding close
+    same-ends =
+        record {
+          kind = ap₂ (λ G k. verdict p A b G k .0) factor found;
+          vector = ap₂ (λ G k. verdict p A b G k .1) factor found;
+          polynomial = factor;
+        }
+      where
+        both : (c .found ≡ c′ .found) × (coef p h (c .factor) ≡ coef p h (c′ .factor))
+        both =
+            verdict-unique (residues p h) (size A) (operator p h A) (coef p h b) (operator-linear p h A) (end-verdict c I z) (end-verdict c′ I′ z′)
+
+        found : c .found ≡ c′ .found
+        found = both .0
+
+        factor : c .factor ≡ c′ .factor
+        factor =
+            coef-ext p h (c .factor) (c′ .factor) (I .reduced-factor) (I′ .reduced-factor)
+            (I .size-factor ∙ ap (λ k. k + 1) found ∙ sym (I′ .size-factor)) (λ i l. ap (λ (f : ℕ → C). f i) (both .1))
+
+  -- ---- runs from the beginning, with any list of projections
+
+  pub run-counted : (us : List (List ℕ)) → isZero (run p A us (begin b) .residual) ≡ true
+      → close p A b (run p A us (begin b)) .applications ≡ cond (isZero b) 0 (termCost (size A) (run p A us (begin b) .degrees) + (2 * run p A us (begin b) .found - 1))
+  unfolding close begin
+  run-counted us z = go (test-cases (isZero b))
+    where
+      c : Run
+      c = run p A us (begin b)
+
+      go : (isZero b ≡ true) ⊎ (isZero b ≡ false) → c .applications + (c .found - 1) ≡ cond (isZero b) 0 (termCost (size A) (c .degrees) + (2 * c .found - 1))
+      go (inl e) =
+          ap (λ (r : Run). r .applications + (r .found - 1)) (run-rest p h A b us (begin b) e)
+          ∙ ap (λ t. cond t 0 (termCost (size A) (c .degrees) + (2 * c .found - 1))) (sym e)
+      go (inr e) =
+          omega (arith, run-cost p h A b size-b reduced-b us, end-found c (run-begun p h A b size-b reduced-b us .stands) z e)
+          ∙ ap (λ t. cond t 0 (termCost (size A) (c .degrees) + (2 * c .found - 1))) (sym e)
+
+  pub thirdCondition : (us : List (List ℕ)) (words : List ℕ) → isZero (run p A us (begin b) .residual) ≡ true → length us ≡ length words / size A + size A
+      → ThirdCondition p A b words (close p A b (run p A us (begin b)))
+  unfolding close
+  thirdCondition us words z l =
+      record {
+        monic = end-monic c I z;
+        annihilates = end-annihilates c I z;
+        lowest = end-lowest c I z;
+        exactly = end-exactly c I z;
+        solves = end-solves c I z;
+        not-zero = end-not-zero c I z;
+        to-zero = end-to-zero c I z;
+        few = omega (arith, run-few p h A b size-b reduced-b us);
+        counted = run-counted us z;
+      }
+    where
+      c : Run
+      c = run p A us (begin b)
+
+      I : Stands p h A b (run-begun p h A b size-b reduced-b us .used) c
+      I = run-begun p h A b size-b reduced-b us .stands
+
+  pub sameAnswer : (us us′ : List (List ℕ)) → isZero (run p A us (begin b) .residual) ≡ true → isZero (run p A us′ (begin b) .residual) ≡ true
+      → SameAnswer (close p A b (run p A us (begin b))) (close p A b (run p A us′ (begin b)))
+  sameAnswer us us′ z z′ =
+      same-ends (run p A us (begin b)) (run p A us′ (begin b)) (run-begun p h A b size-b reduced-b us .stands) (run-begun p h A b size-b reduced-b us′ .stands) z z′
+
+  pub projections-zero : (words : List ℕ) → isZero (run p A (projections p (size A) words) (begin b) .residual) ≡ true
+  unfolding projections
+  projections-zero words = units-end p h A b size-b reduced-b (vectors p (size A) words)
+
+pub length-projections : (p n : ℕ) (words : List ℕ) → length (projections p n words) ≡ length words / n + n
+unfolding projections vectors units
+length-projections p n words = simp (length-append, length-table)
+
+-- ---- every run
+
+pub passed : (k : ℕ) (t : Bool) (cs : List Check) → k ≢ 0 → first (check k t ∷ cs) ≡ 0 → (t ≡ false) × (first cs ≡ 0)
+passed k t cs f e = go t (sym (first-cons (check k t) cs) ∙ e)
+  where
+    go : (t : Bool) → cond t k (first cs) ≡ 0 → (t ≡ false) × (first cs ≡ 0)
+    go true q = absurd (f q)
+    go false q = (refl, q)
+
+pub record Accepted (p : ℕ) (A : Matrix) (b : List ℕ) : Type 0 where
+  pub prime : Prime p
+  pub size-positive : 1 ≤ size A
+  pub size-b : length b ≡ size A
+  pub reduced-b : Reduced p b
+
+pub accepted : (p : ℕ) (A : Matrix) (b words : List ℕ) → first (runChecks p A b words) ≡ 0 → Accepted p A b
+unfolding runChecks systemChecks matrixChecks isModulus sizeTaken elements
+accepted p A b words e =
+    let three = passed 3 (not (isModulus p)) _ (omega arith) e in
+    let four = passed 4 (not (sizeTaken A)) _ (omega arith) (three .1) in
+    let five = passed 5 (not (startsTaken A)) _ (omega arith) (four .1) in
+    let six = passed 6 (not (columnsTaken A)) _ (omega arith) (five .1) in
+    let seven = passed 7 (not (every (valueTaken p) (A .values))) _ (omega arith) (six .1) in
+    let eight = passed 8 (not (eqb (length b) (size A))) _ (omega arith) (seven .1) in
+    let nine = passed 9 (not (elements p b)) _ (omega arith) (eight .1) in
+    record {
+      prime = isPrime-Prime p .0 (and-left (isPrime p) (leb p 2147483647) (not-false (isModulus p) (three .0)));
+      size-positive =
+          leb-true 1 (size A) (and-left (leb 1 (size A)) (leb (size A) 4096) (and-right (not (eqb (length (A .starts)) 0)) (leb 1 (size A) && leb (size A) 4096) (not-false (sizeTaken A) (four .0))));
+      size-b = eqb-true (length b) (size A) (not-false (eqb (length b) (size A)) (eight .0));
+      reduced-b = every-reduced p b (not-false (elements p b) (nine .0));
+    }
+
+pub everyRun : EveryRun
+unfolding solve
+everyRun p A b words e =
+    thirdCondition p (a .prime) A b (a .size-b) (a .reduced-b) (projections p (size A) words) words (projections-zero p (a .prime) A b (a .size-b) (a .reduced-b) words) (length-projections p (size A) words)
+  where
+    a : Accepted p A b
+    a = accepted p A b words e
+
+pub everyTwoRuns : EveryTwoRuns
+unfolding solve
+everyTwoRuns p A b words words′ e e′ =
+    sameAnswer p (a .prime) A b (a .size-b) (a .reduced-b) (projections p (size A) words) (projections p (size A) words′)
+    (projections-zero p (a .prime) A b (a .size-b) (a .reduced-b) words) (projections-zero p (a .prime) A b (a .size-b) (a .reduced-b) words′)
+  where
+    a : Accepted p A b
+    a = accepted p A b words e

@@ -1,0 +1,1 @@
+// Laws only: the meaning's notions are the theory's. See specs/.
