@@ -1,0 +1,213 @@
+-- RoundTrip, of the calls: what the writer leaves, given to the reader, and what the reader leaves, given to the writer.
+--     written p A b out        the bytes that the writer answers for, in the slice that held `out`
+--     ReadBack                 what the reader answers and leaves, given a written system
+--     write-then-read          .. for every system that the writer takes, and slices that are long enough
+--     readModulus, readSize, readCount       what the reader answers
+--     readMatrix, readRight    the leading parts of the slices that it leaves
+--     read-system              .. are the text's system
+--     WrittenAgain             what the writer answers and leaves, given a system that was read
+--     read-then-write          .. for every text that the reader takes, and a slice that is long enough
+use mathlib.Core.Path.{_≡_, refl, sym, ap, ap₂, _∙_, subst}
+use mathlib.Core.Bool.{true, not, cond, _&&_}
+use mathlib.Core.List.{List, [], _∷_}
+use Prim.Native.Nat.{ℕ, _+_, _≤_}
+use native.Mathlib.Omega.{arith}
+use lib.Dec.{leb}
+use lib.ListN.{length, take, drop, length-map}
+use lib.Seq.{take-append-seam, take-at}
+use borrow.Author.Tests.{le-leb, eq-eqb}
+use Rattle.meaning.specs.List.{every, overwrite}
+use Rattle.meaning.specs.Matrix.{Matrix, matrix, size}
+use Rattle.meaning.specs.Text.{Document, document, system, write}
+use Rattle.meaning.specs.Refusal.{check, first, unlessRefused, matrixChecks, documentChecks}
+use Rattle.meaning.specs.Calls.{systemChecks, textChecks, readerRefusal, readerAnswer, readerAfter, writerRefusal, writerAnswer, writerAfter}
+use Rattle.laws.specs.Bool.{and-both}
+use Rattle.laws.specs.List.{length-table}
+use Rattle.laws.specs.Refusal.{first-nil}
+use Rattle.text_laws.specs.Accepted.{numbered, first-pass, first-both, first-left, document-accepted}
+use Rattle.text_laws.specs.RoundTrip.{WrittenAndRead, written-and-read, ReadAndWritten, read-and-written, systemOf, text-accepted}
+
+-- what a call gives where nothing is refused
+given : {A : Type 0} (k : ℕ) (new old : A) → k ≡ 0 → unlessRefused k new old ≡ new
+given k new old e = ap (λ t. cond t new old) (eq-eqb k 0 e)
+
+system-numbered : (p : ℕ) (A : Matrix) (b : List ℕ) → numbered (systemChecks p A b) ≡ true
+unfolding numbered every systemChecks matrixChecks
+system-numbered p A b = refl
+
+text-numbered : (text : List ℕ) → numbered (textChecks text) ≡ true
+unfolding numbered every textChecks documentChecks
+text-numbered text = refl
+
+-- ---- what the writer leaves, given to the reader
+
+abbrev pub written : ℕ → Matrix → List ℕ → List ℕ → List ℕ
+written p A b out = take (writerAnswer p A b out) (writerAfter p A b out)
+
+pub record ReadBack (p : ℕ) (A : Matrix) (b text starts columns values right : List ℕ) : Type 0 where
+  pub taken : readerRefusal text starts columns values right ≡ 0
+  pub modulus : readerAnswer (λ d. d .modulus) text starts columns values right ≡ p
+  pub order : readerAnswer (λ d. d .size) text starts columns values right ≡ size A
+  pub count : readerAnswer (λ d. d .count) text starts columns values right ≡ length (A .columns)
+  pub starts-after : readerAfter (λ s. s .matrix .starts) starts text starts columns values right ≡ overwrite (A .starts) starts
+  pub columns-after : readerAfter (λ s. s .matrix .columns) columns text starts columns values right ≡ overwrite (A .columns) columns
+  pub values-after : readerAfter (λ s. s .matrix .values) values text starts columns values right ≡ overwrite (A .values) values
+  pub right-after : readerAfter (λ s. s .right) right text starts columns values right ≡ overwrite b right
+
+reader-takes : (text starts columns values right : List ℕ) → first (textChecks text) ≡ 0 → document text .size + 1 ≤ length starts
+    → document text .count ≤ length columns → document text .count ≤ length values → document text .size ≤ length right
+    → readerRefusal text starts columns values right ≡ 0
+unfolding readerRefusal
+reader-takes text starts columns values right e s c v r =
+    let d = document text in
+    first-both (textChecks text)
+    (check 11
+    (not
+    (leb (d .size + 1) (length starts) && leb (d .count) (length columns) && leb (d .count) (length values) && leb (d .size) (length right)))
+    ∷ [])
+    (text-numbered text) e
+    (first-pass 11 _ []
+    (and-both (and-both (and-both (le-leb (d .size + 1) (length starts) s) (le-leb (d .count) (length columns) c))
+    (le-leb (d .count) (length values) v))
+    (le-leb (d .size) (length right) r))
+    first-nil)
+
+read-back : (p : ℕ) (A : Matrix) (b starts columns values right : List ℕ) → WrittenAndRead p A b → size A + 1 ≤ length starts
+    → length (A .columns) ≤ length columns → length (A .columns) ≤ length values → size A ≤ length right
+    → ReadBack p A b (write p A b) starts columns values right
+read-back p A b starts columns values right w s c v r =
+    let text = write p A b in
+    let k : readerRefusal text starts columns values right ≡ 0 =
+    reader-takes text starts columns values right (w .accepted) (omega (arith, s, w .order)) (omega (arith, c, w .count))
+    (omega (arith, v, w .count))
+    (omega (arith, r, w .order)) in
+    record {
+      taken = k;
+      modulus = given (readerRefusal text starts columns values right) (document text .modulus) 0 k ∙ w .modulus;
+      order = given (readerRefusal text starts columns values right) (document text .size) 0 k ∙ w .order;
+      count = given (readerRefusal text starts columns values right) (document text .count) 0 k ∙ w .count;
+      starts-after =
+          given (readerRefusal text starts columns values right) (overwrite (systemOf text .matrix .starts) starts) starts k
+          ∙ ap (λ x. overwrite (x .matrix .starts) starts) (w .comes-back);
+      columns-after =
+          given (readerRefusal text starts columns values right) (overwrite (systemOf text .matrix .columns) columns) columns k
+          ∙ ap (λ x. overwrite (x .matrix .columns) columns) (w .comes-back);
+      values-after =
+          given (readerRefusal text starts columns values right) (overwrite (systemOf text .matrix .values) values) values k
+          ∙ ap (λ x. overwrite (x .matrix .values) values) (w .comes-back);
+      right-after =
+          given (readerRefusal text starts columns values right) (overwrite (systemOf text .right) right) right k
+          ∙ ap (λ x. overwrite (x .right) right) (w .comes-back);
+    }
+
+pub write-then-read : (p : ℕ) (A : Matrix) (b out starts columns values right : List ℕ) → writerRefusal p A b out ≡ 0
+    → size A + 1 ≤ length starts
+    → length (A .columns) ≤ length columns → length (A .columns) ≤ length values → size A ≤ length right
+    → ReadBack p A b (written p A b out) starts columns values right
+unfolding writerRefusal
+write-then-read p A b out starts columns values right e s c v r =
+    let k : writerRefusal p A b out ≡ 0 = e in
+    let bytes : written p A b out ≡ write p A b =
+    ap₂ take (given (writerRefusal p A b out) (length (write p A b)) 0 k) (given (writerRefusal p A b out) (overwrite (write p A b) out) out k)
+    ∙ take-append-seam (write p A b) (drop (length (write p A b)) out) in
+    subst (λ text. ReadBack p A b text starts columns values right) (sym bytes)
+    (read-back p A b starts columns values right
+    (written-and-read p A b
+    (first-left (systemChecks p A b) (check 11 (not (leb (length (write p A b)) (length out))) ∷ []) (system-numbered p A b) e))
+    s c v r)
+
+-- ---- what the reader leaves, given to the writer
+
+pub record WrittenAgain (p : ℕ) (A : Matrix) (b text out : List ℕ) : Type 0 where
+  pub taken : writerRefusal p A b out ≡ 0
+  pub answer : writerAnswer p A b out ≡ length text
+  pub after : writerAfter p A b out ≡ overwrite text out
+
+written-again : (text out : List ℕ) → ReadAndWritten text → length text ≤ length out
+    → WrittenAgain (systemOf text .modulus) (systemOf text .matrix) (systemOf text .right) text out
+unfolding writerRefusal
+written-again text out w l =
+    let s = systemOf text in
+    let t = write (s .modulus) (s .matrix) (s .right) in
+    let k : writerRefusal (s .modulus) (s .matrix) (s .right) out ≡ 0 =
+    first-both (systemChecks (s .modulus) (s .matrix) (s .right)) (check 11 (not (leb (length t) (length out))) ∷ [])
+    (system-numbered (s .modulus) (s .matrix) (s .right)) (w .accepted)
+    (first-pass 11 (leb (length t) (length out)) [] (le-leb (length t) (length out)
+    (omega (arith, l, ap length (w .same-bytes)))) first-nil) in
+    record {
+      taken = k;
+      answer = given (writerRefusal (s .modulus) (s .matrix) (s .right) out) (length t) 0 k ∙ ap length (w .same-bytes);
+      after =
+          given (writerRefusal (s .modulus) (s .matrix) (s .right) out) (overwrite t out) out k
+          ∙ ap (λ x. overwrite x out) (w .same-bytes);
+    }
+
+-- the lengths of a document's system
+starts-length : (d : Document) → length (system d .matrix .starts) ≡ d .size + 1
+unfolding system
+starts-length d = length-table (d .size + 1) _
+
+columns-length : (d : Document) → length (system d .matrix .columns) ≡ length (d .entries)
+unfolding system
+columns-length d = length-map (d .entries) _
+
+values-length : (d : Document) → length (system d .matrix .values) ≡ length (d .entries)
+unfolding system
+values-length d = length-map (d .entries) _
+
+right-length : (d : Document) → length (system d .right) ≡ d .size
+unfolding system
+right-length d = length-table (d .size) _
+
+system-modulus : (d : Document) → system d .modulus ≡ d .modulus
+unfolding system
+system-modulus d = refl
+
+-- the leading part of a slice that was filled
+leading : (k m n : ℕ) (l old : List ℕ) → k ≡ 0 → n ≡ m → length l ≡ m → take n (unlessRefused k (overwrite l old) old) ≡ l
+leading k m n l old e q h = ap₂ take q (given k (overwrite l old) old e) ∙ take-at l (drop (length l) old) m h
+
+module _ (text starts columns values right : List ℕ) where
+  abbrev pub readModulus : ℕ
+  readModulus = readerAnswer (λ d. d .modulus) text starts columns values right
+
+  abbrev pub readSize : ℕ
+  readSize = readerAnswer (λ d. d .size) text starts columns values right
+
+  abbrev pub readCount : ℕ
+  readCount = readerAnswer (λ d. d .count) text starts columns values right
+
+  abbrev pub readMatrix : Matrix
+  readMatrix =
+      matrix (take (readSize + 1) (readerAfter (λ s. s .matrix .starts) starts text starts columns values right))
+      (take readCount (readerAfter (λ s. s .matrix .columns) columns text starts columns values right))
+      (take readCount (readerAfter (λ s. s .matrix .values) values text starts columns values right))
+
+  abbrev pub readRight : List ℕ
+  readRight = take readSize (readerAfter (λ s. s .right) right text starts columns values right)
+
+  reader-taken : readerRefusal text starts columns values right ≡ 0 → first (textChecks text) ≡ 0
+  unfolding readerRefusal
+  reader-taken e = first-left (textChecks text) _ (text-numbered text) e
+
+  -- the system in the leading parts is the text's
+  pub read-system : readerRefusal text starts columns values right ≡ 0
+      → record { modulus = readModulus; matrix = readMatrix; right = readRight } ≡ systemOf text
+  read-system e =
+      let d = document text in
+      let k = readerRefusal text starts columns values right in
+      let a = document-accepted d (text-accepted text (reader-taken e) .2) in
+      let n : readSize ≡ d .size = given k (d .size) 0 e in
+      let c : readCount ≡ length (d .entries) = given k (d .count) 0 e ∙ a .counted in
+      let p = given k (d .modulus) 0 e ∙ sym (system-modulus d) in
+      let ss = leading k (d .size + 1) (readSize + 1) (system d .matrix .starts) starts e (ap (λ x. x + 1) n) (starts-length d) in
+      let cs = leading k (length (d .entries)) readCount (system d .matrix .columns) columns e c (columns-length d) in
+      let vs = leading k (length (d .entries)) readCount (system d .matrix .values) values e c (values-length d) in
+      let rs = leading k (d .size) readSize (system d .right) right e n (right-length d) in
+      λ i. record { modulus = p i; matrix = matrix (ss i) (cs i) (vs i); right = rs i }
+
+  pub read-then-write : (out : List ℕ) → readerRefusal text starts columns values right ≡ 0 → length text ≤ length out
+      → WrittenAgain readModulus readMatrix readRight text out
+  read-then-write out e l =
+      subst (λ x. WrittenAgain (x .modulus) (x .matrix) (x .right) text out) (sym (read-system e))
+      (written-again text out (read-and-written text (reader-taken e)) l)

@@ -1,0 +1,1 @@
+// Laws of the system text. There is no code here: see specs/.
