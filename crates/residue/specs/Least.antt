@@ -2,8 +2,8 @@
 --     least-zero, least-now, least-later      its clauses
 --     least-is         the first place at which f holds
 --     least-none       n, where f holds nowhere below n
-use mathlib.Core.Path.{_≡_, refl, sym, ap, _∙_}
-use mathlib.Core.Bool.{Bool, true, false, cond, true≢false}
+use mathlib.Core.Path.{_≡_, refl, ap, _∙_}
+use mathlib.Core.Bool.{Bool, true, false, cond}
 use Prim.Native.Nat.{ℕ, zero, suc, _<_}
 use native.Mathlib.Omega.{arith}
 use Rattle.meaning.specs.List.{least}
