@@ -1,0 +1,2 @@
+-- What the writing calls leave.
+pub mod Placed
