@@ -1,0 +1,9 @@
+-- laws that only the proofs here use
+pub mod Elements
+pub mod Shoup
+pub mod Turning
+pub mod Turn
+pub mod Kept
+pub mod Stepped
+pub mod Found
+pub mod Recurred

@@ -1,0 +1,99 @@
+use mathlib.Core.Path.{_≡_, refl, sym, _∙_}
+use native.Mathlib.Omega.{arith}
+use denote.Ref.{now}
+use Rattle.meaning.specs.Matrix.{matrix, apply}
+use Rattle.meaning.specs.Calls.{applyRefusal}
+use Rattle.wiedemann.specs.Checks.{Applicable, apply-accepted, unlessRefused-none, unlessRefused-some}
+use borrow.Author.Needs.{needs}
+use Rattle.wiedemann.proofs.matrix.apply.Statement.{statement}
+use Rattle.wiedemann.proofs.matrix.apply.Tie as tie
+use Rattle.wiedemann.proofs.matrix.apply.Reads as reads
+use Rattle.wiedemann.proofs.matrix.apply.Lts as lts
+use Rattle.wiedemann.proofs.matrix.horner.Reads as horner-reads
+use Rattle.wiedemann.proofs.refusal.apply_refusal.Reads as apply-refusal-reads
+use Rattle.wiedemann.proofs.sums.weight.Reads as weight-reads
+
+none : (c : tie.Else1)
+    → let at = c .before .before .before .before .before .before .before .before .before .before .before .args in
+    applyRefusal (at .field .p) (matrix (now (c .before .before .before .before .before .before .before .before .before .before .before .args .starts)) (now (c .before .before .before .before .before .before .before .before .before .before .before .args .columns)) (now (c .before .before .before .before .before .before .before .before .before .before .before .args .values))) (now (at .g)) (now (at .v)) (now (at .out)) (now (at .work)) ≡ 0
+none c = sym (c .before .apply-refusal .ensures) ∙ c .if1 .left
+
+accepted : (c : tie.Else1)
+    → let at = c .before .before .before .before .before .before .before .before .before .before .before .args in
+    Applicable (at .field .p) (matrix (now (c .before .before .before .before .before .before .before .before .before .before .before .args .starts)) (now (c .before .before .before .before .before .before .before .before .before .before .before .args .columns)) (now (c .before .before .before .before .before .before .before .before .before .before .before .args .values))) (now (at .g)) (now (at .v)) (now (at .out)) (now (at .work))
+accepted c =
+    let at = c .before .before .before .before .before .before .before .before .before .before .before .args in
+    apply-accepted (at .field .p) (matrix (now (c .before .before .before .before .before .before .before .before .before .before .before .args .starts)) (now (c .before .before .before .before .before .before .before .before .before .before .before .args .columns)) (now (c .before .before .before .before .before .before .before .before .before .before .before .args .values))) (now (at .g)) (now (at .v)) (now (at .out)) (now (at .work)) (none c)
+
+-- src/matrix.rt:400:9
+apply-refusal-requires : tie.Need-apply-refusal-requires
+apply-refusal-requires c κs = search needs
+
+-- src/matrix.rt:402:9
+same-length : tie.Need-same-length
+same-length c = search needs
+
+-- src/matrix.rt:402:9
+same-length-2 : tie.Need-same-length-2
+same-length-2 c = search needs
+
+-- src/matrix.rt:402:9
+returns : tie.Need-returns
+returns c =
+    let at = c .before .before .before .before .before .before .before .before .before .before .before .args in
+    let A = (matrix (now (c .before .before .before .before .before .before .before .before .before .before .before .args .starts)) (now (c .before .before .before .before .before .before .before .before .before .before .before .args .columns)) (now (c .before .before .before .before .before .before .before .before .before .before .before .args .values))) in
+    let number = c .before .apply-refusal .ensures in (
+      (sym number, c .if1 .taken),
+      (
+        sym
+            (unlessRefused-some (applyRefusal (at .field .p) A (now (at .g)) (now (at .v)) (now (at .out)) (now (at .work))) (apply (at .field .p) A (now (at .g)) (now (at .v))) (now (at .out)) (λ e. c .if1 .taken (number ∙ e))),
+        λ q. refl,
+      ),
+    )
+
+-- src/matrix.rt:404:15
+weight-requires : tie.Need-weight-requires
+weight-requires c κs = accepted c .valid .positive
+
+-- src/matrix.rt:404:5
+horner-requires : tie.Need-horner-requires
+horner-requires c κs =
+    let known = accepted (c .before .before .before) in
+    (known .valid, (c .before .before .weight .ensures, known .places, omega (arith, known .places, known .room), known .vector, known .some, known .coefficients))
+
+-- src/matrix.rt:386:1
+same-length-3 : tie.Need-same-length-3
+same-length-3 c = search needs
+
+-- src/matrix.rt:386:1
+same-length-4 : tie.Need-same-length-4
+same-length-4 c = search needs
+
+-- src/matrix.rt:386:1
+returns-2 : tie.Need-returns-2
+returns-2 c =
+    let at = c .before .before .before .before .before .before .before .before .before .before .before .before .before .before .before .before .before .before .before .args in
+    let A = (matrix (now (c .before .before .before .before .before .before .before .before .before .before .before .before .before .before .before .before .before .before .before .args .starts)) (now (c .before .before .before .before .before .before .before .before .before .before .before .before .before .before .before .before .before .before .before .args .columns)) (now (c .before .before .before .before .before .before .before .before .before .before .before .before .before .before .before .before .before .before .before .args .values))) in
+    let zero = none (c .before .before .before .before .before .before .before .before) in (
+      zero,
+      (
+        c .before .before .before .before .horner .ensures
+            ∙ sym
+            (unlessRefused-none (applyRefusal (at .field .p) A (now (at .g)) (now (at .v)) (now (at .out)) (now (at .work))) (apply (at .field .p) A (now (at .g)) (now (at .v))) (now (at .out)) zero),
+        λ q. absurd (q zero),
+      ),
+    )
+
+pub apply-spec : {M : Type 1} → statement M
+apply-spec =
+    tie.close
+    (tie.spec
+    apply-refusal-requires
+    same-length
+    same-length-2
+    returns
+    weight-requires
+    horner-requires
+    same-length-3
+    same-length-4
+    returns-2)

@@ -1,0 +1,88 @@
+use mathlib.Core.Path.{_≡_, sym, _∙_}
+use Prim.Native.Nat.{_+_, _-_, _≤_}
+use native.Mathlib.Omega.{arith}
+use denote.Ref.{now}
+use Rattle.wiedemann.specs.Sums.{sumFrom-one, Summed, summed-none, summed-more}
+use Rattle.wiedemann.specs.Valid.{term}
+use borrow.Author.Needs.{needs}
+use Rattle.wiedemann.proofs.matrix.ones.Statement.{statement}
+use Rattle.wiedemann.proofs.matrix.ones.Tie as tie
+use Rattle.wiedemann.proofs.matrix.ones.Reads as reads
+use Rattle.wiedemann.proofs.matrix.ones.Lts as lts
+use Rattle.wiedemann.proofs.matrix.entry.Reads as entry-reads
+use Rattle.wiedemann.proofs.sums.Total.add.Reads as add-reads
+
+abbrev Inv-loop : tie.InvT-loop
+Inv-loop from to columns values v sum₀ k₀ sum k =
+    (from ≤ k) × (k ≤ to) × Summed sum₀ sum from k (term columns values v)
+
+abbrev μ-loop : tie.MeasureT-loop
+μ-loop from to columns values v sum₀ k₀ sum k = to - k
+
+-- src/matrix.rt:53:5
+loop-holds : tie.Need-loop-holds Inv-loop μ-loop
+loop-holds c =
+    let start = c .before .before .before in
+    let at = start .args in (
+      omega arith,
+      start .pre .1 .0,
+      summed-none (at .total) (at .from) (term (now (at .columns)) (now (at .values)) (now (at .v))) (start .pre .1 .2),
+    )
+
+-- src/matrix.rt:54:23
+entry-requires : tie.Need-entry-requires Inv-loop μ-loop
+entry-requires c κs = search needs
+
+-- src/matrix.rt:54:9
+add-requires : tie.Need-add-requires Inv-loop μ-loop
+add-requires c κs =
+    let start = c .before .before .before .before .before .before in
+    let held = c .before .before .loop .inv in
+    omega (arith, held .1, held .2 .carries, start .pre .1 .1, start .pre .0 .few)
+
+-- src/matrix.rt:55:9
+add-k : tie.Need-add-k Inv-loop μ-loop
+add-k c =
+    let start = c .before .before .before .before .before .before .before in
+    omega (arith, c .before .before .loop-test .taken, start .pre .1 .1, start .pre .0 .few)
+
+-- src/matrix.rt:53:5
+loop-less : tie.Need-loop-less Inv-loop μ-loop
+loop-less c = omega (arith, c .before .before .loop-test .taken)
+
+-- src/matrix.rt:53:5
+loop-again : tie.Need-loop-again Inv-loop μ-loop
+loop-again c =
+    let start = c .before .before .before .before .before .before .before in
+    let at = start .args in
+    let loop = c .before .before .before .loop in
+    let test = c .before .before .loop-test .taken in
+    let k = loop .k in
+    let f = term (now (at .columns)) (now (at .values)) (now (at .v)) in (
+      omega (arith, loop .inv .0),
+      omega (arith, test),
+      summed-more (at .total) (loop .sum) (c .add .result) (at .from) k (k + 1) f (c .before .entry .result)
+          (loop .inv .0) (omega arith) (loop .inv .2) (c .before .entry .ensures .0 ∙ sym (sumFrom-one k f)) (c .add .ensures),
+    )
+
+-- src/matrix.rt:46:1
+returns : tie.Need-returns Inv-loop μ-loop
+returns c =
+    let at = c .before .before .before .before .before .args in
+    let loop = c .before .loop in
+    let end : loop .k ≡ at .to = omega (arith, loop .inv .1, c .loop-test .left) in
+    rw (← end) (loop .inv .2)
+
+pub ones-spec : {M : Type 1} → statement M
+ones-spec =
+    tie.close
+    (tie.spec
+    Inv-loop
+    μ-loop
+    loop-holds
+    entry-requires
+    add-requires
+    add-k
+    loop-less
+    loop-again
+    returns)

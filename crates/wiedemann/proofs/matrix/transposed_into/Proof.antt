@@ -1,0 +1,169 @@
+use mathlib.Core.Path.{_≡_, refl, sym, ap, ap₂, _∙_, subst}
+use Prim.Native.Nat.{_+_, _-_, _≤_, _<_}
+use native.Mathlib.Numerals.{add-one}
+use native.Mathlib.Omega.{arith}
+use lib.ListN.{length, getD}
+use denote.Ref.{now}
+use Rattle.meaning.specs.List.{zeros}
+use Rattle.meaning.specs.Matrix.{matrix}
+use Rattle.wiedemann.specs.Valid.{Vector}
+use Rattle.wiedemann.specs.Transposed.{scattered, gathered, gathered-none, gathered-more, gathered-all, vector-gathered}
+use borrow.Author.Needs.{needs}
+use Rattle.wiedemann.proofs.matrix.transposed_into.Statement.{statement}
+use Rattle.wiedemann.proofs.matrix.transposed_into.Tie as tie
+use Rattle.wiedemann.proofs.matrix.transposed_into.Reads as reads
+use Rattle.wiedemann.proofs.matrix.transposed_into.Lts as lts
+use Rattle.wiedemann.proofs.matrix.clear.Reads as clear-reads
+use Rattle.wiedemann.proofs.matrix.scatter.Reads as scatter-reads
+use Rattle.wiedemann.proofs.sums.wide.Reads as wide-reads
+
+abbrev Inv-loop : tie.InvT-loop
+Inv-loop p starts columns values v out₀ i₀ out i =
+    (i ≤ length v) × (out ≡ gathered p (matrix starts columns values) v i)
+
+abbrev μ-loop : tie.MeasureT-loop
+μ-loop p starts columns values v out₀ i₀ out i = length v - i
+
+vector : (c : tie.At-loop Inv-loop μ-loop) → Vector (c .before .before .before .before .before .before .before .before .before .before .args .p) (length (now (c .before .before .before .before .before .before .before .before .before .before .args .starts)) - 1) (c .loop .out)
+vector c =
+    let start = c .before .before .before .before .before .before .before .before .before .before in
+    let at = start .args in
+    subst (λ l. Vector (at .p) (length (now (at .starts)) - 1) l) (sym (c .loop .inv .1))
+    (vector-gathered (at .p) (matrix (now (at .starts)) (now (at .columns)) (now (at .values))) (now (at .v)) (c .loop .i) (start .pre .0 .positive))
+
+inside : (c : tie.In-loop Inv-loop μ-loop) → c .before .loop .i < length (now (c .before .before .before .before .before .before .before .before .before .before .before .args .starts)) - 1
+inside c = omega (arith, c .loop-test .taken, c .before .before .before .before .before .before .before .before .before .before .before .pre .1 .1 .places)
+
+-- src/matrix.rt:305:5
+clear-requires : tie.Need-clear-requires Inv-loop μ-loop
+clear-requires c κs = search needs
+
+-- src/matrix.rt:307:5
+loop-holds : tie.Need-loop-holds Inv-loop μ-loop
+loop-holds c =
+    let start = c .before .before .before .before .before .before .before .before .before in
+    let at = start .args in (
+      omega arith,
+      c .before .before .clear .ensures ∙ ap zeros (start .pre .1 .0)
+          ∙ gathered-none (at .p) (matrix (now (at .starts)) (now (at .columns)) (now (at .values))) (now (at .v)),
+    )
+
+-- src/matrix.rt:308:20
+mul-scatter : tie.Need-mul-scatter Inv-loop μ-loop
+mul-scatter c = search needs
+
+-- src/matrix.rt:308:20
+shared-slice-read-scatter : tie.Need-shared-slice-read-scatter Inv-loop μ-loop
+shared-slice-read-scatter c = search needs
+
+-- src/matrix.rt:308:31
+mul-wide : tie.Need-mul-wide Inv-loop μ-loop
+mul-wide c = search needs
+
+-- src/matrix.rt:308:31
+shared-slice-read-wide : tie.Need-shared-slice-read-wide Inv-loop μ-loop
+shared-slice-read-wide c = omega (arith, inside (c .before .before), c .before .before .before .before .before .before .before .before .before .before .before .before .before .pre .0 .one-more)
+
+-- src/matrix.rt:308:26
+wide-requires : tie.Need-wide-requires Inv-loop μ-loop
+wide-requires c κs = search needs
+
+-- src/matrix.rt:308:55
+add-wide : tie.Need-add-wide Inv-loop μ-loop
+add-wide c = search needs
+
+-- src/matrix.rt:308:48
+mul-wide-2 : tie.Need-mul-wide-2 Inv-loop μ-loop
+mul-wide-2 c = search needs
+
+-- src/matrix.rt:308:48
+shared-slice-read-wide-2 : tie.Need-shared-slice-read-wide-2 Inv-loop μ-loop
+shared-slice-read-wide-2 c = omega (arith, inside (c .before .before .before .before), c .before .before .before .before .before .before .before .before .before .before .before .before .before .before .before .pre .0 .one-more)
+
+-- src/matrix.rt:308:43
+wide-requires-2 : tie.Need-wide-requires-2 Inv-loop μ-loop
+wide-requires-2 c κs = search needs
+
+-- src/matrix.rt:308:9
+scatter-requires : tie.Need-scatter-requires Inv-loop μ-loop
+scatter-requires c κs =
+    let start = c .before .before .before .before .before .before .before .before .before .before .before .before .before .before .before .before .before in
+    let at = start .args in
+    let known = start .pre .0 in
+    let i = c .before .before .before .before .before .before .before .loop .i in
+    let within = inside (c .before .before .before .before .before .before) in
+    let from = c .before .before .before .wide .ensures .0 in
+    let to = c .before .wide2 .ensures .0 in
+    let before = vector (c .before .before .before .before .before .before .before) in (
+      (
+        start .pre .1 .1 .below i within,
+        known .small,
+        omega (arith, from, to, known .rise i within),
+        omega (arith, to, known .within i within),
+        known .paired,
+        record { places = refl; below = λ j l. before .below j (omega (arith, l, before .places)) },
+      ),
+      λ k l. omega (arith, known .column k l, before .places),
+    )
+
+-- src/matrix.rt:309:9
+add-i : tie.Need-add-i Inv-loop μ-loop
+add-i c = search needs
+
+-- src/matrix.rt:307:5
+loop-less : tie.Need-loop-less Inv-loop μ-loop
+loop-less c = omega (arith, c .before .before .before .before .before .before .before .before .before .loop-test .taken)
+
+-- src/matrix.rt:307:5
+loop-again : tie.Need-loop-again Inv-loop μ-loop
+loop-again c =
+    let start = c .before .before .before .before .before .before .before .before .before .before .before .before .before .before .before .before .before .before .before .before in
+    let at = start .args in
+    let loop = c .before .before .before .before .before .before .before .before .before .before .loop in
+    let i = loop .i in
+    let element = getD (now (at .v)) i 0 in
+    let A = matrix (now (at .starts)) (now (at .columns)) (now (at .values)) in (
+      omega (arith, c .before .before .before .before .before .before .before .before .before .loop-test .taken),
+      c .before .before .scatter .ensures
+          ∙ ap₂ (λ a e. scattered (at .p) element a e (now (at .columns)) (now (at .values)) (loop .out)) (c .before .before .before .before .before .before .wide .ensures .0) (c .before .before .before .before .wide2 .ensures .0)
+          ∙ ap (scattered (at .p) element (getD (now (at .starts)) i 0) (getD (now (at .starts)) (i + 1) 0) (now (at .columns)) (now (at .values))) (loop .inv .1)
+          ∙ gathered-more (at .p) A (now (at .v)) i ∙ ap (gathered (at .p) A (now (at .v))) (sym (add-one i)),
+    )
+
+-- src/matrix.rt:293:1
+same-length : tie.Need-same-length Inv-loop μ-loop
+same-length c = vector (c .before) .places ∙ sym (c .before .before .before .before .before .before .before .before .before .before .before .pre .1 .0)
+
+-- src/matrix.rt:293:1
+returns : tie.Need-returns Inv-loop μ-loop
+returns c =
+    let start = c .before .before .before .before .before .before .before .before .before .before .before in
+    let at = start .args in
+    let A = matrix (now (at .starts)) (now (at .columns)) (now (at .values)) in
+    let loop = c .before .loop in
+    let end : loop .i ≡ length (now (at .starts)) - 1 = omega (arith, loop .inv .0, c .loop-test .left, start .pre .1 .1 .places) in
+    loop .inv .1 ∙ ap (gathered (at .p) A (now (at .v))) end ∙ gathered-all (at .p) A (now (at .v))
+
+pub transposed-into-spec : {M : Type 1} → statement M
+transposed-into-spec =
+    tie.close
+    (tie.spec
+    Inv-loop
+    μ-loop
+    clear-requires
+    loop-holds
+    mul-scatter
+    shared-slice-read-scatter
+    mul-wide
+    shared-slice-read-wide
+    wide-requires
+    add-wide
+    mul-wide-2
+    shared-slice-read-wide-2
+    wide-requires-2
+    scatter-requires
+    add-i
+    loop-less
+    loop-again
+    same-length
+    returns)

@@ -1,0 +1,64 @@
+use mathlib.Core.Path.{_≡_, sym, ap, _∙_, subst}
+use Prim.Native.Nat.{_-_}
+use native.Mathlib.Omega.{arith}
+use lib.ListN.{length}
+use denote.Ref.{now}
+use Rattle.meaning.specs.Matrix.{matrix}
+use Rattle.wiedemann.specs.Valid.{Vector}
+use Rattle.wiedemann.specs.Region.{part, written-copy}
+use Rattle.wiedemann.specs.Horner.{step}
+use borrow.Author.Needs.{needs}
+use Rattle.wiedemann.proofs.matrix.turn.Statement.{statement}
+use Rattle.wiedemann.proofs.matrix.turn.Tie as tie
+use Rattle.wiedemann.proofs.matrix.turn.Reads as reads
+use Rattle.wiedemann.proofs.matrix.turn.Lts as lts
+use Rattle.wiedemann.proofs.matrix.copy_front.Reads as copy-front-reads
+use Rattle.wiedemann.proofs.matrix.step_from.Reads as step-from-reads
+
+-- src/matrix.rt:228:5
+copy-front-requires : tie.Need-copy-front-requires
+copy-front-requires c κs = search needs
+
+front : (c : tie.After-copy-front)
+    → part 0 (length (now (c .before .before .before .before .before .before .before .before .before .args .starts)) - 1) (c .copy-front .last .1 .0) ≡ now (c .before .before .before .before .before .before .before .before .before .args .out)
+front c =
+    let start = c .before .before .before .before .before .before .before .before .before in
+    written-copy (now (start .args .work)) (now (start .args .out)) (length (now (start .args .starts)) - 1) (c .copy-front .last .1 .0)
+    (start .pre .1 .3 .places) (start .pre .1 .2) (c .copy-front .ensures)
+
+-- src/matrix.rt:229:5
+step-from-requires : tie.Need-step-from-requires
+step-from-requires c κs =
+    let start = c .before .before .before .before .before .before .before .before .before .before .before .before .before in
+    let pre = start .pre in
+    let vector = pre .1 .3 in
+    let at = start .args in
+    let kept = c .before .before .before .before .copy-front .ensures .same-length in (
+      pre .0,
+      (
+        pre .1 .0,
+        vector .places,
+        pre .1 .1,
+        omega (arith, pre .1 .2, kept),
+        subst (λ l. Vector (at .p) (length (now (at .starts)) - 1) l) (sym (front (c .before .before .before .before))) vector,
+      ),
+    )
+
+-- src/matrix.rt:213:1
+same-length : tie.Need-same-length
+same-length c = search needs
+
+-- src/matrix.rt:213:1
+same-length-2 : tie.Need-same-length-2
+same-length-2 c = search needs
+
+-- src/matrix.rt:213:1
+returns : tie.Need-returns
+returns c =
+    let at = c .before .before .before .before .before .before .before .before .before .before .before .before .before .before .before .before .args in
+    c .before .before .step-from .ensures
+    ∙ ap (step (at .p) (matrix (now (at .starts)) (now (at .columns)) (now (at .values))) (at .c) (now (at .x))) (front (c .before .before .before .before .before .before .before))
+
+pub turn-spec : {M : Type 1} → statement M
+turn-spec =
+    tie.close (tie.spec copy-front-requires step-from-requires same-length same-length-2 returns)

@@ -1,0 +1,72 @@
+use mathlib.Core.Path.{_≡_, sym, _∙_}
+use mathlib.Core.Bool.{false}
+use Prim.Native.Nat.{_-_}
+use lib.ListN.{length}
+use denote.Ref.{now}
+use Rattle.meaning.specs.Matrix.{matrix}
+use Rattle.meaning.specs.Solver.{takes}
+use Rattle.meaning.specs.Calls.{takesRefusal, takesAnswer}
+use Rattle.wiedemann.specs.Checks.{Accepted, takes-accepted, takes-all, unlessRefused-none, unlessRefused-some}
+use borrow.Author.Needs.{needs}
+use Rattle.wiedemann.proofs.offered.takes.Statement.{statement}
+use Rattle.wiedemann.proofs.offered.takes.Tie as tie
+use Rattle.wiedemann.proofs.offered.takes.Reads as reads
+use Rattle.wiedemann.proofs.offered.takes.Lts as lts
+use Rattle.wiedemann.proofs.offered.agrees.Reads as agrees-reads
+use Rattle.wiedemann.proofs.refusal.takes_refusal.Reads as takes-refusal-reads
+use Rattle.wiedemann.proofs.sums.weight.Reads as weight-reads
+
+none : (c : tie.Else1) → takesRefusal (c .before .before .before .before .before .before .before .args .field .p) (matrix (now (c .before .before .before .before .before .before .before .args .starts)) (now (c .before .before .before .before .before .before .before .args .columns)) (now (c .before .before .before .before .before .before .before .args .values))) (now (c .before .before .before .before .before .before .before .args .x)) (now (c .before .before .before .before .before .before .before .args .b)) ≡ 0
+none c = sym (c .before .takes-refusal .ensures) ∙ c .if1 .left
+
+accepted : (c : tie.Else1)
+    → Accepted (c .before .before .before .before .before .before .before .args .field .p) (matrix (now (c .before .before .before .before .before .before .before .args .starts)) (now (c .before .before .before .before .before .before .before .args .columns)) (now (c .before .before .before .before .before .before .before .args .values))) (now (c .before .before .before .before .before .before .before .args .x)) × (length (now (c .before .before .before .before .before .before .before .args .b)) ≡ length (now (c .before .before .before .before .before .before .before .args .starts)) - 1)
+accepted c = takes-accepted (c .before .before .before .before .before .before .before .args .field .p) (matrix (now (c .before .before .before .before .before .before .before .args .starts)) (now (c .before .before .before .before .before .before .before .args .columns)) (now (c .before .before .before .before .before .before .before .args .values))) (now (c .before .before .before .before .before .before .before .args .x)) (now (c .before .before .before .before .before .before .before .args .b)) (none c)
+
+answer : (c : tie.After-agrees) → takesAnswer (c .before .before .before .before .before .before .before .before .before .args .field .p) (matrix (now (c .before .before .before .before .before .before .before .before .before .args .starts)) (now (c .before .before .before .before .before .before .before .before .before .args .columns)) (now (c .before .before .before .before .before .before .before .before .before .args .values))) (now (c .before .before .before .before .before .before .before .before .before .args .x)) (now (c .before .before .before .before .before .before .before .before .before .args .b)) ≡ c .agrees .result
+answer c =
+    let at = c .before .before .before .before .before .before .before .before .before .args in
+    let A = (matrix (now (c .before .before .before .before .before .before .before .before .before .args .starts)) (now (c .before .before .before .before .before .before .before .before .before .args .columns)) (now (c .before .before .before .before .before .before .before .before .before .args .values))) in
+    let known = accepted (c .before .before) in
+    unlessRefused-none (takesRefusal (at .field .p) A (now (at .x)) (now (at .b))) (takes (at .field .p) A (now (at .x)) (now (at .b))) false
+    (none (c .before .before))
+    ∙ takes-all (at .field .p) A (now (at .x)) (now (at .b)) (known .0 .valid .positive) (known .1) ∙ sym (c .agrees .ensures)
+
+-- src/offered.rt:85:9
+takes-refusal-requires : tie.Need-takes-refusal-requires
+takes-refusal-requires c κs = search needs
+
+-- src/offered.rt:87:9
+returns : tie.Need-returns
+returns c =
+    let at = c .before .before .before .before .before .before .before .args in
+    let A = (matrix (now (c .before .before .before .before .before .before .before .args .starts)) (now (c .before .before .before .before .before .before .before .args .columns)) (now (c .before .before .before .before .before .before .before .args .values))) in
+    let number = c .before .takes-refusal .ensures in (
+      sym number,
+      c .if1 .taken,
+      unlessRefused-some (takesRefusal (at .field .p) A (now (at .x)) (now (at .b))) (takes (at .field .p) A (now (at .x)) (now (at .b))) false
+          (λ e. c .if1 .taken (number ∙ e)),
+    )
+
+-- src/offered.rt:89:18
+weight-requires : tie.Need-weight-requires
+weight-requires c κs = accepted c .0 .valid .positive
+
+-- src/offered.rt:89:8
+agrees-requires : tie.Need-agrees-requires
+agrees-requires c κs =
+    let known = accepted (c .before) .0 in
+    (known .valid, (c .weight .ensures, known .vector))
+
+-- src/offered.rt:74:1
+returns-2 : tie.Need-returns-2
+returns-2 c = (none (c .before .before .before), answer (c .before) ∙ c .if2 .taken)
+
+-- src/offered.rt:74:1
+returns-3 : tie.Need-returns-3
+returns-3 c = (none (c .before .before .before), answer (c .before) ∙ c .if2 .left)
+
+pub takes-spec : {M : Type 1} → statement M
+takes-spec =
+    tie.close
+    (tie.spec takes-refusal-requires returns weight-requires agrees-requires returns-2 returns-3)

@@ -1,0 +1,53 @@
+use mathlib.Core.Path.{sym, ap, _∙_}
+use Prim.Native.Nat.{_-_}
+use native.Mathlib.Nat.{sub-self}
+use lib.Dec.{eqb}
+use lib.ListN.{length, getD, take, drop}
+use denote.Ref.{now}
+use Rattle.meaning.specs.List.{all}
+use Rattle.meaning.specs.Matrix.{matrix, product}
+use Rattle.wiedemann.specs.Horner.{vector-product}
+use Rattle.wiedemann.specs.Checks.{zero-all}
+use borrow.Author.Needs.{needs}
+use Rattle.wiedemann.proofs.offered.vanishes.Statement.{statement}
+use Rattle.wiedemann.proofs.offered.vanishes.Tie as tie
+use Rattle.wiedemann.proofs.offered.vanishes.Reads as reads
+use Rattle.wiedemann.proofs.offered.vanishes.Lts as lts
+use Rattle.wiedemann.proofs.offered.agrees.Reads as agrees-reads
+
+-- src/offered.rt:57:51
+mul-agrees : tie.Need-mul-agrees
+mul-agrees c = search needs
+
+-- src/offered.rt:57:51
+sub-agrees : tie.Need-sub-agrees
+sub-agrees c = search needs
+
+-- src/offered.rt:57:51
+part-agrees-start : tie.Need-part-agrees-start
+part-agrees-start c = search needs
+
+-- src/offered.rt:57:51
+part-agrees-end : tie.Need-part-agrees-end
+part-agrees-end c = search needs
+
+-- src/offered.rt:57:5
+agrees-requires : tie.Need-agrees-requires
+agrees-requires c κs = search needs
+
+-- src/offered.rt:51:1
+returns : tie.Need-returns
+returns c =
+    let start = c .before .before .before .before .before .before in
+    let at = start .args in
+    let w = now (at .w) in
+    let n = length (now (at .starts)) - 1 in
+    let Aw = product (at .p) (matrix (now (c .before .before .before .before .before .before .args .starts)) (now (c .before .before .before .before .before .before .args .columns)) (now (c .before .before .before .before .before .before .args .values))) w in
+    c .agrees .ensures
+    ∙ ap (λ k. all n (λ i. eqb (getD Aw i 0) (getD (take k (drop (length w) w)) i 0))) (sub-self (length w))
+    ∙ sym (zero-all Aw n (vector-product (at .p) (matrix (now (c .before .before .before .before .before .before .args .starts)) (now (c .before .before .before .before .before .before .args .columns)) (now (c .before .before .before .before .before .before .args .values))) w (start .pre .0 .positive) .places))
+
+pub vanishes-spec : {M : Type 1} → statement M
+vanishes-spec =
+    tie.close
+    (tie.spec mul-agrees sub-agrees part-agrees-start part-agrees-end agrees-requires returns)

@@ -1,0 +1,102 @@
+use Rattle.wiedemann.specs.Factor.{Descending, descending-none, descending-same, descending-more, descending-all}
+use denote.Ref.{now}
+use lib.ListN.{length, getD, take, drop, set, length-set, length-drop}
+use native.Mathlib.Omega.{arith}
+use Prim.Native.Nat.{ℕ, suc, _+_, _-_, _*_, _/_, _%_, _≤_, _<_}
+use mathlib.Core.Path.{_≡_, refl, sym, ap, ap₂, _∙_, subst}
+use borrow.Author.Needs.{needs}
+use Rattle.wiedemann.proofs.pass.multiply.Statement.{statement}
+use Rattle.wiedemann.proofs.pass.multiply.Tie as tie
+use Rattle.wiedemann.proofs.pass.multiply.Reads as reads
+use Rattle.wiedemann.proofs.pass.multiply.Lts as lts
+use Rattle.wiedemann.proofs.pass.coefficient.Reads as coefficient-reads
+
+abbrev Inv-loop : tie.InvT-loop
+Inv-loop p weight work₀ d f t k₀ work k = (k ≤ d + t + 1) × Descending p work₀ d f t k work
+
+abbrev μ-loop : tie.MeasureT-loop
+μ-loop p weight work₀ d f t k₀ work k = k
+
+-- src/pass.rt:245:17
+add-k : tie.Need-add-k Inv-loop μ-loop
+add-k c = search needs
+
+-- src/pass.rt:245:17
+add-k-2 : tie.Need-add-k-2 Inv-loop μ-loop
+add-k-2 c = search needs
+
+-- src/pass.rt:246:5
+loop-holds : tie.Need-loop-holds Inv-loop μ-loop
+loop-holds c =
+    let a = c .before .args in
+    (omega arith, descending-none (a .p) (now (a .work)) (a .d) (a .f) (a .t))
+
+-- src/pass.rt:247:9
+sub-k : tie.Need-sub-k Inv-loop μ-loop
+sub-k c = search needs
+
+-- src/pass.rt:248:19
+coefficient-requires : tie.Need-coefficient-requires Inv-loop μ-loop
+coefficient-requires c κs =
+    let pre = c .before .before .before .before .pre in
+    let loop = c .before .before .loop in
+    (pre .0, pre .1, pre .2, pre .3, omega (arith, pre .4, loop .inv .1 .same-length), omega (arith, loop .inv .0, c .before .loop-test .taken))
+
+-- src/pass.rt:248:9
+mul-work : tie.Need-mul-work Inv-loop μ-loop
+mul-work c = search needs
+
+-- src/pass.rt:248:9
+slice-write-work : tie.Need-slice-write-work Inv-loop μ-loop
+slice-write-work c =
+    let pre = c .before .before .before .before .before .pre in
+    omega (arith, pre .3, pre .4, c .before .before .before .loop .inv .0, c .before .before .before .loop .inv .1 .same-length, c .before .before .loop-test .taken)
+
+-- src/pass.rt:246:5
+loop-less : tie.Need-loop-less Inv-loop μ-loop
+loop-less c = omega (arith, c .before .before .loop-test .taken)
+
+-- src/pass.rt:246:5
+loop-again : tie.Need-loop-again Inv-loop μ-loop
+loop-again c =
+    let a = c .before .before .before .before .before .args in
+    let pre = c .before .before .before .before .before .pre in
+    let loop = c .before .before .before .loop in
+    let test = c .before .before .loop-test .taken in
+    let k = loop .k - 1 in
+    let back : loop .k ≡ k + 1 = omega (arith, test) in
+    let held : Descending (a .p) (now (a .work)) (a .d) (a .f) (a .t) (k + 1) (loop .work) = subst (λ m. Descending (a .p) (now (a .work)) (a .d) (a .f) (a .t) m (loop .work)) back (loop .inv .1) in
+    let inside : k ≤ a .d + a .t = omega (arith, loop .inv .0, test) in (
+      omega (arith, inside),
+      descending-more (c .coefficient .result) held inside (omega (arith, inside, pre .3, pre .4)) (c .coefficient .ensures ∙ descending-same k held (pre .3) (pre .4)),
+    )
+
+-- src/pass.rt:241:1
+same-length : tie.Need-same-length Inv-loop μ-loop
+same-length c = c .before .loop .inv .1 .same-length
+
+-- src/pass.rt:241:1
+returns : tie.Need-returns Inv-loop μ-loop
+returns c =
+    let a = c .before .before .before .args in
+    let pre = c .before .before .before .pre in
+    let loop = c .before .loop in
+    descending-all (pre .3) (pre .4) (subst (λ m. Descending (a .p) (now (a .work)) (a .d) (a .f) (a .t) m (loop .work)) (omega (arith, c .loop-test .left)) (loop .inv .1))
+
+pub multiply-spec : {M : Type 1} → statement M
+multiply-spec =
+    tie.close
+    (tie.spec
+    Inv-loop
+    μ-loop
+    add-k
+    add-k-2
+    loop-holds
+    sub-k
+    coefficient-requires
+    mul-work
+    slice-write-work
+    loop-less
+    loop-again
+    same-length
+    returns)

@@ -1,0 +1,180 @@
+use Rattle.wiedemann.specs.Turns.{Seat, Other, seat-low, regions, advanced, vector-power, Iterated, Sequenced, Generated, iterated-none, iterated-more, iterated-from, iterated-all, Applying, Leading, applying-none, applying-more, applied-all, generated, shortened}
+use Rattle.wiedemann.specs.Horner.{vector-step, vector-apply}
+use Rattle.wiedemann.specs.Region.{part, length-part, at-part}
+use Rattle.wiedemann.specs.Valid.{Valid, Vector}
+use Rattle.meaning.specs.Solver.{dot, projections}
+use Rattle.meaning.specs.Matrix.{matrix, size}
+use denote.Ref.{now}
+use mathlib.Core.List.{List, []}
+use lib.ListN.{length, getD, take, drop, set, length-set, length-drop}
+use native.Mathlib.Omega.{arith}
+use Prim.Native.Nat.{ℕ, suc, _+_, _-_, _*_, _/_, _%_, _≤_, _<_}
+use mathlib.Core.Path.{_≡_, refl, sym, ap, ap₂, _∙_, subst}
+use borrow.Author.Needs.{needs}
+use Rattle.wiedemann.proofs.pass.sequence.Statement.{statement}
+use Rattle.wiedemann.proofs.pass.sequence.Tie as tie
+use Rattle.wiedemann.proofs.pass.sequence.Reads as reads
+use Rattle.wiedemann.proofs.pass.sequence.Lts as lts
+use Rattle.wiedemann.proofs.pass.advance.Reads as advance-reads
+use Rattle.wiedemann.proofs.pass.note.Reads as note-reads
+
+abbrev Inv-loop : tie.InvT-loop
+Inv-loop p weight starts columns values words vectors j area₀ left n from₀ i₀ area from i =
+    (i + 1 ≤ 2 * left) × (3 * n + 2 * left ≤ length area₀) × Vector p n (part 0 n area₀)
+    × Iterated p (matrix starts columns values) (getD (projections p n words) j []) area₀ i from area
+
+abbrev μ-loop : tie.MeasureT-loop
+μ-loop p weight starts columns values words vectors j area₀ left n from₀ i₀ area from i = 2 * left - i
+
+-- src/pass.rt:115:13
+sub-n : tie.Need-sub-n Inv-loop μ-loop
+sub-n c = search needs
+
+-- src/pass.rt:118:55
+mul-note : tie.Need-mul-note Inv-loop μ-loop
+mul-note c = search needs
+
+-- src/pass.rt:118:5
+note-requires : tie.Need-note-requires Inv-loop μ-loop
+note-requires c κs =
+    let pre = c .before .before .before .before .before .before .pre in (
+      (pre .1 .0 .0, pre .0 .positive, pre .0 .small, pre .1 .0 .1, pre .0 .sized),
+      (pre .1 .0 .4, omega (arith, pre .1 .1 .0), omega (arith, pre .1 .1 .0, pre .1 .0 .2), pre .1 .1 .1),
+    )
+
+-- src/pass.rt:119:5
+loop-holds : tie.Need-loop-holds Inv-loop μ-loop
+loop-holds c =
+    let a = c .before .before .before .before .before .before .before .before .before .args in
+    let pre = c .before .before .before .before .before .before .before .before .before .pre in
+    let A = matrix (now (a .starts)) (now (a .columns)) (now (a .values)) in
+    let n = length (now (a .starts)) - 1 in
+    let W = now (a .area) in
+    let u = getD (projections (a .p) n (now (a .words))) (a .j) [] in
+    let v = dot (a .p) u (part 0 n W) in
+    let begun = iterated-none (a .p) A u W v (omega (arith, pre .1 .1 .0, pre .1 .0 .2)) refl in
+    subst (λ X. (0 + 1 ≤ 2 * a .left) × (3 * n + 2 * a .left ≤ length X) × Vector (a .p) n (part 0 n X) × Iterated (a .p) A u X 0 0 X) (sym (c .before .before .note .ensures)) (
+      omega (arith, pre .1 .0 .2),
+      omega (arith, begun .same-length, pre .1 .1 .0),
+      subst (λ l. Vector (a .p) n l) (sym (begun .front)) (pre .1 .1 .1),
+      iterated-from (sym (begun .same-length)) (sym (begun .front)) begun,
+    )
+
+-- src/pass.rt:119:11
+add-loop : tie.Need-add-loop Inv-loop μ-loop
+add-loop c = search needs
+
+-- src/pass.rt:119:19
+mul-loop : tie.Need-mul-loop Inv-loop μ-loop
+mul-loop c = search needs
+
+-- src/pass.rt:120:9
+advance-requires : tie.Need-advance-requires Inv-loop μ-loop
+advance-requires c κs =
+    let a = c .before .before .before .before .before .before .before .before .before .before .before .before .args in
+    let pre = c .before .before .before .before .before .before .before .before .before .before .before .before .pre in
+    let A = matrix (now (a .starts)) (now (a .columns)) (now (a .values)) in
+    let loop = c .before .before .loop in
+    let n = length (now (a .starts)) - 1 in (
+      pre .0,
+      (
+        pre .1 .0 .0,
+        record {
+          seat = loop .inv .3 .seat;
+          room = omega (arith, loop .inv .1, loop .inv .3 .same-length);
+          elements = rw (loop .inv .3 .holds) (vector-power (a .p) A (loop .i) _ (pre .0 .positive) (loop .inv .2));
+        },
+      ),
+    )
+
+-- src/pass.rt:121:9
+add-i : tie.Need-add-i Inv-loop μ-loop
+add-i c = search needs
+
+-- src/pass.rt:122:59
+mul-note-2 : tie.Need-mul-note-2 Inv-loop μ-loop
+mul-note-2 c = search needs
+
+-- src/pass.rt:122:59
+add-note : tie.Need-add-note Inv-loop μ-loop
+add-note c = search needs
+
+-- src/pass.rt:122:9
+note-requires-2 : tie.Need-note-requires-2 Inv-loop μ-loop
+note-requires-2 c κs =
+    let a = c .before .before .before .before .before .before .before .before .before .before .before .before .before .before .before .before .args in
+    let pre = c .before .before .before .before .before .before .before .before .before .before .before .before .before .before .before .before .pre in
+    let A = matrix (now (a .starts)) (now (a .columns)) (now (a .values)) in
+    let loop = c .before .before .before .before .before .before .loop in
+    let n = length (now (a .starts)) - 1 in
+    let next = c .before .before .before .advance .ensures in
+    let low = seat-low (next .seat) in
+    let long = next .same-length in
+    let held = loop .inv .3 .same-length in (
+      (pre .1 .0 .0, pre .0 .positive, pre .0 .small, pre .1 .0 .1, pre .0 .sized),
+      (
+        pre .1 .0 .4,
+        omega (arith, low, long, held, loop .inv .1),
+        omega (arith, long, held, loop .inv .1, c .before .before .before .before .before .loop-test .taken),
+        rw (next .holds) (vector-step (a .p) A 0 _ _ (pre .0 .positive)),
+      ),
+    )
+
+-- src/pass.rt:119:5
+loop-less : tie.Need-loop-less Inv-loop μ-loop
+loop-less c = omega (arith, c .before .before .before .before .before .before .before .before .loop-test .taken)
+
+-- src/pass.rt:119:5
+loop-again : tie.Need-loop-again Inv-loop μ-loop
+loop-again c =
+    let a = c .before .before .before .before .before .before .before .before .before .before .before .before .before .before .before .before .before .before .before .args in
+    let loop = c .before .before .before .before .before .before .before .before .before .loop in
+    let A = matrix (now (a .starts)) (now (a .columns)) (now (a .values)) in
+    let n = length (now (a .starts)) - 1 in
+    let u = getD (projections (a .p) n (now (a .words))) (a .j) [] in
+    let test = c .before .before .before .before .before .before .before .before .loop-test .taken in (
+      omega (arith, test),
+      loop .inv .1,
+      loop .inv .2,
+      rw (c .before .before .note2 .ensures) (iterated-more _ (loop .inv .3) (c .before .before .before .before .before .before .advance .ensures) (omega (arith, test, loop .inv .1)) refl),
+    )
+
+-- src/pass.rt:98:1
+same-length : tie.Need-same-length Inv-loop μ-loop
+same-length c = c .before .loop .inv .3 .same-length ∙ ap length (c .before .before .before .before .note .ensures) ∙ simp length-set
+
+-- src/pass.rt:98:1
+returns : tie.Need-returns Inv-loop μ-loop
+returns c =
+    let a = c .before .before .before .before .before .before .before .before .before .before .before .args in
+    let pre = c .before .before .before .before .before .before .before .before .before .before .before .pre in
+    let A = matrix (now (a .starts)) (now (a .columns)) (now (a .values)) in
+    let n = length (now (a .starts)) - 1 in
+    let W = now (a .area) in
+    let u = getD (projections (a .p) n (now (a .words))) (a .j) [] in
+    let begun = iterated-none (a .p) A u W (dot (a .p) u (part 0 n W)) (omega (arith, pre .1 .1 .0, pre .1 .0 .2)) refl in
+    let loop = c .before .loop in
+    iterated-all (a .left) (omega (arith, loop .inv .0, c .loop-test .left)) (omega (arith, pre .1 .1 .0))
+    (iterated-from (ap length (c .before .before .before .before .note .ensures) ∙ begun .same-length) (ap (take n) (c .before .before .before .before .note .ensures) ∙ begun .front) (loop .inv .3))
+
+pub sequence-spec : {M : Type 1} → statement M
+sequence-spec =
+    tie.close
+    (tie.spec
+    Inv-loop
+    μ-loop
+    sub-n
+    mul-note
+    note-requires
+    loop-holds
+    add-loop
+    mul-loop
+    advance-requires
+    add-i
+    mul-note-2
+    add-note
+    note-requires-2
+    loop-less
+    loop-again
+    same-length
+    returns)

@@ -1,0 +1,80 @@
+-- `wiedemann::recurrence::recurrence` meets its contract: a refusal leaves everything, and 0 hands the core what it asks. Assumes nothing.
+use mathlib.Core.Path.{sym, _∙_}
+use native.Mathlib.Omega.{arith}
+use denote.Ref.{now}
+use borrow.Author.Needs.{needs}
+use Rattle.wiedemann.proofs.Recurred.{Accepted, accepted, recurred-refused, ready, recurred-found}
+use Rattle.wiedemann.proofs.recurrence.recurrence.Statement.{statement}
+use Rattle.wiedemann.proofs.recurrence.recurrence.Tie as tie
+
+-- what the checks have shown where they let the call through
+taken : (c : tie.Else1) → Accepted (c .before .before .before .before .before .before .before .args .field .p)
+    (now (c .before .before .before .before .before .before .before .args .s))
+    (now (c .before .before .before .before .before .before .before .args .polynomial))
+    (now (c .before .before .before .before .before .before .before .args .work))
+taken c = accepted _ _ _ _ (sym (c .before .refusal .ensures) ∙ omega (arith, c .if1 .left))
+
+refusal-requires : tie.Need-refusal-requires
+refusal-requires c κs = search needs
+
+same-length : tie.Need-same-length
+same-length c = search needs
+
+same-length-2 : tie.Need-same-length-2
+same-length-2 c = search needs
+
+returns : tie.Need-returns
+returns c =
+    let a = c .before .before .before .before .before .before .before .args in
+    recurred-refused (a .field .p) (now (a .s)) (now (a .polynomial)) (now (a .work)) (c .before .refusal .result) (c .before .refusal .ensures) (c .if1 .taken)
+
+transfer-requires : tie.Need-transfer-requires
+transfer-requires c κs =
+    let input = taken (c .before) in
+    (omega arith, omega (arith, input .room))
+
+shortest-requires : tie.Need-shortest-requires
+shortest-requires c κs =
+    let input = taken (c .before .before .before .before .before) in
+    ready input (c .before .before .before .transfer .ensures)
+
+add-transfer : tie.Need-add-transfer
+add-transfer c = search needs
+
+add-transfer-2 : tie.Need-add-transfer-2
+add-transfer-2 c = search needs
+
+transfer-requires-2 : tie.Need-transfer-requires-2
+transfer-requires-2 c κs =
+    let input = taken (c .before .before .before .before .before .before .before .before .before .before) in
+    let written = c .before .before .before .before .before .before .before .before .transfer .ensures .same-length in
+    let kept = c .before .before .before .before .shortest .kept .1 .1 .0 in
+    (omega (arith, input .room, written, kept), omega (arith, input .size))
+
+same-length-3 : tie.Need-same-length-3
+same-length-3 c = search needs
+
+same-length-4 : tie.Need-same-length-4
+same-length-4 c = search needs
+
+returns-2 : tie.Need-returns-2
+returns-2 c =
+    let input = taken (c .before .before .before .before .before .before .before .before .before .before .before .before .before) in
+    recurred-found input (c .before .before .before .before .before .before .before .before .before .before .before .transfer .ensures) (c .before .before .before .before .before .before .before .shortest .ensures) (c .before .before .transfer2 .ensures)
+
+pub recurrence-spec : {M : Type 1} → statement M
+recurrence-spec =
+    tie.close
+    (tie.spec
+    refusal-requires
+    same-length
+    same-length-2
+    returns
+    transfer-requires
+    shortest-requires
+    add-transfer
+    add-transfer-2
+    transfer-requires-2
+    same-length-3
+    same-length-4
+    returns-2)

@@ -1,0 +1,73 @@
+-- `wiedemann::recurrence::shortest` meets its contract: after r turns the slice holds what the steps for 1 to r make. Assumes nothing.
+use mathlib.Core.Path.{_≡_}
+use Prim.Native.Nat.{_-_, _≤_}
+use native.Mathlib.Omega.{arith}
+use borrow.Author.Needs.{needs}
+use Rattle.residue.specs.Prime.{isModulus-Prime}
+use Rattle.wiedemann.specs.Recurrence.{Stepped}
+use Rattle.wiedemann.proofs.Stepped.{stepped-on, stepped-own, stepped-turn}
+use Rattle.wiedemann.proofs.Found.{found}
+use Rattle.wiedemann.proofs.recurrence.shortest.Statement.{statement}
+use Rattle.wiedemann.proofs.recurrence.shortest.Tie as tie
+
+abbrev Inv-loop : tie.InvT-loop
+Inv-loop p count work₀ weight c₀ r₀ work c r = (r ≤ count) × Stepped p count r work₀ work c
+
+abbrev μ-loop : tie.MeasureT-loop
+μ-loop p count work₀ weight c₀ r₀ work c r = count - r
+
+weight-requires : tie.Need-weight-requires Inv-loop μ-loop
+weight-requires c κs = omega (arith, isModulus-Prime (c .before .args .p) (c .before .pre .modulus) .two-le)
+
+start-requires : tie.Need-start-requires Inv-loop μ-loop
+start-requires c κs = search needs
+
+loop-holds : tie.Need-loop-holds Inv-loop μ-loop
+loop-holds c = (omega arith, stepped-own (c .before .before .start .ensures))
+
+add-r : tie.Need-add-r Inv-loop μ-loop
+add-r c = search needs
+
+step-requires : tie.Need-step-requires Inv-loop μ-loop
+step-requires c κs =
+    let l = c .before .before .loop in
+    (stepped-turn (c .before .before .before .before .before .before .before .before .before .pre) (stepped-on (c .before .before .before .before .before .start .ensures) (l .inv .1)) (c .before .loop-test .taken), c .before .before .before .before .before .before .before .weight .ensures)
+
+loop-less : tie.Need-loop-less Inv-loop μ-loop
+loop-less c = search needs
+
+loop-again : tie.Need-loop-again Inv-loop μ-loop
+loop-again c = (omega arith, stepped-on (c .before .before .before .before .before .loop .inv .1) (c .before .before .step .ensures))
+
+add-reverse : tie.Need-add-reverse Inv-loop μ-loop
+add-reverse c = search needs
+
+reverse-requires : tie.Need-reverse-requires Inv-loop μ-loop
+reverse-requires c κs = search needs
+
+same-length : tie.Need-same-length Inv-loop μ-loop
+same-length c = search needs
+
+returns : tie.Need-returns Inv-loop μ-loop
+returns c =
+    let l = c .before .before .before .before .before .loop in
+    let e : l .r ≡ c .before .before .before .before .before .before .before .before .before .before .before .before .args .count = omega (arith, l .inv .0, c .before .before .before .before .loop-test .left) in
+    found (c .before .before .before .before .before .before .before .before .before .before .before .before .pre) e (stepped-on (c .before .before .before .before .before .before .before .before .start .ensures) (l .inv .1)) (c .before .before .reverse .ensures)
+
+pub shortest-spec : {M : Type 1} → statement M
+shortest-spec =
+    tie.close
+    (tie.spec
+    Inv-loop
+    μ-loop
+    weight-requires
+    start-requires
+    loop-holds
+    add-r
+    step-requires
+    loop-less
+    loop-again
+    add-reverse
+    reverse-requires
+    same-length
+    returns)

@@ -1,0 +1,165 @@
+-- The product of two polynomials in one slice: F at its front, f further up; it takes F's place from its highest coefficient down.
+--     nothing          the empty sum
+--     cross            the products of coefficient k
+--     productAt        coefficient k of the product
+--     coefficient      what coefficient k is, by the places of F and f that meet there
+--     Descending       the coefficients from k on have been written
+--     Multiplied       all of them have
+--     descending-none, descending-same, descending-more, descending-all      where that begins, what a turn reads, a turn, and where it ends
+use mathlib.Core.Path.{_≡_, refl, sym, ap, ap₂, _∙_}
+use mathlib.Core.Logic.{_⊎_, inl, inr}
+use mathlib.Core.List.{List}
+use Prim.Native.Nat.{ℕ, suc, _+_, _-_, _*_, _%_, _≤_, _<_}
+use native.Mathlib.Nat.{zero-add, add-zero, zero-mul, mul-zero, eq-or-lt-of-le}
+use native.Mathlib.Decide.{decLt}
+use native.Mathlib.Omega.{arith}
+use lib.ListN.{length, drop, set, length-set, List·getD-eq-default}
+use lib.Seq.{getD-set-same, getD-set-other}
+use Rattle.meaning.specs.List.{at, sum, sumFrom, table}
+use Rattle.meaning.specs.Solver.{multiply}
+use Rattle.laws.specs.List.{sum-ext, sum-zeros, table-of}
+use Rattle.wiedemann.specs.declared.sums.Total.{Total}
+use Rattle.wiedemann.specs.Sums.{sumFrom-split, sumFrom-ext}
+use Rattle.wiedemann.specs.Region.{part, length-part, at-part}
+use Rattle.wiedemann.specs.Projection.{sumFrom-zero}
+use Rattle.wiedemann.specs.Lent.{drop-ext}
+
+-- the empty sum
+abbrev pub nothing : Total
+nothing = record { low = 0; high = 0 }
+
+abbrev pub cross : List ℕ → ℕ → ℕ → ℕ → ℕ
+cross W f k i = at W i * at W (f + (k - i))
+
+-- coefficient k of the product of F, degree d, and f, degree t
+abbrev pub productAt : ℕ → List ℕ → ℕ → ℕ → ℕ → ℕ → ℕ
+productAt p W d f t k = sum (k + 1) (λ i. at (part 0 (d + 1) W) i * at (part f (t + 1) W) (k - i)) % p
+
+sumFrom-zeros : (a b : ℕ) (f : ℕ → ℕ) → ((k : ℕ) → a ≤ k → k < b → f k ≡ 0) → sumFrom a b f ≡ 0
+sumFrom-zeros a b f h = sum-zeros (b - a) (λ j. f (a + j)) (λ j l. h (a + j) (omega arith) (omega arith))
+
+module _ (W : List ℕ) (d f t : ℕ) (below : d + t < f) (room : f + t < length W) where
+  left : ℕ → ℕ
+  left i = at (part 0 (d + 1) W) i
+
+  right : ℕ → ℕ
+  right i = at (part f (t + 1) W) i
+
+  left-in : (i : ℕ) → i ≤ d → left i ≡ at W i
+  unfolding left
+  left-in i l = at-part 0 (d + 1) W i (omega (arith, l)) ∙ ap (at W) (zero-add i)
+
+  left-out : (i : ℕ) → d < i → left i ≡ 0
+  unfolding left
+  left-out i l = List·getD-eq-default (part 0 (d + 1) W) 0 (omega (arith, length-part 0 (d + 1) W (omega (arith, below, room)), l))
+
+  right-in : (i : ℕ) → i ≤ t → right i ≡ at W (f + i)
+  unfolding right
+  right-in i l = at-part f (t + 1) W i (omega (arith, l))
+
+  right-out : (i : ℕ) → t < i → right i ≡ 0
+  unfolding right
+  right-out i l = List·getD-eq-default (part f (t + 1) W) 0 (omega (arith, length-part f (t + 1) W (omega (arith, room)), l))
+
+  -- coefficient k is the sum over the places where both have a coefficient: from k − t to k or d
+  pub coefficient : (k to : ℕ) → k ≤ d + t → to ≤ k + 1 → to ≤ d + 1 → (to ≡ k + 1) ⊎ (to ≡ d + 1)
+      → sumFrom (k - t) to (cross W f k) ≡ sum (k + 1) (λ i. at (part 0 (d + 1) W) i * at (part f (t + 1) W) (k - i))
+  unfolding left right
+  coefficient k to l a b e =
+      sym
+      (sym (sumFrom-zero (k + 1) g)
+      ∙ sumFrom-split 0 (k - t) (k + 1) g (omega arith) (omega arith)
+      ∙ ap₂ _+_ (sumFrom-zeros 0 (k - t) g low)
+      (sumFrom-split (k - t) to (k + 1) g order a ∙ ap₂ _+_ (sumFrom-ext (k - t) to g (cross W f k) middle) (sumFrom-zeros to (k + 1) g (high e))
+      ∙ add-zero (sumFrom (k - t) to (cross W f k)))
+      ∙ zero-add (sumFrom (k - t) to (cross W f k)))
+    where
+      g : ℕ → ℕ
+      g i = left i * right (k - i)
+
+      order : k - t ≤ to
+      order = go e
+        where
+          go : (to ≡ k + 1) ⊎ (to ≡ d + 1) → k - t ≤ to
+          go (inl q) = omega (arith, q)
+          go (inr q) = omega (arith, q, l)
+
+      low : (i : ℕ) → 0 ≤ i → i < k - t → g i ≡ 0
+      low i z h = ap (λ x. left i * x) (right-out (k - i) (omega (arith, h))) ∙ mul-zero (left i)
+
+      middle : (i : ℕ) → k - t ≤ i → i < to → g i ≡ cross W f k i
+      middle i h m = ap₂ _*_ (left-in i (omega (arith, m, b))) (right-in (k - i) (omega (arith, h)))
+
+      high : (to ≡ k + 1) ⊎ (to ≡ d + 1) → (i : ℕ) → to ≤ i → i < k + 1 → g i ≡ 0
+      high (inl q) i h m = absurd (omega (arith, q, h, m))
+      high (inr q) i h m = ap (λ x. x * right (k - i)) (left-out i (omega (arith, q, h))) ∙ zero-mul (right (k - i))
+
+pub record Descending (p : ℕ) (W : List ℕ) (d f t k : ℕ) (W′ : List ℕ) : Type 0 where
+  pub same-length : length W′ ≡ length W
+  pub below : (i : ℕ) → i < k → at W′ i ≡ at W i
+  pub inside : (i : ℕ) → k ≤ i → i ≤ d + t → at W′ i ≡ productAt p W d f t i
+  pub after : (i : ℕ) → d + t < i → at W′ i ≡ at W i
+
+pub descending-none : (p : ℕ) (W : List ℕ) (d f t : ℕ) → Descending p W d f t (d + t + 1) W
+descending-none p W d f t =
+    record { same-length = refl; below = λ i l. refl; inside = λ i a b. absurd (omega (arith, a, b)); after = λ i l. refl }
+
+pub descending-more : {p : ℕ} {W : List ℕ} {d f t k : ℕ} {W′ : List ℕ} (v : ℕ) → Descending p W d f t (k + 1) W′ → k ≤ d + t → k < length W
+    → v ≡ productAt p W d f t k → Descending p W d f t k (set W′ k v)
+descending-more {p} {W} {d} {f} {t} {k} {W′} v w l h e =
+    record {
+      same-length = length-set W′ k v ∙ w .same-length;
+      below = λ i a. getD-set-other W′ k i v 0 (λ q. omega (arith, q, a)) ∙ w .below i (omega (arith, a));
+      inside = λ i a b. go i (eq-or-lt-of-le {n = k} {m = i} a) b;
+      after = λ i a. getD-set-other W′ k i v 0 (λ q. omega (arith, q, a, l)) ∙ w .after i a;
+    }
+  where
+    go : (i : ℕ) → (k ≡ i) ⊎ (k < i) → i ≤ d + t → at (set W′ k v) i ≡ productAt p W d f t i
+    go i (inl q) b =
+        ap (at (set W′ k v)) (sym q) ∙ getD-set-same W′ k v 0 (omega (arith, w .same-length, h)) ∙ e ∙ ap (productAt p W d f t) q
+    go i (inr q) b = getD-set-other W′ k i v 0 (λ r. omega (arith, r, q)) ∙ w .inside i (omega (arith, q)) b
+
+place-same : (a n : ℕ) (W W′ : List ℕ) (i : ℕ) → a + n ≤ length W → length W′ ≡ length W → (i < n → at W′ (a + i) ≡ at W (a + i))
+    → at (part a n W′) i ≡ at (part a n W) i
+place-same a n W W′ i l e h = go (decLt i n)
+  where
+    go : Dec (i < n) → at (part a n W′) i ≡ at (part a n W) i
+    go (yes k) = at-part a n W′ i k ∙ h k ∙ sym (at-part a n W i k)
+    go (no k) =
+        List·getD-eq-default (part a n W′) 0 (omega (arith, k, length-part a n W′ (omega (arith, l, e))))
+        ∙ sym (List·getD-eq-default (part a n W) 0 (omega (arith, k, length-part a n W l)))
+
+-- what has been written so far is not read for coefficient k
+pub descending-same : {p : ℕ} {W : List ℕ} {d f t : ℕ} (k : ℕ) {W′ : List ℕ} → Descending p W d f t (k + 1) W′ → d + t < f → f + t < length W
+    → productAt p W′ d f t k ≡ productAt p W d f t k
+descending-same {p} {W} {d} {f} {t} k {W′} w a b =
+    ap (λ x. x % p)
+    (sum-ext (k + 1) (λ i. at (part 0 (d + 1) W′) i * at (part f (t + 1) W′) (k - i)) (λ i. at (part 0 (d + 1) W) i * at (part f (t + 1) W) (k - i))
+    (λ i l. ap₂ _*_
+    (place-same 0 (d + 1) W W′ i (omega (arith, a, b)) (w .same-length) (λ m. w .below (0 + i) (omega (arith, l))))
+    (place-same f (t + 1) W W′ (k - i) (omega (arith, b)) (w .same-length) (λ m. w .after (f + (k - i)) (omega (arith, a))))))
+
+pub record Multiplied (p : ℕ) (W : List ℕ) (d f t : ℕ) (W′ : List ℕ) : Type 0 where
+  pub same-length : length W′ ≡ length W
+  pub product : part 0 (d + t + 1) W′ ≡ multiply p (part 0 (d + 1) W) (part f (t + 1) W)
+  pub rest : drop (d + t + 1) W′ ≡ drop (d + t + 1) W
+
+pub descending-all : {p : ℕ} {W : List ℕ} {d f t : ℕ} {W′ : List ℕ} → d + t < f → f + t < length W → Descending p W d f t 0 W′ → Multiplied p W d f t W′
+unfolding multiply
+descending-all {p} {W} {d} {f} {t} {W′} a b w =
+    record {
+      same-length = w .same-length;
+      product =
+          table-of 0 (part 0 (d + t + 1) W′) size (λ k. productAt p W d f t k)
+          (length-part 0 (d + t + 1) W′ (omega (arith, a, b, w .same-length)) ∙ sym sized)
+          (λ i l. let h : i < d + t + 1 = omega (arith, l, sized) in
+          at-part 0 (d + t + 1) W′ i h ∙ ap (at W′) (zero-add i) ∙ w .inside i (omega arith) (omega (arith, h)));
+      rest = drop-ext (d + t + 1) W W′ (w .same-length) (λ i l. w .after i (omega (arith, l)));
+    }
+  where
+    size : ℕ
+    size = length (part 0 (d + 1) W) + length (part f (t + 1) W) - 1
+
+    sized : size ≡ d + t + 1
+    sized =
+        omega (arith, length-part 0 (d + 1) W (omega (arith, a, b)), length-part f (t + 1) W (omega (arith, b)))

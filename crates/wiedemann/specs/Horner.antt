@@ -1,0 +1,195 @@
+-- Horner's rule for the polynomial of a matrix.
+--     stepAt           its element i
+--     step p A c x v   element i is c × x[i] plus the product of row i with v: Horner's step, and the product if c is 0
+--     step-product     step p A 0 x v ≡ product p A v
+--     sum-head, sum-scale, sum-swap, sum-mod-ext      laws of sums
+--     power-zero, power-suc      the clauses of power
+--     combination      element j of g(A)v before it is reduced
+--     table-step, table-apply, at-product, at-apply      step, product and apply by their elements
+--     apply-one        a(A)v for one coefficient a
+--     apply-cons       (a + z·g)(A)v is a step with a from g(A)v
+--     horner-begins, horner-goes-on      the rule as a loop runs it
+--     vector-table, vector-step, vector-product, vector-apply      what is reduced has elements below p
+use mathlib.Core.Path.{_≡_, refl, sym, ap, ap₂, _∙_}
+use mathlib.Core.List.{List, [], _∷_}
+use Prim.Native.Nat.{ℕ, zero, suc, _+_, _*_, _-_, _%_, _≤_, _<_}
+use native.Mathlib.Nat.{zero-add, add-zero, zero-mul, mul-zero, mul-add, mul-left-comm, mod-lt, add-mod-mod}
+use native.Mathlib.Omega.{arith}
+use lib.ListN.{length, drop}
+use lib.Seq.{drop-cons, drop-length}
+use Rattle.meaning.specs.List.{at, sum, sumFrom, table}
+use Rattle.meaning.specs.Field.{times}
+use Rattle.meaning.specs.Matrix.{Matrix, size, product, power, apply}
+use Rattle.laws.specs.List.{sum-zero, sum-suc, sum-ext, sum-zeros, sum-add, sum-mod, length-table, getD-table, table-ext}
+use Rattle.residue.specs.Numbers.{mul-mod-mod}
+use Rattle.wiedemann.specs.Valid.{Valid, Vector, rowProduct}
+
+abbrev pub stepAt : ℕ → Matrix → ℕ → List ℕ → List ℕ → ℕ → ℕ
+stepAt p A c x v i = (c * at x i + rowProduct A v i) % p
+
+unfoldable pub step : ℕ → Matrix → ℕ → List ℕ → List ℕ → List ℕ
+step p A c x v = table (size A) (stepAt p A c x v)
+
+pub table-step : (p : ℕ) (A : Matrix) (c : ℕ) (x v : List ℕ) → step p A c x v ≡ table (size A) (stepAt p A c x v)
+unfolding step
+table-step p A c x v = refl
+
+pub step-product : (p : ℕ) (A : Matrix) (x v : List ℕ) → step p A 0 x v ≡ product p A v
+unfolding step product
+step-product p A x v =
+    table-ext (size A) (stepAt p A 0 x v)
+    (λ i. rowProduct A v i % p)
+    (λ i l. ap (λ y. y % p) (ap (λ y. y + rowProduct A v i) (zero-mul (at x i)) ∙ zero-add (rowProduct A v i)))
+
+-- ---- sums
+
+-- (law of sums) the first term apart
+pub sum-head : (n : ℕ) (f : ℕ → ℕ) → sum (suc n) f ≡ f 0 + sum n (λ i. f (suc i))
+sum-head zero f = omega (arith, sum-suc 0 f, sum-zero f, sum-zero (λ i. f (suc i)))
+sum-head (suc n) f = omega (arith, sum-suc (suc n) f, sum-head n f, sum-suc n (λ i. f (suc i)))
+
+pub sum-scale : (c n : ℕ) (f : ℕ → ℕ) → sum n (λ i. c * f i) ≡ c * sum n f
+sum-scale c zero f = sum-zero (λ i. c * f i) ∙ sym (ap (λ x. c * x) (sum-zero f) ∙ mul-zero c)
+sum-scale c (suc n) f =
+    sum-suc n (λ i. c * f i) ∙ ap (λ x. x + c * f n) (sum-scale c n f) ∙ sym (mul-add c (sum n f) (f n)) ∙ ap (λ x. c * x) (sym (sum-suc n f))
+
+pub sum-swap : (m n : ℕ) (f : ℕ → ℕ → ℕ) → sum m (λ i. sum n (λ j. f i j)) ≡ sum n (λ j. sum m (λ i. f i j))
+sum-swap zero n f = sum-zero (λ i. sum n (λ j. f i j)) ∙ sym (sum-zeros n (λ j. sum 0 (λ i. f i j)) (λ j l. sum-zero (λ i. f i j)))
+sum-swap (suc m) n f =
+    sum-suc m (λ i. sum n (λ j. f i j)) ∙ ap (λ x. x + sum n (λ j. f m j)) (sum-swap m n f)
+    ∙ sym (sum-add n (λ j. sum m (λ i. f i j)) (λ j. f m j))
+    ∙ sum-ext n (λ j. sum m (λ i. f i j) + f m j) (λ j. sum (suc m) (λ i. f i j)) (λ j l. sym (sum-suc m (λ i. f i j)))
+
+-- terms that agree modulo p
+pub sum-mod-ext : (p n : ℕ) (f g : ℕ → ℕ) → ((i : ℕ) → i < n → f i % p ≡ g i % p) → sum n f % p ≡ sum n g % p
+sum-mod-ext p n f g h =
+    sym (sum-mod p n f) ∙ ap (λ x. x % p) (sum-ext n (λ i. f i % p) (λ i. g i % p) h) ∙ sum-mod p n g
+
+-- ---- powers and polynomials of a matrix
+
+pub power-zero : (p : ℕ) (A : Matrix) (v : List ℕ) → power p A 0 v ≡ v
+unfolding power
+power-zero p A v = refl
+
+pub power-suc : (p : ℕ) (A : Matrix) (k : ℕ) (v : List ℕ) → power p A (suc k) v ≡ product p A (power p A k v)
+unfolding power
+power-suc p A k v = refl
+
+pub at-product : (p : ℕ) (A : Matrix) (v : List ℕ) (j : ℕ) → j < size A
+    → at (product p A v) j ≡ rowProduct A v j % p
+unfolding product
+at-product p A v j l = getD-table (size A) (λ i. rowProduct A v i % p) j 0 l
+
+-- element j of g(A)v before it is reduced
+abbrev pub combination : ℕ → Matrix → List ℕ → List ℕ → ℕ → ℕ
+combination p A g v j = sum (length g) (λ i. at g i * at (power p A i v) j)
+
+pub table-apply : (p : ℕ) (A : Matrix) (g v : List ℕ) → apply p A g v ≡ table (size A) (λ j. combination p A g v j % p)
+unfolding apply
+table-apply p A g v = refl
+
+pub at-apply : (p : ℕ) (A : Matrix) (g v : List ℕ) (j : ℕ) → j < size A → at (apply p A g v) j ≡ combination p A g v j % p
+unfolding apply
+at-apply p A g v j l = getD-table (size A) (λ i. combination p A g v i % p) j 0 l
+
+-- the product of a row with g(A)v is the combination of the next powers
+row-apply : (p : ℕ) (A : Matrix) → Valid p A → (g v : List ℕ) (j : ℕ) → j < size A
+    → rowProduct A (apply p A g v) j % p ≡ sum (length g) (λ i. at g i * at (power p A (suc i) v) j) % p
+row-apply p A h g v j l =
+    sum-mod-ext p count (λ t. value t * at (apply p A g v) (column t)) (λ t. sum (length g) (λ i. at g i * (value t * element i t))) inner
+    ∙ ap (λ x. x % p)
+    (sum-swap count (length g) (λ t i. at g i * (value t * element i t))
+    ∙ sum-ext (length g) (λ i. sum count (λ t. at g i * (value t * element i t))) (λ i. at g i * sum count (λ t. value t * element i t))
+    (λ i k. sum-scale (at g i) count (λ t. value t * element i t)))
+    ∙ sum-mod-ext p (length g) (λ i. at g i * sum count (λ t. value t * element i t)) (λ i. at g i * at (power p A (suc i) v) j) outer
+  where
+    count : ℕ
+    count = at (A .starts) (j + 1) - at (A .starts) j
+
+    value : ℕ → ℕ
+    value t = at (A .values) (at (A .starts) j + t)
+
+    column : ℕ → ℕ
+    column t = at (A .columns) (at (A .starts) j + t)
+
+    element : ℕ → ℕ → ℕ
+    element i t = at (power p A i v) (column t)
+
+    inner : (t : ℕ) → t < count
+        → value t * at (apply p A g v) (column t) % p ≡ sum (length g) (λ i. at g i * (value t * element i t)) % p
+    inner t k =
+        ap (λ x. value t * x % p) (at-apply p A g v (column t) (h .column (at (A .starts) j + t) (omega (arith, h .within j l))))
+        ∙ mul-mod-mod (value t) (combination p A g v (column t)) p
+        ∙ ap (λ x. x % p)
+        (sym (sum-scale (value t) (length g) (λ i. at g i * element i t))
+        ∙ sum-ext (length g) (λ i. value t * (at g i * element i t)) (λ i. at g i * (value t * element i t))
+        (λ i m. mul-left-comm (value t) (at g i) (element i t)))
+
+    outer : (i : ℕ) → i < length g → at g i * sum count (λ t. value t * element i t) % p ≡ at g i * at (power p A (suc i) v) j % p
+    outer i k =
+        sym (mul-mod-mod (at g i) (sum count (λ t. value t * element i t)) p)
+        ∙ ap (λ x. at g i * x % p) (sym (ap (λ w. at w j) (power-suc p A i v) ∙ at-product p A (power p A i v) j l))
+
+pub apply-cons : (p : ℕ) (A : Matrix) → Valid p A → (a : ℕ) (g v : List ℕ) → apply p A (a ∷ g) v ≡ step p A a v (apply p A g v)
+unfolding step
+apply-cons p A h a g v =
+    table-apply p A (a ∷ g) v
+    ∙ table-ext (size A) (λ j. combination p A (a ∷ g) v j % p) (stepAt p A a v (apply p A g v))
+    (λ j l. ap (λ x. x % p) (sum-head (length g) (λ i. at (a ∷ g) i * at (power p A i v) j) ∙ ap (λ w. a * at w j + next j) (power-zero p A v))
+    ∙ sym (add-mod-mod (a * at v j) (next j) p) ∙ ap (λ x. (a * at v j + x) % p) (sym (row-apply p A h g v j l))
+    ∙ add-mod-mod (a * at v j) (row j) p)
+  where
+    row : ℕ → ℕ
+    row j = rowProduct A (apply p A g v) j
+
+    next : ℕ → ℕ
+    next j = sum (length g) (λ i. at g i * at (power p A (suc i) v) j)
+
+pub apply-one : (p : ℕ) (A : Matrix) (a : ℕ) (v : List ℕ) → apply p A (a ∷ []) v ≡ table (size A) (λ j. times p a (at v j))
+unfolding times
+apply-one p A a v =
+    table-apply p A (a ∷ []) v
+    ∙ table-ext (size A) (λ j. combination p A (a ∷ []) v j % p) (λ j. a * at v j % p)
+    (λ j l. ap (λ x. x % p)
+    (sum-head 0 (λ i. at (a ∷ []) i * at (power p A i v) j) ∙ ap₂ _+_ (ap (λ w. a * at w j) (power-zero p A v)) (sum-zero (λ i. at (a ∷ []) (suc i) * at (power p A (suc i) v) j))
+    ∙ add-zero (a * at v j)))
+
+-- ---- the rule as a loop runs it: from the last coefficient to the first
+
+pub horner-begins : (p : ℕ) (A : Matrix) (g v : List ℕ) → length v ≡ size A → 0 < length g
+    → table (length v) (λ j. times p (at g (length g - 1)) (at v j)) ≡ apply p A (drop (length g - 1) g) v
+horner-begins p A g v e l =
+    ap (λ n. table n (λ j. times p (at g last) (at v j))) e ∙ sym (apply-one p A (at g last) v)
+    ∙ ap (λ h. apply p A h v)
+    (sym (drop-cons g last 0 (omega (arith, l)) ∙ ap (λ k. at g last ∷ drop k g) whole ∙ ap (λ h. at g last ∷ h) (drop-length g)))
+  where
+    last : ℕ
+    last = length g - 1
+
+    whole : suc (length g - 1) ≡ length g
+    whole = omega (arith, l)
+
+pub horner-goes-on : (p : ℕ) (A : Matrix) → Valid p A → (g v : List ℕ) (i : ℕ) → 0 < i → i < length g
+    → step p A (at g (i - 1)) v (apply p A (drop i g) v) ≡ apply p A (drop (i - 1) g) v
+horner-goes-on p A h g v i l k =
+    let next : i ≡ suc (i - 1) = omega (arith, l) in
+    ap (λ m. step p A (at g (i - 1)) v (apply p A (drop m g) v)) next
+    ∙ sym (apply-cons p A h (at g (i - 1)) (drop (suc (i - 1)) g) v) ∙ ap (λ m. apply p A m v) (sym (drop-cons g (i - 1) 0 (omega (arith, k))))
+
+-- ---- their elements
+
+pub vector-table : (p n : ℕ) (f : ℕ → ℕ) → 0 < p → Vector p n (table n (λ i. f i % p))
+vector-table p n f l =
+    record { places = length-table n (λ i. f i % p); below = λ i k. rw (getD-table n (λ j. f j % p) i 0 k) (mod-lt (f i) l) }
+
+pub vector-step : (p : ℕ) (A : Matrix) (c : ℕ) (x v : List ℕ) → 0 < p → Vector p (size A) (step p A c x v)
+unfolding step
+vector-step p A c x v l = vector-table p (size A) (λ i. c * at x i + rowProduct A v i) l
+
+pub vector-product : (p : ℕ) (A : Matrix) (v : List ℕ) → 0 < p → Vector p (size A) (product p A v)
+unfolding product
+vector-product p A v l = vector-table p (size A) (rowProduct A v) l
+
+pub vector-apply : (p : ℕ) (A : Matrix) (g v : List ℕ) → 0 < p → Vector p (size A) (apply p A g v)
+unfolding apply
+vector-apply p A g v l = vector-table p (size A) (combination p A g v) l

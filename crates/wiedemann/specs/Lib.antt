@@ -1,0 +1,17 @@
+-- what the contracts cite
+pub mod Sums
+pub mod Valid
+pub mod Written
+pub mod Region
+pub mod Horner
+pub mod Transposed
+pub mod Checks
+pub mod Answers
+pub mod Recurrence
+pub mod Lent
+pub mod Projection
+pub mod Factor
+pub mod Turns
+pub mod Solver
+pub mod Verdict
+pub mod Taken

@@ -1,0 +1,134 @@
+-- Sums of words in two words (src/sums.rt), and sums by ranges.
+--     number           the number that a total stands for
+--     add-number       a word added: the lower word's sum, and its carry in the higher
+--     fold-number      the higher word taken at its weight 2⁶⁴ % p, twice
+--     high-fits, fold-fits      each step of that fits a word
+--     sumFrom-empty, sumFrom-suc, sumFrom-next      sums over a range: nothing, and one more at its end
+--     sumFrom-split    a range as two
+--     sumFrom-one, sumFrom-two, sumFrom-four        a few terms, as the code adds them
+--     sumFrom-ext      terms that agree within the range
+--     residues-fit, word-fits, words-fit            how large a product of two residues, of a 32-bit word and a residue, of two 32-bit words is
+--     Summed           the invariant of every loop that sums into a total: summed-none where it begins, summed-more for a turn,
+--                      summed-both for two such loops after each other
+use mathlib.Core.Path.{_≡_, sym, ap, ap₂, _∙_}
+use Prim.Native.Nat.{ℕ, zero, suc, _+_, _*_, _-_, _%_, _≤_, _<_}
+use native.Mathlib.Nat.{add-mod-mod, zero-add, add-zero, add-assoc, add-suc, sub-self, add-sub-of-le, mul-le-mul, suc-mul, zero-mul, one-mul}
+use native.Mathlib.Numerals.{add-one}
+use native.Mathlib.Omega.{arith}
+use Rattle.meaning.specs.List.{sum, sumFrom}
+use Rattle.laws.specs.List.{sum-zero, sum-suc, sum-ext}
+use Rattle.residue.specs.Numbers.{mul-mod-mod}
+use Rattle.wiedemann.specs.declared.sums.Total.{Total}
+
+abbrev pub number : Total → ℕ
+number t = t .low + t .high * 18446744073709551616
+
+-- ---- two words
+
+pub add-number : (low high x s r : ℕ) → s + r * 18446744073709551616 ≡ low + x
+    → s + (high + r) * 18446744073709551616 ≡ low + high * 18446744073709551616 + x
+add-number low high x s r e = omega (arith, e)
+
+pub fold-number : (p low high weight s r : ℕ) → weight ≡ 18446744073709551616 % p → s + r * 18446744073709551616 ≡ low + high * weight
+    → (s + r * weight) % p ≡ (low + high * 18446744073709551616) % p
+fold-number p low high weight s r w e = down s r ∙ ap (λ x. x % p) e ∙ down low high
+  where
+    down : (a b : ℕ) → (a + b * weight) % p ≡ (a + b * 18446744073709551616) % p
+    down a b =
+        ap (λ x. (a + b * x) % p) w ∙ sym (add-mod-mod a (b * (18446744073709551616 % p)) p)
+        ∙ ap (λ x. (a + x) % p) (mul-mod-mod b 18446744073709551616 p) ∙ add-mod-mod a (b * 18446744073709551616) p
+
+pub high-fits : (high weight : ℕ) → high < 4294967296 → weight < 4294967296 → high * weight + weight < 18446744073709551616
+high-fits high weight b w =
+    omega (arith, mul-le-mul {n₁ = suc high} {m₁ = weight} {n₂ = 4294967296} {m₂ = 4294967295} b (omega arith), suc-mul high weight)
+
+pub fold-fits : (low high weight s r : ℕ) → low < 18446744073709551616 → high * weight + weight < 18446744073709551616 → r ≤ 1
+    → s < 18446744073709551616 → s + r * 18446744073709551616 ≡ low + high * weight → s + r * weight < 18446744073709551616
+fold-fits low high weight s zero a b h k e = omega (arith, zero-mul weight)
+fold-fits low high weight s (suc zero) a b h k e = omega (arith, one-mul weight)
+fold-fits low high weight s (suc (suc r)) a b h k e = absurd (omega (arith, h))
+
+-- ---- sums over a range
+
+pub sumFrom-empty : (a : ℕ) (f : ℕ → ℕ) → sumFrom a a f ≡ 0
+sumFrom-empty a f = ap (λ n. sum n (λ j. f (a + j))) (sub-self a) ∙ sum-zero (λ j. f (a + j))
+
+pub sumFrom-suc : (a b : ℕ) (f : ℕ → ℕ) → a ≤ b → sumFrom a (suc b) f ≡ sumFrom a b f + f b
+sumFrom-suc a b f l =
+    ap (λ n. sum n (λ j. f (a + j))) (omega (arith, l)) ∙ sum-suc (b - a) (λ j. f (a + j))
+    ∙ ap (λ n. sumFrom a b f + f n) (add-sub-of-le l)
+
+pub sumFrom-next : (a b : ℕ) (f : ℕ → ℕ) → a ≤ b → sumFrom a (b + 1) f ≡ sumFrom a b f + f b
+sumFrom-next a b f l = ap (λ n. sumFrom a n f) (add-one b) ∙ sumFrom-suc a b f l
+
+pub sumFrom-split : (a b c : ℕ) (f : ℕ → ℕ) → a ≤ b → b ≤ c → sumFrom a c f ≡ sumFrom a b f + sumFrom b c f
+sumFrom-split a b c f l k =
+    ap (λ n. sumFrom a n f) (sym (add-sub-of-le k)) ∙ go (c - b) ∙ ap (λ n. sumFrom a b f + sumFrom b n f) (add-sub-of-le k)
+  where
+    go : (n : ℕ) → sumFrom a (b + n) f ≡ sumFrom a b f + sumFrom b (b + n) f
+    go zero =
+        ap (λ n. sumFrom a n f) (add-zero b) ∙ omega (arith, ap (λ n. sumFrom b n f) (add-zero b) ∙ sumFrom-empty b f)
+    go (suc n) =
+        ap (λ n. sumFrom a n f) (add-suc b n) ∙ sumFrom-suc a (b + n) f (omega arith) ∙ ap (λ x. x + f (b + n)) (go n)
+        ∙ omega (arith, ap (λ n. sumFrom b n f) (add-suc b n) ∙ sumFrom-suc b (b + n) f (omega arith))
+
+-- a few terms, as the code adds them
+module _ (a : ℕ) (f : ℕ → ℕ) where
+  more : (k x : ℕ) → sumFrom a (a + k) f ≡ x → sumFrom a (a + suc k) f ≡ x + f (a + k)
+  more k x e = ap (λ n. sumFrom a n f) (add-suc a k) ∙ sumFrom-suc a (a + k) f (omega arith) ∙ ap (λ y. y + f (a + k)) e
+
+  pub sumFrom-one : sumFrom a (a + 1) f ≡ f a
+  sumFrom-one = sumFrom-next a a f (omega arith) ∙ ap (λ x. x + f a) (sumFrom-empty a f) ∙ zero-add (f a)
+
+  pub sumFrom-two : sumFrom a (a + 2) f ≡ f a + f (a + 1)
+  sumFrom-two = more 1 (f a) sumFrom-one
+
+  pub sumFrom-four : sumFrom a (a + 4) f ≡ f a + f (a + 1) + f (a + 2) + f (a + 3)
+  sumFrom-four = more 3 (f a + f (a + 1) + f (a + 2)) (more 2 (f a + f (a + 1)) sumFrom-two)
+
+pub sumFrom-ext : (a b : ℕ) (f g : ℕ → ℕ) → ((k : ℕ) → a ≤ k → k < b → f k ≡ g k) → sumFrom a b f ≡ sumFrom a b g
+sumFrom-ext a b f g h = sum-ext (b - a) (λ j. f (a + j)) (λ j. g (a + j)) (λ j l. h (a + j) (omega arith) (omega arith))
+
+-- ---- products in a word
+
+-- of two residues: four such fit a word
+pub residues-fit : (a b : ℕ) → a < 2147483647 → b < 2147483647 → a * b ≤ 4611686009837453316
+residues-fit a b k l = mul-le-mul {n₁ = a} {m₁ = b} {n₂ = 2147483646} {m₂ = 2147483646} (omega arith) (omega arith)
+
+-- of a 32-bit word and a residue: two such fit a word
+pub word-fits : (a b : ℕ) → a < 4294967296 → b < 2147483647 → a * b ≤ 9223372026117357570
+word-fits a b k l = mul-le-mul {n₁ = a} {m₁ = b} {n₂ = 4294967295} {m₂ = 2147483646} (omega arith) (omega arith)
+
+-- of two 32-bit words: one fits
+pub words-fit : (a b : ℕ) → a < 4294967296 → b < 4294967296 → a * b < 18446744073709551616
+words-fit a b k l = omega (arith, mul-le-mul {n₁ = a} {m₁ = b} {n₂ = 4294967295} {m₂ = 4294967295} (omega arith) (omega arith))
+
+-- ---- the invariant of every loop that sums into a total
+
+-- r is t with the terms from a to b; no more carries than that
+pub record Summed (t r : Total) (a b : ℕ) (f : ℕ → ℕ) : Type 0 where
+  pub sum : number r ≡ number t + sumFrom a b f
+  pub carries : r .high ≤ b
+
+pub summed-none : (t : Total) (a : ℕ) (f : ℕ → ℕ) → t .high ≤ a → Summed t t a a f
+summed-none t a f h = record { sum = sym (ap (λ x. number t + x) (sumFrom-empty a f) ∙ add-zero (number t)); carries = h }
+
+-- a turn adds the word x
+pub summed-more : (t s r : Total) (a b c : ℕ) (f : ℕ → ℕ) (x : ℕ) → a ≤ b → b < c → Summed t s a b f → x ≡ sumFrom b c f
+    → (number r ≡ number s + x) × (r .high ≤ s .high + 1) → Summed t r a c f
+summed-more t s r a b c f x l k h e m =
+    record {
+      sum =
+          m .0 ∙ ap₂ _+_ (h .sum) e ∙ add-assoc (number t) (sumFrom a b f) (sumFrom b c f)
+          ∙ ap (λ y. number t + y) (sym (sumFrom-split a b c f l (omega (arith, k))));
+      carries = omega (arith, m .1, h .carries, k);
+    }
+
+pub summed-both : (t s r : Total) (a b c : ℕ) (f : ℕ → ℕ) → a ≤ b → b ≤ c → Summed t s a b f → Summed s r b c f → Summed t r a c f
+summed-both t s r a b c f l k h m =
+    record {
+      sum =
+          m .sum ∙ ap (λ y. y + sumFrom b c f) (h .sum) ∙ add-assoc (number t) (sumFrom a b f) (sumFrom b c f)
+          ∙ ap (λ y. number t + y) (sym (sumFrom-split a b c f l k));
+      carries = m .carries;
+    }

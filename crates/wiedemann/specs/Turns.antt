@@ -1,0 +1,360 @@
+-- Iterates of a vector in three regions of n places at the front of a slice: r in the first, the iterates in the other two by turns.
+--     Seat n a               a is where one of the regions begins
+--     Other n from to        the region to write next: neither the first nor that at `from`
+--     Turning                what a product from one region into another asks
+--     Advanced               what it leaves: Horner's step with r
+--     regions, advanced      the step within one slice is that
+--     Iterated               the terms of a sequence up to i, and Aⁱr in a region: iterated-none, iterated-more, iterated-from; Sequenced: all of
+--                            them, iterated-all
+--     Applying               Horner's rule down to coefficient i: applying-none, applying-more; Applied: all of it, r replaced, applied-all
+--     Generated              the shortest recurrence of a part: generated
+--     Shortened              terms, recurrence, and r replaced by f(A)r: shortened
+--     monic-leading          the leading coefficient of a monic polynomial
+--     vector-power, vector-terms, apply-unit      Aⁱv and the terms have elements below p; 1(A)v is v
+use mathlib.Core.Path.{_≡_, refl, sym, ap, ap₂, _∙_, subst}
+use mathlib.Core.Logic.{_⊎_, inl, inr}
+use mathlib.Core.Bool.{true, _&&_}
+use mathlib.Core.List.{List, [], _∷_}
+use Prim.Native.Nat.{ℕ, zero, suc, _+_, _-_, _*_, _%_, _≤_, _<_}
+use native.Mathlib.Nat.{zero-add, add-zero, add-assoc, one-mul, mod-eq-of-lt, eq-or-lt-of-le}
+use native.Mathlib.Numerals.{add-one}
+use native.Mathlib.Omega.{arith}
+use lib.ListN.{length, take, drop, set, length-set, length-drop}
+use lib.Seq.{getD-set-same, getD-set-other, getD-drop, take-set-le, take-take}
+use lib.Dec.{eqb, ltb}
+use borrow.Author.Tests.{eqb-true}
+use Rattle.meaning.specs.List.{at, sum, table, every, padded}
+use Rattle.meaning.specs.Field.{times, isModulus}
+use Rattle.meaning.specs.Matrix.{Matrix, size, product, power, apply}
+use Rattle.meaning.specs.Recurrence.{isMonic, degree, generator}
+use Rattle.meaning.specs.Solver.{dot, terms}
+use Rattle.laws.specs.Bool.{and-right}
+use Rattle.laws.specs.List.{table-of}
+use Rattle.residue.specs.Prime.{Prime, isModulus-Prime}
+use Rattle.bridge.specs.Recurrence.{steps-within, length-generator, isShortest}
+use Rattle.wiedemann.specs.Valid.{Valid, Vector}
+use Rattle.wiedemann.specs.Written.{Written}
+use Rattle.wiedemann.specs.Region.{part, Apart, Regions, length-part, at-part, part-ext, vector-part, written-part}
+use Rattle.wiedemann.specs.Region as region
+use Rattle.wiedemann.specs.Horner.{step, stepAt, table-step, step-product, power-zero, power-suc, apply-one, apply-cons, vector-table, vector-product, vector-apply}
+use Rattle.wiedemann.specs.Recurrence.{Found}
+use Rattle.wiedemann.specs.Lent.{part-at, part-cons, lent, length-lent, take-lent, inner-lent, same-take, same-drop, written-take, written-drop, take-padded}
+
+pub data Seat (n a : ℕ) : Type 0 where
+  origin : a ≡ 0 → Seat n a
+  odd : a ≡ n → Seat n a
+  even : a ≡ 2 * n → Seat n a
+
+pub seat-low : {n a : ℕ} → Seat n a → a ≤ 2 * n
+seat-low (origin e) = omega (arith, e)
+seat-low (odd e) = omega (arith, e)
+seat-low (even e) = omega (arith, e)
+
+pub record Other (n from to : ℕ) : Type 0 where
+  pub seat : Seat n to
+  pub high : n ≤ to
+  pub low : to ≤ 2 * n
+  pub apart : Apart to n from n
+
+pub record Turning (p n from : ℕ) (W : List ℕ) : Type 0 where
+  pub seat : Seat n from
+  pub room : 3 * n ≤ length W
+  pub elements : Vector p n (part from n W)
+
+pub record Advanced (p : ℕ) (A : Matrix) (c : ℕ) (W : List ℕ) (from : ℕ) (W′ : List ℕ) (to : ℕ) : Type 0 where
+  pub seat : Seat (size A) to
+  pub same-length : length W′ ≡ length W
+  pub front : take (size A) W′ ≡ take (size A) W
+  pub rest : drop (3 * size A) W′ ≡ drop (3 * size A) W
+  pub holds : part to (size A) W′ ≡ step p A c (part 0 (size A) W) (part from (size A) W)
+
+pub regions : {p n from to : ℕ} {W : List ℕ} → Turning p n from W → Other n from to → Regions p n 0 from to W
+regions {p} {n} {from} {to} {W} t o =
+    record {
+      origin-fits = omega (arith, t .room);
+      source-fits = omega (arith, t .room, seat-low (t .seat));
+      target-fits = omega (arith, t .room, o .low);
+      origin-apart = region.after (omega (arith, o .high));
+      source-apart = o .apart;
+      elements = λ i l. rw at-part at (t .elements .below i l);
+    }
+
+pub advanced : {p : ℕ} {A : Matrix} {c from to : ℕ} {W W′ : List ℕ} → Turning p (size A) from W → Other (size A) from to
+    → Written W to (size A) (stepAt p A c (part 0 (size A) W) (part from (size A) W)) W′ → Advanced p A c W from W′ to
+advanced {p} {A} {c} {from} {to} {W} {W′} t o w =
+    record {
+      seat = o .seat;
+      same-length = w .same-length;
+      front = written-take (size A) (o .high) (omega (arith, t .room)) w;
+      rest = written-drop (3 * size A) (omega (arith, o .low)) w;
+      holds =
+          written-part W to (size A) (stepAt p A c (part 0 (size A) W) (part from (size A) W)) W′ (omega (arith, t .room, o .low)) w
+          ∙ sym (table-step p A c (part 0 (size A) W) (part from (size A) W));
+    }
+
+pub vector-power : (p : ℕ) (A : Matrix) (i : ℕ) (v : List ℕ) → 0 < p → Vector p (size A) v → Vector p (size A) (power p A i v)
+vector-power p A zero v l h = rw (power-zero p A v) h
+vector-power p A (suc i) v l h = rw (power-suc p A i v) (vector-product p A (power p A i v) l)
+
+-- ---- the terms of a sequence
+
+pub record Iterated (p : ℕ) (A : Matrix) (u W : List ℕ) (i from : ℕ) (W′ : List ℕ) : Type 0 where
+  pub seat : Seat (size A) from
+  pub same-length : length W′ ≡ length W
+  pub front : take (size A) W′ ≡ take (size A) W
+  pub holds : part from (size A) W′ ≡ power p A i (part 0 (size A) W)
+  pub terms : (k : ℕ) → k ≤ i → at W′ (3 * size A + k) ≡ dot p u (power p A k (part 0 (size A) W))
+
+pub record Sequenced (p : ℕ) (A : Matrix) (left : ℕ) (u W W′ : List ℕ) : Type 0 where
+  pub same-length : length W′ ≡ length W
+  pub front : take (size A) W′ ≡ take (size A) W
+  pub terms : part (3 * size A) (2 * left) W′ ≡ terms p A left u (part 0 (size A) W)
+
+part-set : (a n : ℕ) (W : List ℕ) (i v : ℕ) → a + n ≤ i → a + n ≤ length W → part a n (set W i v) ≡ part a n W
+part-set a n W i v l k =
+    part-ext a n (set W i v) W (omega (arith, length-set W i v, k)) k (λ j h. getD-set-other W i (a + j) v 0 (λ q. omega (arith, q, l, h)))
+
+pub iterated-none : (p : ℕ) (A : Matrix) (u W : List ℕ) (v : ℕ) → 3 * size A < length W → v ≡ dot p u (part 0 (size A) W)
+    → Iterated p A u W 0 0 (set W (3 * size A) v)
+iterated-none p A u W v l e =
+    record {
+      seat = origin refl;
+      same-length = length-set W (3 * size A) v;
+      front = take-set-le (size A) W (3 * size A) v (omega arith);
+      holds = part-set 0 (size A) W (3 * size A) v (omega arith) (omega (arith, l)) ∙ sym (power-zero p A (part 0 (size A) W));
+      terms = λ k h. go k (omega (arith, h));
+    }
+  where
+    go : (k : ℕ) → k ≡ 0 → at (set W (3 * size A) v) (3 * size A + k) ≡ dot p u (power p A k (part 0 (size A) W))
+    go k q =
+        ap (at (set W (3 * size A) v)) (ap (λ m. 3 * size A + m) q ∙ add-zero (3 * size A)) ∙ getD-set-same W (3 * size A) v 0 l ∙ e
+        ∙ ap (dot p u) (sym (power-zero p A (part 0 (size A) W)) ∙ ap (λ m. power p A m (part 0 (size A) W)) (sym q))
+
+at-rest : (m k : ℕ) (W W′ : List ℕ) → drop m W′ ≡ drop m W → at W′ (m + k) ≡ at W (m + k)
+at-rest m k W W′ e = sym (getD-drop m W′ k 0) ∙ ap (λ l. at l k) e ∙ getD-drop m W k 0
+
+pub iterated-more : {p : ℕ} {A : Matrix} {u W : List ℕ} {i from to : ℕ} {W₁ W₂ : List ℕ} (v : ℕ) → Iterated p A u W i from W₁
+    → Advanced p A 0 W₁ from W₂ to → 3 * size A + (i + 1) < length W → v ≡ dot p u (part to (size A) W₂)
+    → Iterated p A u W (i + 1) to (set W₂ (3 * size A + (i + 1)) v)
+iterated-more {p} {A} {u} {W} {i} {from} {to} {W₁} {W₂} v w a l e =
+    record {
+      seat = a .seat;
+      same-length = length-set W₂ (n3 + (i + 1)) v ∙ long;
+      front = take-set-le n W₂ (n3 + (i + 1)) v (omega arith) ∙ a .front ∙ w .front;
+      holds = part-set to n W₂ (n3 + (i + 1)) v (omega (arith, seat-low (a .seat))) (omega (arith, seat-low (a .seat), long, l)) ∙ next;
+      terms = λ k h. go k (eq-or-lt-of-le h);
+    }
+  where
+    n : ℕ
+    n = size A
+
+    n3 : ℕ
+    n3 = 3 * size A
+
+    long : length W₂ ≡ length W
+    long = a .same-length ∙ w .same-length
+
+    next : part to n W₂ ≡ power p A (i + 1) (part 0 n W)
+    next =
+        a .holds ∙ step-product p A (part 0 n W₁) (part from n W₁) ∙ ap (product p A) (w .holds)
+        ∙ sym (ap (λ m. power p A m (part 0 n W)) (add-one i) ∙ power-suc p A i (part 0 n W))
+
+    go : (k : ℕ) → (k ≡ i + 1) ⊎ (k < i + 1) → at (set W₂ (n3 + (i + 1)) v) (n3 + k) ≡ dot p u (power p A k (part 0 n W))
+    go k (inl q) =
+        ap (λ m. at (set W₂ (n3 + (i + 1)) v) (n3 + m)) q ∙ getD-set-same W₂ (n3 + (i + 1)) v 0 (omega (arith, long, l)) ∙ e
+        ∙ ap (dot p u) (next ∙ ap (λ m. power p A m (part 0 n W)) (sym q))
+    go k (inr q) =
+        getD-set-other W₂ (n3 + (i + 1)) (n3 + k) v 0 (λ r. omega (arith, r, q)) ∙ at-rest n3 k W₁ W₂ (a .rest) ∙ w .terms k (omega (arith, q))
+
+pub vector-terms : (p : ℕ) (A : Matrix) (left : ℕ) (u r : List ℕ) → 0 < p → Vector p (2 * left) (terms p A left u r)
+unfolding terms dot
+vector-terms p A left u r l =
+    vector-table p (2 * left) (λ i. sum (length (power p A i r)) (λ k. at u k * at (power p A i r) k)) l
+
+pub iterated-all : {p : ℕ} {A : Matrix} {u W : List ℕ} {i from : ℕ} {W′ : List ℕ} (left : ℕ) → i + 1 ≡ 2 * left → 3 * size A + 2 * left ≤ length W
+    → Iterated p A u W i from W′ → Sequenced p A left u W W′
+unfolding terms
+iterated-all {p} {A} {u} {W} {i} {from} {W′} left e l w =
+    record {
+      same-length = w .same-length;
+      front = w .front;
+      terms =
+          table-of 0 (part (3 * size A) (2 * left) W′) (2 * left) (λ k. dot p u (power p A k (part 0 (size A) W)))
+          (length-part (3 * size A) (2 * left) W′ (omega (arith, l, w .same-length)))
+          (λ k h. at-part (3 * size A) (2 * left) W′ k h ∙ w .terms k (omega (arith, h, e)));
+    }
+
+-- where the slice began otherwise, but for r
+pub iterated-from : {p : ℕ} {A : Matrix} {u W W₁ : List ℕ} {i from : ℕ} {W′ : List ℕ} → length W ≡ length W₁ → take (size A) W ≡ take (size A) W₁
+    → Iterated p A u W i from W′ → Iterated p A u W₁ i from W′
+iterated-from {p} {A} {u} {W} {W₁} {i} {from} {W′} e f w =
+    record {
+      seat = w .seat;
+      same-length = w .same-length ∙ e;
+      front = w .front ∙ f;
+      holds = w .holds ∙ ap (power p A i) f;
+      terms = λ k h. w .terms k h ∙ ap (λ r. dot p u (power p A k r)) f;
+    }
+
+-- ---- Horner's rule
+
+pub record Applying (p : ℕ) (A : Matrix) (W : List ℕ) (f t i from : ℕ) (W′ : List ℕ) : Type 0 where
+  pub seat : Seat (size A) from
+  pub same-length : length W′ ≡ length W
+  pub front : take (size A) W′ ≡ take (size A) W
+  pub rest : drop (3 * size A) W′ ≡ drop (3 * size A) W
+  pub holds : part from (size A) W′ ≡ apply p A (part (f + i) (t + 1 - i) W) (part 0 (size A) W)
+
+pub record Applied (p : ℕ) (A : Matrix) (W : List ℕ) (f t : ℕ) (W′ : List ℕ) : Type 0 where
+  pub same-length : length W′ ≡ length W
+  pub rest : drop (3 * size A) W′ ≡ drop (3 * size A) W
+  pub holds : part 0 (size A) W′ ≡ apply p A (part f (t + 1) W) (part 0 (size A) W)
+
+-- what Horner's rule asks: a leading coefficient 1 further up than the three regions
+pub record Leading (p n : ℕ) (W : List ℕ) (f t : ℕ) : Type 0 where
+  pub above : 3 * n ≤ f
+  pub room : f + t < length W
+  pub one : at W (f + t) ≡ 1
+  pub elements : Vector p n (part 0 n W)
+
+pub apply-unit : (p : ℕ) (A : Matrix) (v : List ℕ) → Vector p (size A) v → apply p A (1 ∷ []) v ≡ v
+unfolding times
+apply-unit p A v h =
+    apply-one p A 1 v
+    ∙ sym (table-of 0 v (size A) (λ j. times p 1 (at v j)) (h .places) (λ j l. sym (ap (λ x. x % p) (one-mul (at v j)) ∙ mod-eq-of-lt (h .below j l))))
+
+pub applying-none : {p : ℕ} {A : Matrix} {W : List ℕ} {f t : ℕ} → Leading p (size A) W f t → Applying p A W f t t 0 W
+applying-none {p} {A} {W} {f} {t} h =
+    record {
+      seat = origin refl;
+      same-length = refl;
+      front = refl;
+      rest = refl;
+      holds = sym (ap (λ g. apply p A g (part 0 (size A) W)) leading ∙ apply-unit p A (part 0 (size A) W) (h .elements));
+    }
+  where
+    leading : part (f + t) (t + 1 - t) W ≡ 1 ∷ []
+    leading = part-at W (f + t) (t + 1 - t) (f + t) 1 refl (omega arith) ∙ part-cons (f + t) 0 W (h .room) ∙ ap (λ x. x ∷ []) (h .one)
+
+pub applying-more : {p : ℕ} {A : Matrix} {W : List ℕ} {f t i from to : ℕ} {W₁ W₂ : List ℕ} (c : ℕ) → Valid p A → Leading p (size A) W f t
+    → Applying p A W f t (i + 1) from W₁ → i < t → c ≡ at W₁ (f + i) → Advanced p A c W₁ from W₂ to → Applying p A W f t i to W₂
+applying-more {p} {A} {W} {f} {t} {i} {from} {to} {W₁} {W₂} c valid h w l e a =
+    record {
+      seat = a .seat;
+      same-length = a .same-length ∙ w .same-length;
+      front = a .front ∙ w .front;
+      rest = a .rest ∙ w .rest;
+      holds =
+          a .holds ∙ ap (λ d. step p A d (part 0 n W₁) (part from n W₁)) (e ∙ coefficient)
+          ∙ ap₂ (step p A (at W (f + i))) (w .front) (w .holds)
+          ∙ sym (apply-cons p A valid (at W (f + i)) (part (f + (i + 1)) (t + 1 - (i + 1)) W) (part 0 n W))
+          ∙ ap (λ g. apply p A g (part 0 n W)) (sym split);
+    }
+  where
+    n : ℕ
+    n = size A
+
+    coefficient : at W₁ (f + i) ≡ at W (f + i)
+    coefficient =
+        ap (at W₁) place ∙ at-rest (3 * n) (f + i - 3 * n) W W₁ (w .rest) ∙ ap (at W) (sym place)
+      where
+        place : f + i ≡ 3 * n + (f + i - 3 * n)
+        place = omega (arith, h .above)
+
+    split : part (f + i) (t + 1 - i) W ≡ at W (f + i) ∷ part (f + (i + 1)) (t + 1 - (i + 1)) W
+    split =
+        part-at W (f + i) (t + 1 - i) (f + i) (suc (t + 1 - (i + 1))) refl (omega (arith, l)) ∙ part-cons (f + i) (t + 1 - (i + 1)) W (omega (arith, l, h .room))
+        ∙ ap (λ g. at W (f + i) ∷ g) (part-at W (suc (f + i)) (t + 1 - (i + 1)) (f + (i + 1)) (t + 1 - (i + 1)) (omega arith) refl)
+
+pub applied-all : {p : ℕ} {A : Matrix} {W : List ℕ} {f t from : ℕ} {W₁ W₂ : List ℕ} → 3 * size A ≤ length W → Applying p A W f t 0 from W₁
+    → Written W₁ 0 (size A) (λ i. at W₁ (from + i)) W₂ → Applied p A W f t W₂
+applied-all {p} {A} {W} {f} {t} {from} {W₁} {W₂} l w c =
+    record {
+      same-length = c .same-length ∙ w .same-length;
+      rest = written-drop (3 * size A) (omega arith) c ∙ w .rest;
+      holds =
+          written-part W₁ 0 (size A) (λ i. at W₁ (from + i)) W₂ (omega (arith, l, w .same-length)) c
+          ∙ sym (table-of 0 (part from (size A) W₁) (size A) (λ i. at W₁ (from + i)) (length-part from (size A) W₁ (omega (arith, l, w .same-length, seat-low (w .seat)))) (λ i k. at-part from (size A) W₁ i k))
+          ∙ w .holds ∙ ap (λ g. apply p A g (part 0 (size A) W)) (part-at W (f + 0) (t + 1 - 0) f (t + 1) (add-zero f) (omega arith));
+    }
+
+-- ---- terms, recurrence and f(A)r
+
+pub record Generated (p : ℕ) (W : List ℕ) (from count : ℕ) (W′ : List ℕ) (t : ℕ) : Type 0 where
+  pub same-length : length W′ ≡ length W
+  pub before : take from W′ ≡ take from W
+  pub answer : t ≡ degree p (part from count W)
+  pub short : t ≤ count
+  pub f : part (from + (count + 2)) (t + 1) W′ ≡ generator p (part from count W)
+  pub monic : at W′ (from + (count + 2) + t) ≡ 1
+
+pub monic-leading : (p d : ℕ) (f : List ℕ) → isMonic p d f ≡ true → at f d ≡ 1
+unfolding isMonic
+monic-leading p d f e =
+    eqb-true (at f d) 1 (and-right (eqb (length f) (d + 1) && every (λ a. ltb a p) f) (eqb (at f d) 1) e)
+
+pub generated : (p : ℕ) (W : List ℕ) (from count m : ℕ) (Y : List ℕ) (t : ℕ) → isModulus p ≡ true → m ≡ 4 * count + 8 → from + m ≤ length W
+    → length Y ≡ m → Found p count (part from m W) Y t → Generated p W from count (lent W from m Y) t
+unfolding degree
+generated p W from count m Y t modulus e l same found =
+    record {
+      same-length = length-lent W from m Y l same;
+      before = take-lent W from m Y l same;
+      answer = answer;
+      short = short;
+      f = f;
+      monic =
+          sym (at-part (from + (count + 2)) (t + 1) (lent W from m Y) t (omega arith)) ∙ ap (λ g. at g t) f ∙ ap (at (generator p s)) answer
+          ∙ monic-leading p (degree p s) (generator p s) (isShortest p prime s .monic);
+    }
+  where
+    prime : Prime p
+    prime = isModulus-Prime p modulus
+
+    s : List ℕ
+    s = part from count W
+
+    sized : length s ≡ count
+    sized = length-part from count W (omega (arith, l, e))
+
+    terms-of : take count (part from m W) ≡ s
+    terms-of = take-take count m (drop from W) (omega (arith, e))
+
+    answer : t ≡ degree p s
+    answer = found .answer ∙ ap (degree p) terms-of
+
+    short : t ≤ count
+    short = omega (arith, answer, steps-within p prime s (length s), sized)
+
+    f : part (from + (count + 2)) (t + 1) (lent W from m Y) ≡ generator p s
+    f =
+        inner-lent W from m Y l same (count + 2) (t + 1) (omega (arith, short, e))
+        ∙ sym (take-take (t + 1) (count + 2) (drop (count + 2) Y) (omega (arith, short)))
+        ∙ ap (take (t + 1)) (found .f)
+        ∙ ap (λ g. take (t + 1) (padded (count + 2) g)) (ap (generator p) terms-of)
+        ∙ ap (λ k. take k (padded (count + 2) (generator p s))) (sym long)
+        ∙ take-padded (count + 2) (generator p s) (omega (arith, long, short))
+      where
+        long : length (generator p s) ≡ t + 1
+        long = length-generator p prime s ∙ ap (λ k. k + 1) (sym answer)
+
+pub record Shortened (p : ℕ) (A : Matrix) (left : ℕ) (u W W′ : List ℕ) (t : ℕ) : Type 0 where
+  pub same-length : length W′ ≡ length W
+  pub answer : t ≡ degree p (terms p A left u (part 0 (size A) W))
+  pub short : t ≤ 2 * left
+  pub residual : part 0 (size A) W′ ≡ apply p A (generator p (terms p A left u (part 0 (size A) W))) (part 0 (size A) W)
+  pub f : part (3 * size A + (2 * left + 2)) (t + 1) W′ ≡ generator p (terms p A left u (part 0 (size A) W))
+
+pub shortened : {p : ℕ} {A : Matrix} {left : ℕ} {u W W₁ W₂ W₃ : List ℕ} {t : ℕ} → 3 * size A ≤ length W → Sequenced p A left u W W₁
+    → Generated p W₁ (3 * size A) (2 * left) W₂ t → Applied p A W₂ (3 * size A + (2 * left + 2)) t W₃ → Shortened p A left u W W₃ t
+shortened {p} {A} {left} {u} {W} {W₁} {W₂} {W₃} {t} l s g a =
+    record {
+      same-length = a .same-length ∙ g .same-length ∙ s .same-length;
+      answer = g .answer ∙ ap (degree p) (s .terms);
+      short = g .short;
+      residual = a .holds ∙ ap₂ (λ f r. apply p A f r) (g .f ∙ ap (generator p) (s .terms)) first;
+      f = same-drop (2 * left + 2) (t + 1) (3 * size A) W₂ W₃ (a .rest) ∙ g .f ∙ ap (generator p) (s .terms);
+    }
+  where
+    first : part 0 (size A) W₂ ≡ part 0 (size A) W
+    first = same-take 0 (size A) (3 * size A) W₁ W₂ (omega arith) (omega (arith, l, s .same-length)) (g .same-length) (g .before) ∙ s .front

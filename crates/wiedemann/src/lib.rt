@@ -1,0 +1,10 @@
+// Sparse matrices modulo a prime: their products and polynomials, shortest recurrences, the solver and the checks of offered answers.
+pub mod matrix;
+pub mod offered;
+mod pass;
+mod projection;
+pub mod recurrence;
+mod refusal;
+mod scale;
+pub mod solver;
+mod sums;

@@ -1,0 +1,408 @@
+// Sparse matrices: the product of a row, and what is made of it.
+ghost use mathlib.Core.Path.{_≡_};
+ghost use mathlib.Core.Logic.{_≢_};
+ghost use Prim.Native.Nat.{ℕ, _+_, _-_, _*_, _%_, _≤_, _<_};
+ghost use lib.ListN.{length};
+ghost use Rattle.meaning.specs.List.{at, sumFrom, table, zeros};
+ghost use Rattle.meaning.specs.Field.{plus, times};
+ghost use Rattle.wiedemann.specs.Sums.{Summed};
+ghost use Rattle.meaning.specs.Matrix.{matrix, product, apply, transposed};
+ghost use Rattle.meaning.specs.Calls.{productRefusal, productAfter, applyRefusal, applyAfter};
+ghost use Rattle.wiedemann.specs.Valid.{Entries, term, Valid, Vector, rowProduct};
+ghost use Rattle.wiedemann.specs.Horner.{step, stepAt};
+ghost use Rattle.wiedemann.specs.Written.{Written};
+ghost use Rattle.wiedemann.specs.Region.{part, Regions};
+ghost use Rattle.wiedemann.specs.Transposed.{scattered};
+ghost use Rattle.wiedemann.specs.Answers.{Writes};
+use crate::refusal::apply_refusal;
+use crate::refusal::product_refusal;
+use crate::scale::quotient;
+use crate::scale::scaled;
+use crate::sums::Total;
+use crate::sums::times;
+use crate::sums::weight;
+use crate::sums::wide;
+use field::Field;
+
+// The product of entry k's value with the element of v at its column.
+fn entry(k: usize, columns: &[u32], values: &[u32], v: &[u32]) -> u64
+    requires { ⌜ Entries (now columns) (now values) (now v) ⌝ }
+    requires { ⌜ k < length (now columns) ⌝ }
+    ensures { λ r. ⌜ (r ≡ term (now (columns .entry)) (now (values .entry)) (now (v .entry)) k) × (r ≤ 4611686009837453316) ⌝ }
+{
+    let j = wide(columns[k]);
+    times(values[k], v[j])
+}
+
+// Four of them fit a word.
+fn four(k: usize, columns: &[u32], values: &[u32], v: &[u32]) -> u64
+    requires { ⌜ Entries (now columns) (now values) (now v) ⌝ }
+    requires { ⌜ k + 4 ≤ length (now columns) ⌝ }
+    ensures { λ r. ⌜ r ≡ sumFrom k (k + 4) (term (now (columns .entry)) (now (values .entry)) (now (v .entry))) ⌝ }
+{
+    entry(k, columns, values, v)
+        + entry(k + 1, columns, values, v)
+        + entry(k + 2, columns, values, v)
+        + entry(k + 3, columns, values, v)
+}
+
+// The total with the products of a whole number of groups of four entries.
+fn fours(total: Total, from: usize, to: usize, columns: &[u32], values: &[u32], v: &[u32]) -> Total
+    requires { ⌜ Entries (now columns) (now values) (now v) ⌝ }
+    requires { ⌜ (from ≤ to) × (to ≤ length (now columns)) × (total .high ≤ from) × ((to - from) % 4 ≡ 0) ⌝ }
+    ensures { λ r. ⌜ Summed total r from to (term (now (columns .entry)) (now (values .entry)) (now (v .entry))) ⌝ }
+{
+    let mut sum = total;
+    let mut k = from;
+    while k < to {
+        sum = sum.add(four(k, columns, values, v));
+        k += 4;
+    }
+    sum
+}
+
+// The total with the products of some entries, one at a time.
+fn ones(total: Total, from: usize, to: usize, columns: &[u32], values: &[u32], v: &[u32]) -> Total
+    requires { ⌜ Entries (now columns) (now values) (now v) ⌝ }
+    requires { ⌜ (from ≤ to) × (to ≤ length (now columns)) × (total .high ≤ from) ⌝ }
+    ensures { λ r. ⌜ Summed total r from to (term (now (columns .entry)) (now (values .entry)) (now (v .entry))) ⌝ }
+{
+    let mut sum = total;
+    let mut k = from;
+    while k < to {
+        sum = sum.add(entry(k, columns, values, v));
+        k += 1;
+    }
+    sum
+}
+
+// start plus the product of row i with v, modulo p: element i of Av if start is 0. One reduction for a row.
+pub(crate) fn row(
+    p: u32,
+    weight: u64,
+    start: u64,
+    i: usize,
+    starts: &[u32],
+    columns: &[u32],
+    values: &[u32],
+    v: &[u32],
+) -> u32
+    requires { ⌜ Valid p (matrix (now starts) (now columns) (now values)) ⌝ }
+    requires { ⌜ (weight ≡ 18446744073709551616 % p) × (i < length (now starts) - 1) × Vector p (length (now starts) - 1) (now v) ⌝ }
+    ensures { λ r. ⌜ r ≡ (start + rowProduct (matrix (now (starts .entry)) (now (columns .entry)) (now (values .entry))) (now (v .entry)) i) % p ⌝ }
+{
+    let from = wide(starts[i]);
+    let to = wide(starts[i + 1]);
+    let middle = to - (to - from) % 4;
+    let total = Total {
+        low: start,
+        high: 0,
+    };
+    let most = fours(total, from, middle, columns, values, v);
+    ones(most, middle, to, columns, values, v).residue(p, weight)
+}
+
+// Horner's step: c × x plus the product with v, into out. It is the product if c is 0.
+pub(crate) fn step(
+    p: u32,
+    weight: u64,
+    c: u32,
+    x: &[u32],
+    starts: &[u32],
+    columns: &[u32],
+    values: &[u32],
+    v: &[u32],
+    out: &mut [u32],
+)
+    requires { ⌜ Valid p (matrix (now starts) (now columns) (now values)) ⌝ }
+    requires { ⌜ (weight ≡ 18446744073709551616 % p) × (length (now out) ≡ length (now starts) - 1) × (length (now x) ≡ length (now starts) - 1) × Vector p (length (now starts) - 1) (now v) ⌝ }
+    ensures { λ r. ⌜ now (out .exit) ≡ step p (matrix (now (starts .entry)) (now (columns .entry)) (now (values .entry))) c (now (x .entry)) (now (v .entry)) ⌝ }
+{
+    let mut i = 0;
+    while i < out.len() {
+        out[i] = row(p, weight, times(c, x[i]), i, starts, columns, values, v);
+        i += 1;
+    }
+}
+
+// The row with the part of `work` from `source` on.
+fn row_within(
+    p: u32,
+    weight: u64,
+    start: u64,
+    i: usize,
+    starts: &[u32],
+    columns: &[u32],
+    values: &[u32],
+    work: &[u32],
+    source: usize,
+) -> u32
+    requires { ⌜ Valid p (matrix (now starts) (now columns) (now values)) ⌝ }
+    requires { ⌜ (weight ≡ 18446744073709551616 % p) × (i < length (now starts) - 1) × (source + (length (now starts) - 1) ≤ length (now work)) × Vector p (length (now starts) - 1) (part source (length (now starts) - 1) (now work)) ⌝ }
+    ensures { λ r. ⌜ r ≡ (start + rowProduct (matrix (now (starts .entry)) (now (columns .entry)) (now (values .entry))) (part source (length (now (starts .entry)) - 1) (now (work .entry))) i) % p ⌝ }
+{
+    let end = source + (starts.len() - 1);
+    row(
+        p,
+        weight,
+        start,
+        i,
+        starts,
+        columns,
+        values,
+        &work[source..end],
+    )
+}
+
+// Horner's step within one slice: c × the part from `origin` on plus the product with the part from `source` on, into the part from `target` on.
+pub(crate) fn step_within(
+    p: u32,
+    weight: u64,
+    c: u32,
+    starts: &[u32],
+    columns: &[u32],
+    values: &[u32],
+    work: &mut [u32],
+    origin: usize,
+    source: usize,
+    target: usize,
+)
+    requires { ⌜ Valid p (matrix (now starts) (now columns) (now values)) ⌝ }
+    requires { ⌜ (weight ≡ 18446744073709551616 % p) × Regions p (length (now starts) - 1) origin source target (now work) ⌝ }
+    ensures { λ r. ⌜ Written (now (work .entry)) target (length (now (starts .entry)) - 1) (stepAt p (matrix (now (starts .entry)) (now (columns .entry)) (now (values .entry))) c (part origin (length (now (starts .entry)) - 1) (now (work .entry))) (part source (length (now (starts .entry)) - 1) (now (work .entry)))) (now (work .exit)) ⌝ }
+{
+    let n = starts.len() - 1;
+    let mut i = 0;
+    while i < n {
+        let start = times(c, work[origin + i]);
+        work[target + i] = row_within(p, weight, start, i, starts, columns, values, work, source);
+        i += 1;
+    }
+}
+
+// c × v into out.
+fn multiple(p: u32, c: u32, v: &[u32], out: &mut [u32])
+    requires { ⌜ (c < p) × (p ≤ 2147483647) × (length (now out) ≡ length (now v)) ⌝ }
+    ensures { λ r. ⌜ now (out .exit) ≡ table (length (now (v .entry))) (λ i. times p c (at (now (v .entry)) i)) ⌝ }
+{
+    let w = quotient(p, c);
+    let mut i = 0;
+    while i < v.len() {
+        out[i] = scaled(p, c, w, v[i]);
+        i += 1;
+    }
+}
+
+// v into the front of work.
+fn copy_front(v: &[u32], work: &mut [u32])
+    requires { ⌜ length (now v) ≤ length (now work) ⌝ }
+    ensures { λ r. ⌜ Written (now (work .entry)) 0 (length (now (v .entry))) (λ i. at (now (v .entry)) i) (now (work .exit)) ⌝ }
+{
+    let mut i = 0;
+    while i < v.len() {
+        work[i] = v[i];
+        i += 1;
+    }
+}
+
+// The step from the front of work.
+fn step_from(
+    p: u32,
+    weight: u64,
+    c: u32,
+    x: &[u32],
+    starts: &[u32],
+    columns: &[u32],
+    values: &[u32],
+    work: &[u32],
+    out: &mut [u32],
+)
+    requires { ⌜ Valid p (matrix (now starts) (now columns) (now values)) ⌝ }
+    requires { ⌜ (weight ≡ 18446744073709551616 % p) × (length (now out) ≡ length (now starts) - 1) × (length (now x) ≡ length (now starts) - 1) × (length (now out) ≤ length (now work)) × Vector p (length (now starts) - 1) (part 0 (length (now starts) - 1) (now work)) ⌝ }
+    ensures { λ r. ⌜ now (out .exit) ≡ step p (matrix (now (starts .entry)) (now (columns .entry)) (now (values .entry))) c (now (x .entry)) (part 0 (length (now (starts .entry)) - 1) (now (work .entry))) ⌝ }
+{
+    let z: usize = 0;
+    let n = out.len();
+    step(p, weight, c, x, starts, columns, values, &work[z..n], out);
+}
+
+// out becomes c × x plus the product with out.
+fn turn(
+    p: u32,
+    weight: u64,
+    c: u32,
+    x: &[u32],
+    starts: &[u32],
+    columns: &[u32],
+    values: &[u32],
+    out: &mut [u32],
+    work: &mut [u32],
+)
+    requires { ⌜ Valid p (matrix (now starts) (now columns) (now values)) ⌝ }
+    requires { ⌜ (weight ≡ 18446744073709551616 % p) × (length (now x) ≡ length (now starts) - 1) × (length (now out) ≤ length (now work)) × Vector p (length (now starts) - 1) (now out) ⌝ }
+    ensures { λ r. ⌜ now (out .exit) ≡ step p (matrix (now (starts .entry)) (now (columns .entry)) (now (values .entry))) c (now (x .entry)) (now (out .entry)) ⌝ }
+{
+    copy_front(out, work);
+    step_from(p, weight, c, x, starts, columns, values, work, out);
+}
+
+// g(A)v into out by Horner's rule: k − 1 products for k coefficients.
+pub(crate) fn horner(
+    p: u32,
+    weight: u64,
+    starts: &[u32],
+    columns: &[u32],
+    values: &[u32],
+    g: &[u32],
+    v: &[u32],
+    out: &mut [u32],
+    work: &mut [u32],
+)
+    requires { ⌜ Valid p (matrix (now starts) (now columns) (now values)) ⌝ }
+    requires { ⌜ (weight ≡ 18446744073709551616 % p) × (length (now out) ≡ length (now starts) - 1) × (length (now out) ≤ length (now work)) × Vector p (length (now starts) - 1) (now v) × (0 < length (now g)) × Vector p (length (now g)) (now g) ⌝ }
+    ensures { λ r. ⌜ now (out .exit) ≡ apply p (matrix (now (starts .entry)) (now (columns .entry)) (now (values .entry))) (now (g .entry)) (now (v .entry)) ⌝ }
+{
+    let mut i = g.len() - 1;
+    multiple(p, g[i], v, out);
+    while 0 < i {
+        i -= 1;
+        turn(p, weight, g[i], v, starts, columns, values, out, work);
+    }
+}
+
+// Zeros into out.
+fn clear(out: &mut [u32])
+    ensures { λ r. ⌜ now (out .exit) ≡ zeros (length (now (out .entry))) ⌝ }
+{
+    let mut i = 0;
+    while i < out.len() {
+        out[i] = 0;
+        i += 1;
+    }
+}
+
+// a + b modulo p: 32 bits hold the sum.
+fn sum(p: u32, a: u32, b: u32) -> u32
+    requires { ⌜ (a < p) × (b < p) × (p ≤ 2147483647) ⌝ }
+    ensures { λ r. ⌜ r ≡ plus p a b ⌝ }
+{
+    let s = a + b;
+    if s < p { s } else { s - p }
+}
+
+// c × the value of each entry added to out at its column: the product with one element of a row, all of whose entries share c's quotient.
+fn scatter(p: u32, c: u32, from: usize, to: usize, columns: &[u32], values: &[u32], out: &mut [u32])
+    requires { ⌜ (c < p) × (p ≤ 2147483647) × (from ≤ to) × (to ≤ length (now columns)) × (length (now columns) ≡ length (now values)) × Vector p (length (now out)) (now out) ⌝ }
+    requires { ⌜ ((k : ℕ) → k < length (now columns) → at (now columns) k < length (now out)) ⌝ }
+    ensures { λ r. ⌜ now (out .exit) ≡ scattered p c from to (now (columns .entry)) (now (values .entry)) (now (out .entry)) ⌝ }
+{
+    let w = quotient(p, c);
+    let mut k = from;
+    while k < to {
+        let j = wide(columns[k]);
+        out[j] = sum(p, out[j], scaled(p, c, w, values[k]));
+        k += 1;
+    }
+}
+
+// The transposed product into out, row after row.
+pub(crate) fn transposed_into(
+    p: u32,
+    starts: &[u32],
+    columns: &[u32],
+    values: &[u32],
+    v: &[u32],
+    out: &mut [u32],
+)
+    requires { ⌜ Valid p (matrix (now starts) (now columns) (now values)) ⌝ }
+    requires { ⌜ (length (now out) ≡ length (now starts) - 1) × Vector p (length (now starts) - 1) (now v) ⌝ }
+    ensures { λ r. ⌜ now (out .exit) ≡ transposed p (matrix (now (starts .entry)) (now (columns .entry)) (now (values .entry))) (now (v .entry)) ⌝ }
+{
+    clear(out);
+    let mut i = 0;
+    while i < v.len() {
+        scatter(
+            p,
+            v[i],
+            wide(starts[i]),
+            wide(starts[i + 1]),
+            columns,
+            values,
+            out,
+        );
+        i += 1;
+    }
+}
+
+// What a call that writes a slice answers.
+pub enum Writing {
+    Done,
+    // The number of the first check that turned the input down.
+    Refused(u32),
+}
+
+// Av into out.
+pub fn product(
+    field: Field,
+    starts: &[u32],
+    columns: &[u32],
+    values: &[u32],
+    v: &[u32],
+    out: &mut [u32],
+) -> Writing
+    ensures { λ r. ⌜ Writes r (productRefusal (field .p) (matrix (now (starts .entry)) (now (columns .entry)) (now (values .entry))) (now (v .entry)) (now (out .entry))) ⌝ }
+    ensures { λ r. ⌜ now (out .exit) ≡ productAfter product (field .p) (matrix (now (starts .entry)) (now (columns .entry)) (now (values .entry))) (now (v .entry)) (now (out .entry)) ⌝ }
+{
+    let p = field.p;
+    let number = product_refusal(p, starts, columns, values, v, out);
+    if number != 0 {
+        return Writing::Refused(number);
+    }
+    step(p, weight(p), 0, v, starts, columns, values, v, out);
+    Writing::Done
+}
+
+// The transposed product into out.
+pub fn transposed(
+    field: Field,
+    starts: &[u32],
+    columns: &[u32],
+    values: &[u32],
+    v: &[u32],
+    out: &mut [u32],
+) -> Writing
+    ensures { λ r. ⌜ Writes r (productRefusal (field .p) (matrix (now (starts .entry)) (now (columns .entry)) (now (values .entry))) (now (v .entry)) (now (out .entry))) ⌝ }
+    ensures { λ r. ⌜ now (out .exit) ≡ productAfter transposed (field .p) (matrix (now (starts .entry)) (now (columns .entry)) (now (values .entry))) (now (v .entry)) (now (out .entry)) ⌝ }
+{
+    let p = field.p;
+    let number = product_refusal(p, starts, columns, values, v, out);
+    if number != 0 {
+        return Writing::Refused(number);
+    }
+    transposed_into(p, starts, columns, values, v, out);
+    Writing::Done
+}
+
+// g(A)v into out.
+pub fn apply(
+    field: Field,
+    starts: &[u32],
+    columns: &[u32],
+    values: &[u32],
+    g: &[u32],
+    v: &[u32],
+    out: &mut [u32],
+    work: &mut [u32],
+) -> Writing
+    ensures { λ r. ⌜ Writes r (applyRefusal (field .p) (matrix (now (starts .entry)) (now (columns .entry)) (now (values .entry))) (now (g .entry)) (now (v .entry)) (now (out .entry)) (now (work .entry))) ⌝ }
+    ensures { λ r. ⌜ now (out .exit) ≡ applyAfter (field .p) (matrix (now (starts .entry)) (now (columns .entry)) (now (values .entry))) (now (g .entry)) (now (v .entry)) (now (out .entry)) (now (work .entry)) ⌝ }
+    ensures { λ r. ⌜ (applyRefusal (field .p) (matrix (now (starts .entry)) (now (columns .entry)) (now (values .entry))) (now (g .entry)) (now (v .entry)) (now (out .entry)) (now (work .entry)) ≢ 0 → now (work .exit) ≡ now (work .entry)) ⌝ }
+{
+    let p = field.p;
+    let number = apply_refusal(p, starts, columns, values, g, v, out, work);
+    if number != 0 {
+        return Writing::Refused(number);
+    }
+    horner(p, weight(p), starts, columns, values, g, v, out, work);
+    Writing::Done
+}

@@ -1,0 +1,120 @@
+// Two checks of a vector that anyone offers: does A take x to b, and is w not zero and taken to zero. Neither needs the solver.
+use crate::matrix::row;
+use crate::refusal::system_refusal;
+use crate::refusal::takes_refusal;
+use crate::sums::weight;
+use field::Field;
+ghost use mathlib.Core.Path.{_≡_};
+ghost use Prim.Native.Nat.{_-_, _%_, _<_};
+ghost use lib.Dec.{eqb};
+ghost use lib.ListN.{length};
+ghost use Rattle.meaning.specs.List.{at, all, isZero};
+ghost use Rattle.meaning.specs.Matrix.{matrix, product};
+ghost use Rattle.meaning.specs.Calls.{takesRefusal, takesAnswer, isNullRefusal, isNullAnswer};
+ghost use Rattle.wiedemann.specs.Valid.{Valid, Vector};
+ghost use Rattle.wiedemann.specs.Answers.{Says};
+
+// What a check of an offered vector answers.
+pub enum Verdict {
+    Yes,
+    No,
+    // The number of the first check that turned the input down.
+    Refused(u32),
+}
+
+// Element i of b, 0 past its end.
+fn element(b: &[u32], i: usize) -> u32
+    ensures { λ r. ⌜ r ≡ at (now (b .entry)) i ⌝ }
+{
+    if i < b.len() { b[i] } else { 0 }
+}
+
+// Every element of Ax is that of b, which has zeros after its end.
+fn agrees(
+    p: u32,
+    weight: u64,
+    starts: &[u32],
+    columns: &[u32],
+    values: &[u32],
+    x: &[u32],
+    b: &[u32],
+) -> bool
+    requires { ⌜ Valid p (matrix (now starts) (now columns) (now values)) ⌝ }
+    requires { ⌜ (weight ≡ 18446744073709551616 % p) × Vector p (length (now starts) - 1) (now x) ⌝ }
+    ensures { λ r. ⌜ r ≡ all (length (now (starts .entry)) - 1) (λ i. eqb (at (product p (matrix (now (starts .entry)) (now (columns .entry)) (now (values .entry))) (now (x .entry))) i) (at (now (b .entry)) i)) ⌝ }
+{
+    let n = starts.len() - 1;
+    let mut i = 0;
+    while i < n {
+        if row(p, weight, 0, i, starts, columns, values, x) != element(b, i) {
+            return false;
+        }
+        i += 1;
+    }
+    true
+}
+
+// A takes w to zero.
+fn vanishes(p: u32, weight: u64, starts: &[u32], columns: &[u32], values: &[u32], w: &[u32]) -> bool
+    requires { ⌜ Valid p (matrix (now starts) (now columns) (now values)) ⌝ }
+    requires { ⌜ (weight ≡ 18446744073709551616 % p) × Vector p (length (now starts) - 1) (now w) ⌝ }
+    ensures { λ r. ⌜ r ≡ isZero (product p (matrix (now (starts .entry)) (now (columns .entry)) (now (values .entry))) (now (w .entry))) ⌝ }
+{
+    let n = w.len();
+    agrees(p, weight, starts, columns, values, w, &w[n..])
+}
+
+fn is_zero(w: &[u32]) -> bool
+    ensures { λ r. ⌜ r ≡ isZero (now (w .entry)) ⌝ }
+{
+    let mut i = 0;
+    while i < w.len() {
+        if w[i] != 0 {
+            return false;
+        }
+        i += 1;
+    }
+    true
+}
+
+// Whether Ax = b.
+pub fn takes(
+    field: Field,
+    starts: &[u32],
+    columns: &[u32],
+    values: &[u32],
+    x: &[u32],
+    b: &[u32],
+) -> Verdict
+    ensures { λ r. ⌜ Says r (takesRefusal (field .p) (matrix (now (starts .entry)) (now (columns .entry)) (now (values .entry))) (now (x .entry)) (now (b .entry))) (takesAnswer (field .p) (matrix (now (starts .entry)) (now (columns .entry)) (now (values .entry))) (now (x .entry)) (now (b .entry))) ⌝ }
+{
+    let p = field.p;
+    let number = takes_refusal(p, starts, columns, values, x, b);
+    if number != 0 {
+        return Verdict::Refused(number);
+    }
+    if agrees(p, weight(p), starts, columns, values, x, b) {
+        Verdict::Yes
+    } else {
+        Verdict::No
+    }
+}
+
+// Whether w is not zero and A takes it to zero.
+pub fn is_null(field: Field, starts: &[u32], columns: &[u32], values: &[u32], w: &[u32]) -> Verdict
+    ensures { λ r. ⌜ Says r (isNullRefusal (field .p) (matrix (now (starts .entry)) (now (columns .entry)) (now (values .entry))) (now (w .entry))) (isNullAnswer (field .p) (matrix (now (starts .entry)) (now (columns .entry)) (now (values .entry))) (now (w .entry))) ⌝ }
+{
+    let p = field.p;
+    let number = system_refusal(p, starts, columns, values, w);
+    if number != 0 {
+        return Verdict::Refused(number);
+    }
+    if is_zero(w) {
+        return Verdict::No;
+    }
+    if vanishes(p, weight(p), starts, columns, values, w) {
+        Verdict::Yes
+    } else {
+        Verdict::No
+    }
+}

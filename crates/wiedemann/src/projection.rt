@@ -1,0 +1,100 @@
+// What a projection makes of a vector: its dot product with some of the random words, or one of its elements.
+ghost use mathlib.Core.Path.{_≡_};
+ghost use Prim.Native.Nat.{_+_, _-_, _*_, _/_, _%_, _≤_, _<_};
+ghost use lib.ListN.{length, getD};
+ghost use mathlib.Core.List.{[]};
+ghost use Rattle.meaning.specs.List.{at, sumFrom, table, isZero};
+ghost use Rattle.meaning.specs.Solver.{dot, projections};
+ghost use Rattle.wiedemann.specs.Valid.{Vector};
+ghost use Rattle.wiedemann.specs.Sums.{Summed};
+ghost use Rattle.wiedemann.specs.Projection.{wordTerm, Raw, Words};
+use crate::sums::Total;
+use crate::sums::times;
+
+// Word i times element i.
+fn product(i: usize, words: &[u32], v: &[u32]) -> u64
+    requires { ⌜ Raw (now words) (now v) × (i < length (now v)) ⌝ }
+    ensures { λ r. ⌜ (r ≡ wordTerm (now (words .entry)) (now (v .entry)) i) × (r ≤ 9223372026117357570) ⌝ }
+{
+    times(words[i], v[i])
+}
+
+// Two of them fit a word.
+fn two(i: usize, words: &[u32], v: &[u32]) -> u64
+    requires { ⌜ Raw (now words) (now v) × (i + 2 ≤ length (now v)) ⌝ }
+    ensures { λ r. ⌜ r ≡ sumFrom i (i + 2) (wordTerm (now (words .entry)) (now (v .entry))) ⌝ }
+{
+    product(i, words, v) + product(i + 1, words, v)
+}
+
+// The sum of a whole number of groups of two.
+fn twos(total: Total, to: usize, words: &[u32], v: &[u32]) -> Total
+    requires { ⌜ Raw (now words) (now v) × (to ≤ length (now v)) × (to % 2 ≡ 0) × (total .high ≡ 0) ⌝ }
+    ensures { λ r. ⌜ Summed total r 0 to (wordTerm (now (words .entry)) (now (v .entry))) ⌝ }
+{
+    let mut sum = total;
+    let mut i = 0;
+    while i < to {
+        sum = sum.add(two(i, words, v));
+        i += 2;
+    }
+    sum
+}
+
+// A sum, and the last element's product if their number is odd.
+fn last(total: Total, from: usize, words: &[u32], v: &[u32]) -> Total
+    requires { ⌜ Raw (now words) (now v) × (from ≤ length (now v)) × (length (now v) ≤ from + 1) × (total .high ≤ from) ⌝ }
+    ensures { λ r. ⌜ Summed total r from (length (now (v .entry))) (wordTerm (now (words .entry)) (now (v .entry))) ⌝ }
+{
+    if from < v.len() {
+        total.add(product(from, words, v))
+    } else {
+        total
+    }
+}
+
+// Whether each element is 0.
+pub(crate) fn is_zero(v: &[u32]) -> bool
+    ensures { λ r. ⌜ r ≡ isZero (now (v .entry)) ⌝ }
+{
+    let mut i = 0;
+    while i < v.len() {
+        if v[i] != 0 {
+            return false;
+        }
+        i += 1;
+    }
+    true
+}
+
+// The dot product of the first words, each taken modulo p, with v.
+fn dot(p: u32, weight: u64, words: &[u32], v: &[u32]) -> u32
+    requires { ⌜ Raw (now words) (now v) × (0 < p) × (weight ≡ 18446744073709551616 % p) ⌝ }
+    ensures { λ r. ⌜ r ≡ dot p (table (length (now (v .entry))) (λ i. at (now (words .entry)) i % p)) (now (v .entry)) ⌝ }
+{
+    let n = v.len();
+    let middle = n - n % 2;
+    let most = twos(Total { low: 0, high: 0 }, middle, words, v);
+    last(most, middle, words, v).residue(p, weight)
+}
+
+// What projection j makes of v: the first `vectors` projections are the words, the others the unit vectors.
+pub(crate) fn projected(
+    p: u32,
+    weight: u64,
+    words: &[u32],
+    vectors: usize,
+    j: usize,
+    v: &[u32],
+) -> u32
+    requires { ⌜ (weight ≡ 18446744073709551616 % p) × (0 < p) × (p ≤ 2147483647) × (j < vectors + length (now v)) ⌝ }
+    requires { ⌜ Words (length (now v)) vectors (now words) × Vector p (length (now v)) (now v) × (length (now v) ≤ 4096) ⌝ }
+    ensures { λ r. ⌜ r ≡ dot p (getD (projections p (length (now (v .entry))) (now (words .entry))) j []) (now (v .entry)) ⌝ }
+{
+    if j < vectors {
+        let from = j * v.len();
+        dot(p, weight, &words[from..], v)
+    } else {
+        v[j - vectors]
+    }
+}

@@ -1,0 +1,350 @@
+// The shortest recurrence of a list, by document 01's steps. They run in one slice of four regions of count + 2 places each: the terms,
+// q, and two in which t and the q that is to become t take turns. t is never moved: `shift` says how often it was multiplied by z.
+//
+// The contracts cite the crate meaning (Recurrence: the steps and what is shortest; Calls: what a call refuses, answers and leaves) and
+// specs/Recurrence.antt (what regions and register hold).
+use crate::scale;
+use crate::sums;
+use crate::sums::Total;
+use field::Field;
+ghost use mathlib.Core.Path.{_≡_};
+ghost use Prim.Native.Nat.{ℕ, _+_, _-_, _*_, _%_, _≤_, _<_};
+ghost use lib.ListN.{length};
+ghost use Rattle.meaning.specs.List.{at, sum, sumFrom};
+ghost use Rattle.meaning.specs.Field.{minus, times};
+ghost use Rattle.meaning.specs.Refusal.{elements};
+ghost use Rattle.meaning.specs.Calls.{recurrenceRefusal};
+ghost use Rattle.wiedemann.specs.Sums.{Summed};
+ghost use Rattle.wiedemann.specs.Written.{Written, Turned};
+ghost use Rattle.wiedemann.specs.Recurrence.{Pairs, paired, nothing, Ready, Place, Turn, Stepped, Found, Recurred, spare, movedOn, grown};
+
+// What the steps keep beside the regions.
+pub(crate) struct Register {
+    // L
+    pub(crate) length: usize,
+    // e, and its inverse
+    pub(crate) e: u32,
+    pub(crate) inverse: u32,
+    // z·t: `held` coefficients, which stand at `t`, times z to the power `shift`
+    pub(crate) t: usize,
+    pub(crate) held: usize,
+    pub(crate) shift: usize,
+}
+
+// ---- parts of the slice
+
+// Zeros in `size` places from `from` on.
+fn clear(work: &mut [u32], from: usize, size: usize)
+    requires { ⌜ from + size ≤ length (now work) ⌝ }
+    ensures { λ _. ⌜ Written (now (work .entry)) from size (λ i. 0) (now (work .exit)) ⌝ }
+{
+    let mut i = 0;
+    while i < size {
+        work[from + i] = 0;
+        i += 1;
+    }
+}
+
+// A copy, further up, of the `size` places from `from` on.
+fn copy(work: &mut [u32], from: usize, to: usize, size: usize)
+    requires { ⌜ (from + size ≤ to) × (to + size ≤ length (now work)) ⌝ }
+    ensures { λ _. ⌜ Written (now (work .entry)) to size (λ i. at (now (work .entry)) (from + i)) (now (work .exit)) ⌝ }
+{
+    let mut i = 0;
+    while i < size {
+        work[to + i] = work[from + i];
+        i += 1;
+    }
+}
+
+// q − factor·t in q's place: `size` coefficients of q from `q` on, and of t from `t` on.
+fn subtract(p: u32, factor: u32, work: &mut [u32], q: usize, t: usize, size: usize)
+    requires { ⌜ (factor < p) × (p ≤ 2147483647) × (q + size ≤ t) × (t + size ≤ length (now work)) ⌝ }
+    requires { ⌜ ((i : ℕ) → i < size → at (now work) (q + i) < p) ⌝ }
+    ensures { λ _. ⌜ Written (now (work .entry)) q size
+        (λ i. minus p (at (now (work .entry)) (q + i)) (times p factor (at (now (work .entry)) (t + i)))) (now (work .exit)) ⌝ }
+{
+    let w = scale::quotient(p, factor);
+    let mut i = 0;
+    while i < size {
+        work[q + i] = scale::difference(p, work[q + i], scale::scaled(p, factor, w, work[t + i]));
+        i += 1;
+    }
+}
+
+// The `length` + 1 places from `from` on, in reverse order.
+fn reverse(work: &mut [u32], from: usize, length: usize)
+    requires { ⌜ from + length < lib.ListN.length (now work) ⌝ }
+    ensures { λ _. ⌜ Turned (now (work .entry)) from length (now (work .exit)) ⌝ }
+{
+    let mut i = 0;
+    let mut j = length;
+    while i < j {
+        let low = work[from + i];
+        work[from + i] = work[from + j];
+        work[from + j] = low;
+        i += 1;
+        j -= 1;
+    }
+}
+
+// ---- the discrepancy
+
+// q[i] × s[last − i]: q stands at `q`, s at the front.
+fn pair(work: &[u32], q: usize, last: usize, i: usize) -> u64
+    requires { ⌜ Pairs (now work) q last × (i ≤ last) ⌝ }
+    ensures { λ r. ⌜ (r ≡ paired (now (work .entry)) q last i) × (r ≤ 4611686009837453316) ⌝ }
+{
+    sums::times(work[q + i], work[last - i])
+}
+
+// Four of them fit a word.
+fn four(work: &[u32], q: usize, last: usize, i: usize) -> u64
+    requires { ⌜ Pairs (now work) q last × (i + 3 ≤ last) ⌝ }
+    ensures { λ r. ⌜ r ≡ sumFrom i (i + 4) (paired (now (work .entry)) q last) ⌝ }
+{
+    pair(work, q, last, i)
+        + pair(work, q, last, i + 1)
+        + pair(work, q, last, i + 2)
+        + pair(work, q, last, i + 3)
+}
+
+// The sum of a whole number of groups of four.
+fn fours(work: &[u32], q: usize, last: usize, to: usize) -> Total
+    requires { ⌜ Pairs (now work) q last × (to ≤ last + 1) × (to % 4 ≡ 0) ⌝ }
+    ensures { λ r. ⌜ Summed nothing r 0 to (paired (now (work .entry)) q last) ⌝ }
+{
+    let mut total = Total { low: 0, high: 0 };
+    let mut i = 0;
+    while i < to {
+        total = total.add(four(work, q, last, i));
+        i += 4;
+    }
+    total
+}
+
+// A sum and the last few.
+fn ones(total: Total, work: &[u32], q: usize, last: usize, from: usize, to: usize) -> Total
+    requires { ⌜ Pairs (now work) q last × (from ≤ to) × (to ≤ last + 1) × (total .high ≤ from) ⌝ }
+    ensures { λ r. ⌜ Summed total r from to (paired (now (work .entry)) q last) ⌝ }
+{
+    let mut sum = total;
+    let mut i = from;
+    while i < to {
+        sum = sum.add(pair(work, q, last, i));
+        i += 1;
+    }
+    sum
+}
+
+// The sum of q[i] × s[last − i] over i = 0 to `length`, modulo p.
+fn discrepancy(p: u32, weight: u64, work: &[u32], q: usize, last: usize, length: usize) -> u32
+    requires { ⌜ Pairs (now work) q last × (length ≤ last) × (0 < p) × (weight ≡ 18446744073709551616 % p) ⌝ }
+    ensures { λ d. ⌜ d ≡ sum (length + 1) (paired (now (work .entry)) q last) % p ⌝ }
+{
+    let to = length + 1;
+    let middle = to - to % 4;
+    let most = fours(work, q, last, middle);
+    ones(most, work, q, last, middle, to).residue(p, weight)
+}
+
+// a × b modulo p.
+fn product(p: u32, a: u32, b: u32) -> u32
+    requires { ⌜ 0 < p ⌝ }
+    ensures { λ r. ⌜ r ≡ times p a b ⌝ }
+{
+    (sums::times(a, b) % (p as u64)) as u32
+}
+
+// ---- the steps
+
+// t becomes z·t.
+fn moved(c: Register) -> Register
+    requires { ⌜ c .shift < 16384 ⌝ }
+    ensures { λ next. ⌜ next ≡ movedOn c ⌝ }
+{
+    Register {
+        length: c.length,
+        e: c.e,
+        inverse: c.inverse,
+        t: c.t,
+        held: c.held,
+        shift: c.shift + 1,
+    }
+}
+
+// t becomes the q that was kept, L becomes r − L, e becomes d.
+fn lengthened(p: u32, count: usize, r: usize, d: u32, c: Register) -> Register
+    requires { ⌜ (c .length ≤ r) × (r ≤ 8192) × (count ≤ 8192) × (c .t ≤ 5 * (count + 2)) ⌝ }
+    ensures { λ next. ⌜ next ≡ grown p count r d c ⌝ }
+{
+    Register {
+        length: r - c.length,
+        e: d,
+        inverse: field::inverse_modulo(p, d),
+        t: 5 * (count + 2) - c.t,
+        held: c.length + 1,
+        shift: 1,
+    }
+}
+
+// A copy of q in the region that t leaves free, before the update takes it.
+fn keep(count: usize, work: &mut [u32], c: Register)
+    requires { ⌜ (count ≤ 8192) × (4 * count + 8 ≤ length (now work)) × (c .length < count + 2) × Place count (c .t) ⌝ }
+    ensures { λ _. ⌜ Written (now (work .entry)) (spare count c) (c .length + 1) (λ i. at (now (work .entry)) (count + 2 + i)) (now (work .exit)) ⌝ }
+{
+    copy(work, count + 2, 5 * (count + 2) - c.t, c.length + 1);
+}
+
+// q − (d/e)·z·t in q's place.
+fn update(p: u32, count: usize, work: &mut [u32], d: u32, c: Register)
+    requires { ⌜ (1 < p) × (p ≤ 2147483647) × (count ≤ 8192) × (4 * count + 8 ≤ length (now work)) ⌝ }
+    requires { ⌜ (c .shift + c .held ≤ count + 2) × Place count (c .t) ⌝ }
+    requires { ⌜ ((i : ℕ) → i < count + 2 → at (now work) (count + 2 + i) < p) ⌝ }
+    ensures { λ _. ⌜ Written (now (work .entry)) (count + 2 + c .shift) (c .held)
+        (λ i. minus p (at (now (work .entry)) (count + 2 + c .shift + i)) (times p (times p d (c .inverse)) (at (now (work .entry)) (c .t + i))))
+        (now (work .exit)) ⌝ }
+{
+    subtract(
+        p,
+        product(p, d, c.inverse),
+        work,
+        count + 2 + c.shift,
+        c.t,
+        c.held,
+    );
+}
+
+// q = 1, t = 0, L = 0, e = 1, whatever the regions held.
+pub(crate) fn start(p: u32, count: usize, work: &mut [u32]) -> Register
+    requires { ⌜ Ready p count (now work) ⌝ }
+    ensures { λ c. ⌜ Stepped p count 0 (now (work .entry)) (now (work .exit)) c ⌝ }
+{
+    let size = count + 2;
+    clear(work, size, size);
+    work[size] = 1;
+    Register {
+        length: 0,
+        e: 1,
+        inverse: 1,
+        t: 2 * size,
+        held: 0,
+        shift: 1,
+    }
+}
+
+// What is done for r: the discrepancy, the update, the length.
+pub(crate) fn step(
+    p: u32,
+    weight: u64,
+    count: usize,
+    work: &mut [u32],
+    r: usize,
+    c: Register,
+) -> Register
+    requires { ⌜ Turn p count r (now work) c × (weight ≡ 18446744073709551616 % p) ⌝ }
+    ensures { λ next. ⌜ Stepped p count r (now (work .entry)) (now (work .exit)) next ⌝ }
+{
+    let d = discrepancy(p, weight, work, count + 2, r - 1, c.length);
+    if d == 0 {
+        return moved(c);
+    }
+    if 2 * c.length < r {
+        keep(count, work, c);
+        update(p, count, work, d, c);
+        lengthened(p, count, r, d, c)
+    } else {
+        update(p, count, work, d, c);
+        moved(c)
+    }
+}
+
+// The shortest recurrence of the `count` terms at the front of `work`: its degree L, and f in the second region, zeros after it.
+pub(crate) fn shortest(p: u32, count: usize, work: &mut [u32]) -> usize
+    requires { ⌜ Ready p count (now work) ⌝ }
+    ensures { λ L. ⌜ Found p count (now (work .entry)) (now (work .exit)) L ⌝ }
+{
+    let weight = sums::weight(p);
+    let mut c = start(p, count, work);
+    let mut r = 0;
+    while r < count {
+        r += 1;
+        c = step(p, weight, count, work, r, c);
+    }
+    reverse(work, count + 2, c.length);
+    c.length
+}
+
+// ---- the call
+
+// What the shortest recurrence answers.
+pub enum Answer {
+    // L
+    Degree(usize),
+    // The number of the first check that turned the input down.
+    Refused(u32),
+}
+
+// Whether every element is below p.
+pub(crate) fn below(p: u32, v: &[u32]) -> bool
+    ensures { λ r. ⌜ r ≡ elements p (now (v .entry)) ⌝ }
+{
+    let mut i = 0;
+    while i < v.len() {
+        if v[i] >= p {
+            return false;
+        }
+        i += 1;
+    }
+    true
+}
+
+// The first check that turns a call of `recurrence` down, 0 if none does.
+fn refusal(p: u32, s: &[u32], polynomial: &[u32], work: &[u32]) -> u32
+    ensures { λ r. ⌜ r ≡ recurrenceRefusal p (now (s .entry)) (now (polynomial .entry)) (now (work .entry)) ⌝ }
+{
+    if !field::is_modulus(p) {
+        return 3;
+    }
+    if s.len() > 8192 {
+        return 8;
+    }
+    if !below(p, s) {
+        return 9;
+    }
+    if polynomial.len() != s.len() + 1 {
+        return 11;
+    }
+    if work.len() < 4 * s.len() + 8 {
+        return 11;
+    }
+    0
+}
+
+// A copy of the `size` places of `from` that begin at `start`, at the front of `to`.
+fn transfer(from: &[u32], start: usize, to: &mut [u32], size: usize)
+    requires { ⌜ (start + size ≤ length (now from)) × (size ≤ length (now to)) ⌝ }
+    ensures { λ _. ⌜ Written (now (to .entry)) 0 size (λ i. at (now (from .entry)) (start + i)) (now (to .exit)) ⌝ }
+{
+    let mut i = 0;
+    while i < size {
+        to[i] = from[start + i];
+        i += 1;
+    }
+}
+
+// The shortest recurrence of s: its degree L, and f in the polynomial slice, zeros after it.
+pub fn recurrence(field: Field, s: &[u32], polynomial: &mut [u32], work: &mut [u32]) -> Answer
+    ensures { λ r. ⌜ Recurred (field .p) (now (s .entry)) (now (polynomial .entry)) (now (work .entry)) r (now (polynomial .exit)) (now (work .exit)) ⌝ }
+{
+    let p = field.p;
+    let number = refusal(p, s, polynomial, work);
+    if number != 0 {
+        return Answer::Refused(number);
+    }
+    let count = s.len();
+    transfer(s, 0, work, count);
+    let degree = shortest(p, count, work);
+    transfer(work, count + 2, polynomial, count + 1);
+    Answer::Degree(degree)
+}
