@@ -8,3 +8,5 @@ mod refusal;
 mod scale;
 pub mod solver;
 mod sums;
+
+pub use refusal::system_refusal;

@@ -146,13 +146,7 @@ pub(crate) fn matrix_refusal(p: u32, starts: &[u32], columns: &[u32], values: &[
 }
 
 // 3 to 9 for a matrix and a vector.
-pub(crate) fn system_refusal(
-    p: u32,
-    starts: &[u32],
-    columns: &[u32],
-    values: &[u32],
-    b: &[u32],
-) -> u32
+pub fn system_refusal(p: u32, starts: &[u32], columns: &[u32], values: &[u32], b: &[u32]) -> u32
     ensures { λ r. ⌜ r ≡ first (systemChecks p (matrix (now (starts .entry)) (now (columns .entry)) (now (values .entry))) (now (b .entry))) ⌝ }
 {
     let number = matrix_refusal(p, starts, columns, values);

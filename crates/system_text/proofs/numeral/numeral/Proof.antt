@@ -1,0 +1,104 @@
+-- `numeral::numeral` meets its contract. The invariant: the numeral from `from` is the one read so far, extended by what follows `at`.
+-- Assumes nothing.
+use mathlib.Core.List.{[]}
+use borrow.Author.Needs.{needs}
+use borrow.Author.Tests.{le-ltb, not-true, not-false}
+use native.Mathlib.Omega.{arith}
+use native.Mathlib.Nat.{le-refl}
+use Prim.Native.Nat.{_≤_, _<_, _+_, _-_, _*_}
+use mathlib.Core.Path.{_≡_, refl, sym, ap, _∙_, subst}
+use mathlib.Core.Bool.{true, false}
+use lib.Dec.{ltb}
+use lib.ListN.{length, drop, getD, drop-of-length-le}
+use Rattle.text_laws.specs.Numeral.{digit-low}
+use Rattle.system_text.specs.Scan.{run, runValue, run-nil, runValue-nil, extends-digit, extends-bounded}
+use Rattle.system_text.proofs.Steps.{run-turn, value-turn, run-stop, value-stop}
+use Rattle.system_text.proofs.numeral.numeral.Statement.{statement}
+use Rattle.system_text.proofs.numeral.numeral.Tie as tie
+
+abbrev Inv-loop : tie.InvT-loop
+Inv-loop text from value₀ at₀ value at =
+    (from ≤ at) × (at ≤ length text) × (from + run false 0 (drop from text) ≡ at + run (ltb from at) value (drop at text))
+    × (runValue false 0 (drop from text) ≡ runValue (ltb from at) value (drop at text))
+
+abbrev μ-loop : tie.MeasureT-loop
+μ-loop text from value₀ at₀ value at = length text - at
+
+loop-holds : tie.Need-loop-holds Inv-loop μ-loop
+loop-holds c =
+    let from = c .before .args .from in
+    let e : ltb from from ≡ false = le-ltb from from (le-refl from) in
+    (omega arith, omega arith, rw e, rw e)
+
+shared-slice-read-c : tie.Need-shared-slice-read-c Inv-loop μ-loop
+shared-slice-read-c c = search needs
+
+extends-requires : tie.Need-extends-requires Inv-loop μ-loop
+extends-requires c κs = search needs
+
+extended-requires : tie.Need-extended-requires Inv-loop μ-loop
+extended-requires c κs =
+    let e = sym (c .before .extends .ensures) ∙ not-false (c .before .extends .result) (c .if1 .left) in
+    (digit-low _ (extends-digit _ _ _ e), extends-bounded _ _ _ e)
+
+add-at : tie.Need-add-at Inv-loop μ-loop
+add-at c = search needs
+
+loop-less : tie.Need-loop-less Inv-loop μ-loop
+loop-less c = search needs
+
+loop-again : tie.Need-loop-again Inv-loop μ-loop
+loop-again c =
+    let b = c .before .before .before .before .before in
+    let text = b .before .before .args .text .now in
+    let from = b .before .before .args .from in
+    let at = b .loop .at in
+    let v = b .loop .value in
+    let e = sym (c .before .before .extends .ensures) ∙ not-false (c .before .before .extends .result) (c .before .if1 .left) in
+    let l : at < length text = omega arith in
+    let h : from ≤ at = omega arith in (
+      omega arith,
+      omega arith,
+      b .loop .inv .2 ∙ run-turn text from at v h l e ∙ ap (λ x. at + 1 + run (ltb from (at + 1)) x (drop (at + 1) text)) (sym (c .extended .ensures)),
+      b .loop .inv .3 ∙ value-turn text from at v h l e ∙ ap (λ x. runValue (ltb from (at + 1)) x (drop (at + 1) text)) (sym (c .extended .ensures)),
+    )
+
+returns : tie.Need-returns Inv-loop μ-loop
+returns c =
+    let b = c .before in
+    let text = b .before .before .args .text .now in
+    let from = b .before .before .args .from in
+    let at = b .loop .at in
+    let v = b .loop .value in
+    let d : drop at text ≡ [] = drop-of-length-le text {i = at} (omega arith) in
+    let z : run (ltb from at) v (drop at text) ≡ 0 = ap (run (ltb from at) v) d ∙ run-nil (ltb from at) v in
+    (omega arith, sym (b .loop .inv .3 ∙ ap (runValue (ltb from at) v) d ∙ runValue-nil (ltb from at) v))
+
+returns-2 : tie.Need-returns-2 Inv-loop μ-loop
+returns-2 c =
+    let b = c .before .before .before .before in
+    let text = b .before .before .args .text .now in
+    let from = b .before .before .args .from in
+    let at = b .loop .at in
+    let v = b .loop .value in
+    let e = sym (c .before .extends .ensures) ∙ not-true (c .before .extends .result) (c .if1 .taken) in
+    let l : at < length text = omega arith in
+    let h : from ≤ at = omega arith in
+    let z = run-stop text from at v h l e in
+    (omega arith, sym (b .loop .inv .3 ∙ value-stop text from at v h l e))
+
+pub numeral-spec : {M : Type 1} → statement M
+numeral-spec =
+    tie.close
+    (tie.spec
+    Inv-loop
+    μ-loop
+    loop-holds
+    shared-slice-read-c
+    extends-requires
+    extended-requires
+    add-at
+    loop-less
+    loop-again
+    returns
+    returns-2)

@@ -1,0 +1,56 @@
+-- The answers' cases: the paper's number and values for each.
+--     refusalOfRead, modulusOfRead, sizeOfRead, countOfRead        what the reader answers
+--     refusalOfWritten, lengthOfWritten                            what the writer answers
+--     modulusOfDocument, .., rightOfSystem                         the parts of a document and of a system by name
+use mathlib.Core.List.{List}
+use Prim.Native.Nat.{ℕ}
+use Rattle.meaning.specs.Text.{Document, System}
+use Rattle.system_text.specs.declared.reader.Reading.{Reading}
+use Rattle.system_text.specs.declared.reader.Reading.the-variants.{System as TheSystem, Refused}
+use Rattle.system_text.specs.declared.writer.Written.{Written}
+use Rattle.system_text.specs.declared.writer.Written.the-variants.{Length, Refused as RefusedWriting}
+
+abbrev pub refusalOfRead : Reading → ℕ
+refusalOfRead (TheSystem p n k) = 0
+refusalOfRead (Refused number) = number
+
+abbrev pub modulusOfRead : Reading → ℕ
+modulusOfRead (TheSystem p n k) = p
+modulusOfRead (Refused number) = 0
+
+abbrev pub sizeOfRead : Reading → ℕ
+sizeOfRead (TheSystem p n k) = n
+sizeOfRead (Refused number) = 0
+
+abbrev pub countOfRead : Reading → ℕ
+countOfRead (TheSystem p n k) = k
+countOfRead (Refused number) = 0
+
+abbrev pub modulusOfDocument : Document → ℕ
+modulusOfDocument d = d .modulus
+
+abbrev pub sizeOfDocument : Document → ℕ
+sizeOfDocument d = d .size
+
+abbrev pub countOfDocument : Document → ℕ
+countOfDocument d = d .count
+
+abbrev pub startsOfSystem : System → List ℕ
+startsOfSystem s = s .matrix .starts
+
+abbrev pub columnsOfSystem : System → List ℕ
+columnsOfSystem s = s .matrix .columns
+
+abbrev pub valuesOfSystem : System → List ℕ
+valuesOfSystem s = s .matrix .values
+
+abbrev pub rightOfSystem : System → List ℕ
+rightOfSystem s = s .right
+
+abbrev pub refusalOfWritten : Written → ℕ
+refusalOfWritten (Length k) = 0
+refusalOfWritten (RefusedWriting number) = number
+
+abbrev pub lengthOfWritten : Written → ℕ
+lengthOfWritten (Length k) = k
+lengthOfWritten (RefusedWriting number) = 0
