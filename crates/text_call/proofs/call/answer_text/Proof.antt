@@ -1,0 +1,221 @@
+-- `text_call::call::answer_text` meets its contract. Assumes nothing.
+use mathlib.Core.Path.{_≡_, sym, ap, _∙_}
+use native.Mathlib.Omega.{arith}
+use lib.ListN.{length}
+use Rattle.meaning.specs.Calls.{readerRefusal}
+use Rattle.text_call.specs.Put.{put-start, put-as}
+use Rattle.system_text.specs.Answers.{refusalOfRead, modulusOfRead, sizeOfRead, countOfRead}
+use Rattle.text_call.specs.Checks.{text-by-reader, byReader-long, byReader-refused, byReader-short, byReader-taken, text-refused, text-given}
+use Rattle.text_call.specs.Loaded.{refused-number, read-loaded, read-rows, read-outcome}
+use borrow.Author.Needs.{needs}
+use Rattle.text_call.proofs.call.answer_text.Statement.{statement}
+use Rattle.text_call.proofs.call.answer_text.Tie as tie
+
+returns : tie.Need-returns
+returns c =
+    let text = c .before .before .before .before .before .before .before .before .before .before .args .text .now in
+    let answer = c .before .before .before .before .before .before .before .before .before .before .args .answer .now in
+    let starts = c .before .before .before .before .before .before .before .before .before .before .args .starts .now in
+    let columns = c .before .before .before .before .before .before .before .before .before .before .args .columns .now in
+    let values = c .before .before .before .before .before .before .before .before .before .before .args .values .now in
+    let right = c .before .before .before .before .before .before .before .before .before .before .args .right .now in
+    let lengths = c .before .before .before .before .before .before .before .before .before .before .pre .0 in
+    let by-reader = text-by-reader text starts columns values right (lengths .0) (lengths .1) (lengths .2) (lengths .3) (length answer) in
+    let refusal = readerRefusal text starts columns values right in
+    text-refused text answer 1 (by-reader ∙ byReader-long text (length answer) refusal (c .if1 .taken)) (omega arith)
+
+read-requires : tie.Need-read-requires
+read-requires c κs = search needs
+
+enum-known-reading : tie.Need-enum-known-reading
+enum-known-reading c = search needs
+
+cast-result : tie.Need-cast-result
+cast-result c = search needs
+
+enum-known-reading-2 : tie.Need-enum-known-reading-2
+enum-known-reading-2 c = search needs
+
+same-length : tie.Need-same-length
+same-length c = search needs
+
+same-length-2 : tie.Need-same-length-2
+same-length-2 c = search needs
+
+same-length-3 : tie.Need-same-length-3
+same-length-3 c = search needs
+
+same-length-4 : tie.Need-same-length-4
+same-length-4 c = search needs
+
+returns-2 : tie.Need-returns-2
+returns-2 c =
+    let text = c .before .before .before .before .before .before .before .before .before .before .before .before .before .before .before .before .before .before .before .before .before .before .before .before .before .before .before .args .text .now in
+    let answer = c .before .before .before .before .before .before .before .before .before .before .before .before .before .before .before .before .before .before .before .before .before .before .before .before .before .before .before .args .answer .now in
+    let starts = c .before .before .before .before .before .before .before .before .before .before .before .before .before .before .before .before .before .before .before .before .before .before .before .before .before .before .before .args .starts .now in
+    let columns = c .before .before .before .before .before .before .before .before .before .before .before .before .before .before .before .before .before .before .before .before .before .before .before .before .before .before .before .args .columns .now in
+    let values = c .before .before .before .before .before .before .before .before .before .before .before .before .before .before .before .before .before .before .before .before .before .before .before .before .before .before .before .args .values .now in
+    let right = c .before .before .before .before .before .before .before .before .before .before .before .before .before .before .before .before .before .before .before .before .before .before .before .before .before .before .before .args .right .now in
+    let lengths = c .before .before .before .before .before .before .before .before .before .before .before .before .before .before .before .before .before .before .before .before .before .before .before .before .before .before .before .pre .0 in
+    let by-reader = text-by-reader text starts columns values right (lengths .0) (lengths .1) (lengths .2) (lengths .3) (length answer) in
+    let refusal = readerRefusal text starts columns values right in
+    let arm = c .before .before .reading2 .given .1 in
+    let e : refusal ≡ 0 = sym (c .before .before .before .before .before .before .before .before .before .before .before .before .read .ensures .0) ∙ ap refusalOfRead arm in
+    text-refused text answer 11 (by-reader ∙ byReader-short text (length answer) refusal (omega arith) e (omega arith)) (omega arith)
+
+wide-requires : tie.Need-wide-requires
+wide-requires c κs = search needs
+
+wide-requires-2 : tie.Need-wide-requires-2
+wide-requires-2 c κs = search needs
+
+put-solved-requires : tie.Need-put-solved-requires
+put-solved-requires c κs =
+    let text = c .before .before .before .before .before .before .before .before .before .before .before .before .before .before .before .before .before .before .before .before .before .before .before .before .before .before .before .before .before .before .before .before .before .before .before .before .before .args .text .now in
+    let answer = c .before .before .before .before .before .before .before .before .before .before .before .before .before .before .before .before .before .before .before .before .before .before .before .before .before .before .before .before .before .before .before .before .before .before .before .before .before .args .answer .now in
+    let starts = c .before .before .before .before .before .before .before .before .before .before .before .before .before .before .before .before .before .before .before .before .before .before .before .before .before .before .before .before .before .before .before .before .before .before .before .before .before .args .starts .now in
+    let columns = c .before .before .before .before .before .before .before .before .before .before .before .before .before .before .before .before .before .before .before .before .before .before .before .before .before .before .before .before .before .before .before .before .before .before .before .before .before .args .columns .now in
+    let values = c .before .before .before .before .before .before .before .before .before .before .before .before .before .before .before .before .before .before .before .before .before .before .before .before .before .before .before .before .before .before .before .before .before .before .before .before .before .args .values .now in
+    let right = c .before .before .before .before .before .before .before .before .before .before .before .before .before .before .before .before .before .before .before .before .before .before .before .before .before .before .before .before .before .before .before .before .before .before .before .before .before .args .right .now in
+    let lengths = c .before .before .before .before .before .before .before .before .before .before .before .before .before .before .before .before .before .before .before .before .before .before .before .before .before .before .before .before .before .before .before .before .before .before .before .before .before .pre .0 in
+    let arm = c .before .before .before .before .before .before .before .before .before .before .before .before .reading2 .given .1 in
+    let said = c .before .before .before .before .before .before .before .before .before .before .before .before .before .before .before .before .before .before .before .before .before .before .read .ensures in
+    let p = c .before .before .before .before .before .before .before .before .before .before .before .before .reading2 .given .0 .0 in
+    let n = c .before .before .before .before .before .before .before .before .before .wide .result in
+    let count = c .before .before .before .before .before .before .before .before .wide2 .result in
+    let starts′ = c .before .before .before .before .before .before .before .before .before .before .before .before .before .before .before .before .before .before .before .before .before .before .read .last .1 .0 in
+    let columns′ = c .before .before .before .before .before .before .before .before .before .before .before .before .before .before .before .before .before .before .before .before .before .before .read .last .1 .1 .0 in
+    let values′ = c .before .before .before .before .before .before .before .before .before .before .before .before .before .before .before .before .before .before .before .before .before .before .read .last .1 .1 .1 .0 in
+    let right′ = c .before .before .before .before .before .before .before .before .before .before .before .before .before .before .before .before .before .before .before .before .before .before .read .last .1 .1 .1 .1 .0 in
+    let taken = sym (said .0) ∙ ap refusalOfRead arm in
+    let ep = sym (ap modulusOfRead arm) ∙ said .1 .0 in
+    let en = c .before .before .before .before .before .before .before .before .before .wide .ensures .0 ∙ sym (ap sizeOfRead arm) ∙ said .1 .1 .0 in
+    let ek = c .before .before .before .before .before .before .before .before .wide2 .ensures .0 ∙ sym (ap countOfRead arm) ∙ said .1 .1 .1 .0 in
+    let es = said .1 .1 .1 .1 .0 in
+    let ec = said .1 .1 .1 .1 .1 .0 in
+    let ev = said .1 .1 .1 .1 .1 .1 .0 in
+    let er = said .1 .1 .1 .1 .1 .1 .1 in
+    (
+      read-loaded text starts columns values right taken p n count starts′ columns′ values′ right′ ep en ek es ec ev er (read-rows text starts columns values right taken p n count starts′ columns′ values′ right′ ep en ek es ec ev er (lengths .3)),
+      (c .before .before .before .before .before .before .before .before .before .before .before .before .before .before .before .before .before .before .before .before .before .before .before .before .before .before .before .before .before .before .before .before .before .before .before .before .before .pre .1 .0, c .before .before .before .before .before .before .before .before .before .before .before .before .before .before .before .before .before .before .before .before .before .before .before .before .before .before .before .before .before .before .before .before .before .before .before .before .before .pre .1 .1, c .before .before .before .before .before .before .before .before .before .before .before .before .before .before .before .before .before .before .before .before .before .before .before .before .before .before .before .before .before .before .before .before .before .before .before .before .before .pre .1 .2, omega arith),
+    )
+
+same-length-5 : tie.Need-same-length-5
+same-length-5 c = search needs
+
+same-length-6 : tie.Need-same-length-6
+same-length-6 c = search needs
+
+same-length-7 : tie.Need-same-length-7
+same-length-7 c = search needs
+
+same-length-8 : tie.Need-same-length-8
+same-length-8 c = search needs
+
+returns-3 : tie.Need-returns-3
+returns-3 c =
+    let text = c .before .before .before .before .before .before .before .before .before .before .before .before .before .before .before .before .before .before .before .before .before .before .before .before .before .before .args .text .now in
+    let answer = c .before .before .before .before .before .before .before .before .before .before .before .before .before .before .before .before .before .before .before .before .before .before .before .before .before .before .args .answer .now in
+    let starts = c .before .before .before .before .before .before .before .before .before .before .before .before .before .before .before .before .before .before .before .before .before .before .before .before .before .before .args .starts .now in
+    let columns = c .before .before .before .before .before .before .before .before .before .before .before .before .before .before .before .before .before .before .before .before .before .before .before .before .before .before .args .columns .now in
+    let values = c .before .before .before .before .before .before .before .before .before .before .before .before .before .before .before .before .before .before .before .before .before .before .before .before .before .before .args .values .now in
+    let right = c .before .before .before .before .before .before .before .before .before .before .before .before .before .before .before .before .before .before .before .before .before .before .before .before .before .before .args .right .now in
+    let lengths = c .before .before .before .before .before .before .before .before .before .before .before .before .before .before .before .before .before .before .before .before .before .before .before .before .before .before .pre .0 in
+    let by-reader = text-by-reader text starts columns values right (lengths .0) (lengths .1) (lengths .2) (lengths .3) (length answer) in
+    let refusal = readerRefusal text starts columns values right in
+    let number = c .before .reading .given .0 .0 in
+    let arm = c .before .reading .given .1 in
+    let e : number ≡ refusal = sym (ap refusalOfRead arm) ∙ c .before .before .before .before .before .before .before .before .before .before .before .read .ensures .0 in
+    let some = refused-number text starts columns values right number e (sym (ap modulusOfRead arm) ∙ c .before .before .before .before .before .before .before .before .before .before .before .read .ensures .1 .0) in
+    text-refused text answer number
+    (by-reader ∙ byReader-refused text (length answer) refusal (omega arith) (omega (arith, e, some)) ∙ sym e) some
+
+same-length-9 : tie.Need-same-length-9
+same-length-9 c = search needs
+
+same-length-10 : tie.Need-same-length-10
+same-length-10 c = search needs
+
+same-length-11 : tie.Need-same-length-11
+same-length-11 c = search needs
+
+same-length-12 : tie.Need-same-length-12
+same-length-12 c = search needs
+
+same-length-13 : tie.Need-same-length-13
+same-length-13 c = search needs
+
+same-length-14 : tie.Need-same-length-14
+same-length-14 c = search needs
+
+same-length-15 : tie.Need-same-length-15
+same-length-15 c = search needs
+
+same-length-16 : tie.Need-same-length-16
+same-length-16 c = search needs
+
+returns-4 : tie.Need-returns-4
+returns-4 c =
+    let text = c .before .before .before .before .before .before .before .before .before .before .before .before .before .before .before .before .before .before .before .before .before .before .before .before .before .before .before .before .before .before .before .before .before .before .before .before .before .before .before .before .before .before .before .before .before .before .args .text .now in
+    let answer = c .before .before .before .before .before .before .before .before .before .before .before .before .before .before .before .before .before .before .before .before .before .before .before .before .before .before .before .before .before .before .before .before .before .before .before .before .before .before .before .before .before .before .before .before .before .before .args .answer .now in
+    let starts = c .before .before .before .before .before .before .before .before .before .before .before .before .before .before .before .before .before .before .before .before .before .before .before .before .before .before .before .before .before .before .before .before .before .before .before .before .before .before .before .before .before .before .before .before .before .before .args .starts .now in
+    let columns = c .before .before .before .before .before .before .before .before .before .before .before .before .before .before .before .before .before .before .before .before .before .before .before .before .before .before .before .before .before .before .before .before .before .before .before .before .before .before .before .before .before .before .before .before .before .before .args .columns .now in
+    let values = c .before .before .before .before .before .before .before .before .before .before .before .before .before .before .before .before .before .before .before .before .before .before .before .before .before .before .before .before .before .before .before .before .before .before .before .before .before .before .before .before .before .before .before .before .before .before .args .values .now in
+    let right = c .before .before .before .before .before .before .before .before .before .before .before .before .before .before .before .before .before .before .before .before .before .before .before .before .before .before .before .before .before .before .before .before .before .before .before .before .before .before .before .before .before .before .before .before .before .before .args .right .now in
+    let lengths = c .before .before .before .before .before .before .before .before .before .before .before .before .before .before .before .before .before .before .before .before .before .before .before .before .before .before .before .before .before .before .before .before .before .before .before .before .before .before .before .before .before .before .before .before .before .before .pre .0 in
+    let arm = c .before .before .before .before .before .before .before .before .before .before .before .before .before .before .before .before .before .before .before .before .before .reading2 .given .1 in
+    let said = c .before .before .before .before .before .before .before .before .before .before .before .before .before .before .before .before .before .before .before .before .before .before .before .before .before .before .before .before .before .before .before .read .ensures in
+    let p = c .before .before .before .before .before .before .before .before .before .before .before .before .before .before .before .before .before .before .before .before .before .reading2 .given .0 .0 in
+    let n = c .before .before .before .before .before .before .before .before .before .before .before .before .before .before .before .before .before .before .wide .result in
+    let count = c .before .before .before .before .before .before .before .before .before .before .before .before .before .before .before .before .before .wide2 .result in
+    let starts′ = c .before .before .before .before .before .before .before .before .before .before .before .before .before .before .before .before .before .before .before .before .before .before .before .before .before .before .before .before .before .before .before .read .last .1 .0 in
+    let columns′ = c .before .before .before .before .before .before .before .before .before .before .before .before .before .before .before .before .before .before .before .before .before .before .before .before .before .before .before .before .before .before .before .read .last .1 .1 .0 in
+    let values′ = c .before .before .before .before .before .before .before .before .before .before .before .before .before .before .before .before .before .before .before .before .before .before .before .before .before .before .before .before .before .before .before .read .last .1 .1 .1 .0 in
+    let right′ = c .before .before .before .before .before .before .before .before .before .before .before .before .before .before .before .before .before .before .before .before .before .before .before .before .before .before .before .before .before .before .before .read .last .1 .1 .1 .1 .0 in
+    let taken = sym (said .0) ∙ ap refusalOfRead arm in
+    let ep = sym (ap modulusOfRead arm) ∙ said .1 .0 in
+    let en = c .before .before .before .before .before .before .before .before .before .before .before .before .before .before .before .before .before .before .wide .ensures .0 ∙ sym (ap sizeOfRead arm) ∙ said .1 .1 .0 in
+    let ek = c .before .before .before .before .before .before .before .before .before .before .before .before .before .before .before .before .before .wide2 .ensures .0 ∙ sym (ap countOfRead arm) ∙ said .1 .1 .1 .0 in
+    let es = said .1 .1 .1 .1 .0 in
+    let ec = said .1 .1 .1 .1 .1 .0 in
+    let ev = said .1 .1 .1 .1 .1 .1 .0 in
+    let er = said .1 .1 .1 .1 .1 .1 .1 in
+    let refusal = readerRefusal text starts columns values right in
+    let none =
+    text-by-reader text starts columns values right (lengths .0) (lengths .1) (lengths .2) (lengths .3) (length answer)
+    ∙ byReader-taken text (length answer) refusal (omega (arith, c .before .before .before .before .before .before .before .before .before .before .before .before .before .before .before .before .before .before .before .before .before .before .before .before .before .before .before .before .before .before .before .before .before .before .before .before .if1 .left)) taken (omega (arith, c .before .before .before .before .before .before .before .before .before .before .before .before .before .before .before .before .before .before .before .if2 .left)) in
+    let call = text-given text answer none in
+    let put = put-start (put-as (read-outcome text starts columns values right taken p n count starts′ columns′ values′ right′ ep en ek es ec ev er) (c .before .before .before .before .before .before .before .before .put-solved .ensures)) in
+    (put .0 ∙ call .0, put .1 ∙ call .1)
+
+pub answer-text-spec : {M : Type 1} → statement M
+answer-text-spec =
+    tie.close
+    (tie.spec
+    returns
+    read-requires
+    enum-known-reading
+    cast-result
+    enum-known-reading-2
+    same-length
+    same-length-2
+    same-length-3
+    same-length-4
+    returns-2
+    wide-requires
+    wide-requires-2
+    put-solved-requires
+    same-length-5
+    same-length-6
+    same-length-7
+    same-length-8
+    returns-3
+    same-length-9
+    same-length-10
+    same-length-11
+    same-length-12
+    same-length-13
+    same-length-14
+    same-length-15
+    same-length-16
+    returns-4)

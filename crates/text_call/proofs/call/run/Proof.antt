@@ -1,0 +1,186 @@
+-- `text_call::call::run` meets its contract. Assumes nothing.
+use mathlib.Core.Path.{_≡_, refl, ap, _∙_}
+use Prim.Native.Nat.{_+_, _-_, _≤_}
+use native.Mathlib.Omega.{arith}
+use lib.ListN.{length, take, drop}
+use lib.Seq.{take-at, length-take-le}
+use Rattle.meaning.specs.List.{at}
+use Rattle.laws.specs.List.{length-table}
+use Rattle.text_call.specs.Loaded.{outcomeOf, loaded-small, loaded-solved}
+use borrow.Author.Needs.{needs}
+use Rattle.text_call.proofs.call.run.Statement.{statement}
+use Rattle.text_call.proofs.call.run.Tie as tie
+
+add-m : tie.Need-add-m
+add-m c = search needs
+
+mul-solve : tie.Need-mul-solve
+mul-solve c = search needs
+
+sub-solve : tie.Need-sub-solve
+sub-solve c = search needs
+
+part-solve-start : tie.Need-part-solve-start
+part-solve-start c = search needs
+
+part-solve-end : tie.Need-part-solve-end
+part-solve-end c = search needs
+
+mul-solve-2 : tie.Need-mul-solve-2
+mul-solve-2 c = search needs
+
+sub-solve-2 : tie.Need-sub-solve-2
+sub-solve-2 c = search needs
+
+part-solve-start-2 : tie.Need-part-solve-start-2
+part-solve-start-2 c = search needs
+
+part-solve-end-2 : tie.Need-part-solve-end-2
+part-solve-end-2 c = search needs
+
+mul-solve-3 : tie.Need-mul-solve-3
+mul-solve-3 c = search needs
+
+sub-solve-3 : tie.Need-sub-solve-3
+sub-solve-3 c = search needs
+
+part-solve-start-3 : tie.Need-part-solve-start-3
+part-solve-start-3 c = search needs
+
+part-solve-end-3 : tie.Need-part-solve-end-3
+part-solve-end-3 c = search needs
+
+mul-solve-4 : tie.Need-mul-solve-4
+mul-solve-4 c = search needs
+
+sub-solve-4 : tie.Need-sub-solve-4
+sub-solve-4 c = search needs
+
+part-solve-start-4 : tie.Need-part-solve-start-4
+part-solve-start-4 c = search needs
+
+part-solve-end-4 : tie.Need-part-solve-end-4
+part-solve-end-4 c = search needs
+
+mul-solve-5 : tie.Need-mul-solve-5
+mul-solve-5 c = search needs
+
+sub-solve-5 : tie.Need-sub-solve-5
+sub-solve-5 c = search needs
+
+part-solve-start-5 : tie.Need-part-solve-start-5
+part-solve-start-5 c = search needs
+
+part-solve-end-5 : tie.Need-part-solve-end-5
+part-solve-end-5 c = search needs
+
+mul-solve-6 : tie.Need-mul-solve-6
+mul-solve-6 c = search needs
+
+sub-solve-6 : tie.Need-sub-solve-6
+sub-solve-6 c = search needs
+
+part-solve-start-6 : tie.Need-part-solve-start-6
+part-solve-start-6 c = search needs
+
+part-solve-end-6 : tie.Need-part-solve-end-6
+part-solve-end-6 c = search needs
+
+mul-solve-7 : tie.Need-mul-solve-7
+mul-solve-7 c = search needs
+
+sub-solve-7 : tie.Need-sub-solve-7
+sub-solve-7 c = search needs
+
+part-solve-start-7 : tie.Need-part-solve-start-7
+part-solve-start-7 c = search needs
+
+part-solve-end-7 : tie.Need-part-solve-end-7
+part-solve-end-7 c = search needs
+
+solve-requires : tie.Need-solve-requires
+solve-requires c κs = search needs
+
+same-length : tie.Need-same-length
+same-length c = search needs
+
+same-length-2 : tie.Need-same-length-2
+same-length-2 c = search needs
+
+same-length-3 : tie.Need-same-length-3
+same-length-3 c = search needs
+
+returns : tie.Need-returns
+returns c =
+    let p = c .before .before .before .before .before .before .before .before .before .before .before .before .before .before .before .before .before .before .before .before .before .before .args .p in
+    let n = c .before .before .before .before .before .before .before .before .before .before .before .before .before .before .before .before .before .before .before .before .before .before .args .n in
+    let count = c .before .before .before .before .before .before .before .before .before .before .before .before .before .before .before .before .before .before .before .before .before .before .args .count in
+    let starts = c .before .before .before .before .before .before .before .before .before .before .before .before .before .before .before .before .before .before .before .before .before .before .args .starts .now in
+    let columns = c .before .before .before .before .before .before .before .before .before .before .before .before .before .before .before .before .before .before .before .before .before .before .args .columns .now in
+    let values = c .before .before .before .before .before .before .before .before .before .before .before .before .before .before .before .before .before .before .before .before .before .before .args .values .now in
+    let right = c .before .before .before .before .before .before .before .before .before .before .before .before .before .before .before .before .before .before .before .before .before .before .args .right .now in
+    let vector = c .before .before .before .before .before .before .before .before .before .before .before .before .before .before .before .before .before .before .before .before .before .before .args .vector .now in
+    let polynomial = c .before .before .before .before .before .before .before .before .before .before .before .before .before .before .before .before .before .before .before .before .before .before .args .polynomial .now in
+    let loaded = c .before .before .before .before .before .before .before .before .before .before .before .before .before .before .before .before .before .before .before .before .before .before .pre .0 in
+    let rows = loaded .rows in
+    let lengths = c .before .before .before .before .before .before .before .before .before .before .before .before .before .before .before .before .before .before .before .before .before .before .pre .1 in
+    let m : n + 1 - 0 ≡ n + 1 = omega arith in
+    let k : n - 0 ≡ n = omega arith in
+    let e : count - 0 ≡ count = omega arith in
+    let in-vector : n - 0 ≤ length vector = omega (arith, lengths .0) in
+    let in-polynomial : n + 1 - 0 ≤ length polynomial = omega (arith, lengths .1) in
+    let solved =
+    loaded-solved p n count starts columns values right loaded (c .before .before .before .before .before .before .solve .ensures) (ap (λ i. take i starts) m) (ap (λ i. take i columns) e)
+    (ap (λ i. take i values) e) (ap (λ i. take i right) k) refl
+    (length-take-le (n - 0) vector in-vector ∙ k)
+    (length-take-le (n + 1 - 0) polynomial in-polynomial ∙ m)
+    (omega (arith, lengths .2)) in
+    let small = loaded-small p n count starts columns values right loaded in
+    record {
+      says = solved .0;
+      vector-of =
+          take-at (c .before .before .before .before .before .before .solve .last .1 .1 .1 .1 .1 .1 .0) _ n (ap length (solved .1) ∙ small .vector-length) ∙ solved .1;
+      polynomial-of =
+          take-at (c .before .before .before .before .before .before .solve .last .1 .1 .1 .1 .1 .1 .1 .0) _ (n + 1)
+          (ap length (solved .2) ∙ length-table (n + 1) (λ i. at (outcomeOf p n count starts columns values right .polynomial) i))
+          ∙ solved .2;
+    }
+
+pub run-spec : {M : Type 1} → statement M
+run-spec =
+    tie.close
+    (tie.spec
+    add-m
+    mul-solve
+    sub-solve
+    part-solve-start
+    part-solve-end
+    mul-solve-2
+    sub-solve-2
+    part-solve-start-2
+    part-solve-end-2
+    mul-solve-3
+    sub-solve-3
+    part-solve-start-3
+    part-solve-end-3
+    mul-solve-4
+    sub-solve-4
+    part-solve-start-4
+    part-solve-end-4
+    mul-solve-5
+    sub-solve-5
+    part-solve-start-5
+    part-solve-end-5
+    mul-solve-6
+    sub-solve-6
+    part-solve-start-6
+    part-solve-end-6
+    mul-solve-7
+    sub-solve-7
+    part-solve-start-7
+    part-solve-end-7
+    solve-requires
+    same-length
+    same-length-2
+    same-length-3
+    returns)

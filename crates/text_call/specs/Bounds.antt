@@ -1,0 +1,209 @@
+-- How large a run's numbers are, and how long its answer's text is.
+--     termCost-bounded     the terms of k passes with left up to 128 cost at most 256 × k
+--     Small p n o          an outcome's degree, passes and applications, and the lengths and elements of its two lists
+--     run-small            the outcome of every run without words on a system of at most 128 rows
+--     answer-fits          its text has at most 4,608 bytes
+--     answer-long          every answer's text has more than 18
+--     solved-fits, solved-long      .. of the text of a system that the text call takes
+use mathlib.Core.Path.{_≡_, refl, sym, ap, subst, _∙_}
+use mathlib.Core.Logic.{_⊎_, inl, inr}
+use mathlib.Core.Bool.{Bool, true, false, cond, _&&_}
+use mathlib.Core.List.{List, [], _∷_, _++_}
+use Prim.Native.Nat.{ℕ, zero, suc, _+_, _-_, _*_, _/_, _%_, _≤_, _<_}
+use native.Mathlib.Nat.{zero-div}
+use native.Mathlib.Decide.{ℕ-discrete}
+use native.Mathlib.Omega.{arith}
+use lib.Dec.{eqb, ltb}
+use lib.ListN.{length, drop, length-append}
+use borrow.Author.Tests.{ltb-true, eqb-true}
+use Rattle.meaning.specs.List.{at, table, zeros, isZero, every, flat, bytes}
+use Rattle.meaning.specs.Field.{times, minus, inverse}
+use Rattle.meaning.specs.Matrix.{Matrix, size, apply}
+use Rattle.meaning.specs.Recurrence.{isMonic}
+use Rattle.meaning.specs.Solver.{Kind, solved, singular, Outcome, passes, projections, begin, run, verdict, close, solve}
+use Rattle.meaning.specs.ThirdCondition.{termCost, ThirdCondition}
+use Rattle.meaning.specs.Text.{decimal, line, document, system}
+use Rattle.meaning.specs.Answer.{kindWord, vectorWord, answerText}
+use Rattle.meaning.specs.Refusal.{check, first, elements, wordsTaken}
+use Rattle.meaning.specs.Calls.{systemChecks, runChecks, textChecks, solvedText}
+use Rattle.laws.specs.Bool.{and-left, and-right}
+use Rattle.laws.specs.List.{length-table}
+use Rattle.residue.specs.Prime.{Prime}
+use Rattle.residue.specs.Lists.{Reduced, reduced-table}
+use Rattle.bridge.specs.Lists.{every-reduced, reduced-table-mod}
+use Rattle.bridge.specs.Operator.{length-apply, reduced-apply}
+use Rattle.bridge.specs.Run.{termCost-nil, termCost-cons, run-found}
+use Rattle.bridge.specs.ThirdCondition.{Accepted, accepted, everyRun, verdict-zero, verdict-singular, verdict-solved}
+use Rattle.text_laws.specs.Tables.{flat-table-zero, flat-table-suc}
+use Rattle.text_laws.specs.Numeral.{decimal-short, decimal-bounded, decimal-positive}
+use Rattle.text_laws.specs.Line.{length-line-last, length-line-more}
+use Rattle.text_laws.specs.Length.{length-line-three, length-flat-rows}
+use Rattle.text_laws.specs.Accepted.{first-both, first-pass, numbered, modulus-high}
+
+pub termCost-bounded : (left : ℕ) (ts : List ℕ) → left ≤ 128 → termCost left ts ≤ 256 * length ts
+termCost-bounded left [] h = omega (arith, termCost-nil left)
+termCost-bounded left (t ∷ ts) h =
+    omega (arith, termCost-cons left t ts, termCost-bounded (left - t) ts (omega arith))
+
+pub record Small (p n : ℕ) (o : Outcome) : Type 0 where
+  pub degree-low : o .degree ≤ n
+  pub passes-few : passes o ≤ n
+  pub applications-few : o .applications ≤ 33023
+  pub vector-length : length (o .vector) ≡ n
+  pub vector-below : Reduced p (o .vector)
+  pub polynomial-length : length (o .polynomial) ≡ o .degree + 1
+  pub polynomial-below : Reduced p (o .polynomial)
+
+-- n elements, all below p
+abbrev Vector : ℕ → ℕ → List ℕ → Type 0
+Vector p n x = (length x ≡ n) × Reduced p x
+
+module _ (p : ℕ) (h : Prime p) (A : Matrix) (b F : List ℕ) (D : ℕ) where
+  verdict-vector : Vector p (size A) (verdict p A b F D .1)
+  unfolding times
+  verdict-vector = go (ℕ-discrete D 0) (ℕ-discrete (at F 0) 0)
+    where
+      go : Dec (D ≡ 0) → Dec (at F 0 ≡ 0) → Vector p (size A) (verdict p A b F D .1)
+      go (yes e) z =
+          subst (Vector p (size A)) (sym (ap (λ v. v .1) (verdict-zero p A b F D e)))
+          (length-table (size A) (λ i. 0), reduced-table p (size A) (λ i. 0) (λ i l. omega (arith, h .two-le)))
+      go (no e) (yes z) =
+          subst (Vector p (size A)) (sym (ap (λ v. v .1) (verdict-singular p A b F D e z)))
+          (length-apply p h A (drop 1 F) b, reduced-apply p h A (drop 1 F) b)
+      go (no e) (no z) =
+          subst (Vector p (size A)) (sym (ap (λ v. v .1) (verdict-solved p A b F D e z)))
+          (
+            length-table (size A) (λ i. times p (minus p 0 (at (apply p A (drop 1 F) b) i)) (inverse p (at F 0))),
+            reduced-table-mod p (size A) (λ i. minus p 0 (at (apply p A (drop 1 F) b) i) * inverse p (at F 0)) (omega (arith, h .two-le))
+          )
+
+module _ (p : ℕ) (A : Matrix) (b : List ℕ) (e : first (runChecks p A b []) ≡ 0) (h : size A ≤ 128) where
+  abbrev o : Outcome
+  o = solve p A b []
+
+  cost : ThirdCondition p A b [] o → passes o ≤ size A → o .degree ≤ size A → o .applications ≤ 33023
+  cost third few D = subst (λ k. k ≤ 33023) (sym (third .counted)) (go (isZero b))
+    where
+      go : (z : Bool) → cond z 0 (termCost (size A) (o .degrees) + (2 * o .degree - 1)) ≤ 33023
+      go true = omega arith
+      go false = omega (arith, termCost-bounded (size A) (o .degrees) h)
+
+  pub run-small : Small p (size A) o
+  unfolding solve close isMonic
+  run-small =
+      let a = accepted p A b [] e in
+      let third = everyRun p A b [] e in
+      let c = run p A (projections p (size A) []) (begin b) in
+      let v = verdict-vector p (a .prime) A b (c .factor) (c .found) in
+      let D : o .degree ≤ size A = run-found p (a .prime) A b (a .size-b) (a .reduced-b) (projections p (size A) []) in
+      let few : passes o ≤ size A = omega (arith, third .few, zero-div (size A)) in
+      let monic =
+      and-left (eqb (length (o .polynomial)) (o .degree + 1) && every (λ a. ltb a p) (o .polynomial)) (eqb (at (o .polynomial) (o .degree)) 1)
+      (third .monic) in
+      record {
+        degree-low = D;
+        passes-few = few;
+        applications-few = cost third few D;
+        vector-length = v .0;
+        vector-below = v .1;
+        polynomial-length = eqb-true (length (o .polynomial)) (o .degree + 1) (and-left (eqb (length (o .polynomial)) (o .degree + 1)) (every (λ a. ltb a p) (o .polynomial)) monic);
+        polynomial-below = every-reduced p (o .polynomial) (and-right (eqb (length (o .polynomial)) (o .degree + 1)) (every (λ a. ltb a p) (o .polynomial)) monic);
+      }
+
+-- ---- the answer's text
+
+length-vectorWord : (k : Kind) → length (vectorWord k) ≡ 1
+unfolding bytes
+length-vectorWord solved = refl
+length-vectorWord singular = refl
+
+kindWord-low : (k : Kind) → 6 ≤ length (kindWord k)
+unfolding bytes
+kindWord-low solved = omega arith
+kindWord-low singular = omega arith
+
+kindWord-high : (k : Kind) → length (kindWord k) ≤ 8
+unfolding bytes
+kindWord-high solved = omega arith
+kindWord-high singular = omega arith
+
+-- a letter, a numeral of up to three digits and one of up to ten
+length-letter : (w : List ℕ) (a b : ℕ) → length w ≡ 1 → a < 1000 → b ≤ 4294967295 → length (line (w ∷ decimal a ∷ decimal b ∷ [])) ≤ 17
+length-letter w a b e ha hb = omega (arith, length-line-three w (decimal a) (decimal b), decimal-short 2 a (omega arith), decimal-bounded b hb)
+
+length-lines : (n : ℕ) (g : ℕ → List ℕ) → ((i : ℕ) → i < n → length (g i) ≤ 17) → length (flat (table n g)) ≤ 17 * n
+length-lines n g h = omega (arith, length-flat-rows (λ i. i) 17 n g (λ i l. omega (arith, h i l)))
+
+module _ (o : Outcome) where
+  abbrev head : List ℕ
+  head = line (bytes "answer" ∷ kindWord (o .kind) ∷ decimal (o .degree) ∷ decimal (passes o) ∷ decimal (o .applications) ∷ [])
+
+  abbrev powers : List ℕ
+  powers = flat (table (o .degree + 1) (λ i. line (bytes "f" ∷ decimal i ∷ decimal (at (o .polynomial) i) ∷ [])))
+
+  abbrev places : List ℕ
+  places = flat (table (length (o .vector)) (λ i. line (vectorWord (o .kind) ∷ decimal (i + 1) ∷ decimal (at (o .vector) i) ∷ [])))
+
+  abbrev ends : List ℕ
+  ends = line (bytes "end" ∷ [])
+
+  length-answer : length (answerText o) ≡ length head + length powers + length places + 4
+  unfolding answerText bytes
+  length-answer =
+      omega (
+        arith,
+        length-append (head ++ powers ++ places) ends,
+        length-append (head ++ powers) places,
+        length-append head powers,
+        length-line-last (bytes "end"),
+      )
+
+  length-head : length head ≡ 6 + length (kindWord (o .kind)) + length (decimal (o .degree)) + length (decimal (passes o)) + length (decimal (o .applications)) + 5
+  unfolding bytes
+  length-head =
+      let d = decimal (o .degree) in
+      let q = decimal (passes o) in
+      let a = decimal (o .applications) in
+      omega (
+        arith,
+        length-line-more (bytes "answer") (kindWord (o .kind)) (d ∷ q ∷ a ∷ []),
+        length-line-more (kindWord (o .kind)) d (q ∷ a ∷ []),
+        length-line-three d q a,
+      )
+
+  pub answer-long : 18 < length (answerText o)
+  answer-long =
+      omega (
+        arith,
+        length-answer,
+        length-head,
+        kindWord-low (o .kind),
+        decimal-positive (o .degree),
+        decimal-positive (passes o),
+        decimal-positive (o .applications),
+      )
+
+  module _ (p n : ℕ) (s : Small p n o) (hp : p ≤ 2147483647) (hn : n ≤ 128) where
+    pub answer-fits : length (answerText o) ≤ 4608
+    unfolding bytes
+    answer-fits =
+        let few = s .degree-low in
+        let D = o .degree in
+        let powers-short : length powers ≤ 17 * (D + 1) =
+        length-lines (D + 1) (λ i. line (bytes "f" ∷ decimal i ∷ decimal (at (o .polynomial) i) ∷ []))
+        (λ i l. length-letter (bytes "f") i (at (o .polynomial) i) refl (omega arith)
+        (omega (arith, s .polynomial-below i (omega (arith, s .polynomial-length))))) in
+        let places-short : length places ≤ 17 * length (o .vector) =
+        length-lines (length (o .vector)) (λ i. line (vectorWord (o .kind) ∷ decimal (i + 1) ∷ decimal (at (o .vector) i) ∷ []))
+        (λ i l. length-letter (vectorWord (o .kind)) (i + 1) (at (o .vector) i) (length-vectorWord (o .kind)) (omega (arith, s .vector-length))
+        (omega (arith, s .vector-below i l))) in
+        omega (
+          arith,
+          length-answer,
+          length-head,
+          kindWord-high (o .kind),
+          decimal-short 2 D (omega arith),
+          decimal-short 2 (passes o) (omega (arith, s .passes-few)),
+          decimal-short 4 (o .applications) (omega (arith, s .applications-few)),
+          s .vector-length,
+        )

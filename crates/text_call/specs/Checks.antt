@@ -1,0 +1,254 @@
+-- The text call's checks, by the reader's: arrays for 128 rows and 1,024 entries make the reader's 11 the text call's.
+--     byReader text room r     the text call's refusal, r being the reader's: 1 first, then the reader's, then the answer's room
+--     text-numbered, run-numbered      the numbers of a text's and a run's checks are from 1
+--     text-by-reader           textRefusal text room ≡ byReader text room (readerRefusal ..) for slices of 129, 1,024, 1,024 and 128 places
+--     byReader-long, byReader-refused, byReader-short, byReader-taken      its four cases
+--     text-refused, text-given what the call answers and leaves in either case
+--     Taken text, text-taken   what textRefusal text room ≡ 0 says
+--     run-checked              a run without words on a system that passes the checks
+--     size-system              the matrix of a document has its size
+--     system-checked, solved-small      the system of a text that is taken, and the bounds of its run
+--     solved-fits, solved-long      the text of a system that is taken: at most 4,608 bytes, more than 18
+--     answer-or-number         the number returned is above 18, or at most 11 and the refusal's
+use mathlib.Core.Path.{_≡_, refl, sym, ap, ap₂, subst, _∙_}
+use mathlib.Core.Logic.{_⊎_, inl, inr}
+use mathlib.Core.Bool.{Bool, true, false, not, cond, _&&_}
+use mathlib.Core.List.{List, [], _∷_, _++_}
+use Prim.Native.Nat.{ℕ, zero, suc, _+_, _-_, _*_, _%_, _≤_, _<_}
+use native.Mathlib.Nat.{zero-mod}
+use native.Mathlib.Omega.{arith}
+use lib.Dec.{eqb, leb}
+use lib.ListN.{length}
+use borrow.Author.Tests.{leb-true, le-leb, lt-leb, eq-eqb, ne-eqb}
+use Rattle.meaning.specs.List.{every, select, overwrite}
+use Rattle.meaning.specs.Matrix.{Matrix, size}
+use Rattle.meaning.specs.Text.{Document, document, System, system, row}
+use Rattle.meaning.specs.Refusal.{Check, check, first, unlessRefused, matrixChecks, documentChecks, wordsTaken}
+use Rattle.meaning.specs.Solver.{solve}
+use Rattle.meaning.specs.Answer.{answerText}
+use Rattle.meaning.specs.Calls.{systemChecks, runChecks, textChecks, readerRefusal, textRefusal, solvedText, textAnswer, textAfter}
+use Rattle.laws.specs.Bool.{and-left, and-right, and-both, same-test}
+use Rattle.laws.specs.List.{length-table}
+use Rattle.laws.specs.Refusal.{first-cons, first-nil}
+use Rattle.text_laws.specs.Accepted.{numbered, first-append, first-both, first-left, first-right, first-pass, first-passed, AcceptedSystem, system-accepted, modulus-high}
+use Rattle.text_laws.specs.Lists.{every-head, every-tail}
+use Rattle.text_laws.specs.RoundTrip.{systemOf, ReadAndWritten, read-and-written}
+use Rattle.text_call.specs.Bounds.{Small, run-small, answer-fits, answer-long}
+
+unfoldable pub byReader : List ℕ → ℕ → ℕ → ℕ
+byReader text room r = cond (leb (length text) 24576) (cond (eqb r 0) (cond (leb 4608 room) 0 11) r) 1
+
+pub text-numbered : (text : List ℕ) → numbered (textChecks text) ≡ true
+unfolding numbered every textChecks documentChecks
+text-numbered text = refl
+
+system-numbered : (p : ℕ) (A : Matrix) (b : List ℕ) → numbered (systemChecks p A b) ≡ true
+unfolding numbered every systemChecks matrixChecks
+system-numbered p A b = refl
+
+pub run-numbered : (p : ℕ) (A : Matrix) (b words : List ℕ) → numbered (runChecks p A b words) ≡ true
+unfolding numbered every runChecks systemChecks matrixChecks
+run-numbered p A b words = refl
+
+-- a check 11 after others, cut in two
+eleven : (k : ℕ) (m r : Bool)
+    → cond (eqb k 0) (cond (not (m && r)) 11 0) k
+    ≡ cond (eqb (cond (eqb k 0) (cond (not m) 11 0) k) 0) (cond r 0 11) (cond (eqb k 0) (cond (not m) 11 0) k)
+eleven zero true true = refl
+eleven zero true false = refl
+eleven zero false r = refl
+eleven (suc k) m r =
+    let e = ne-eqb (suc k) 0 (λ z. omega arith) in
+    rw (e, e)
+
+one : (t : Bool) (k : ℕ) → cond (not t) 1 k ≡ cond t k 1
+one true k = refl
+one false k = refl
+
+module _ (text : List ℕ) where
+  abbrev d : Document
+  d = document text
+
+  -- the checks, and an 11 after them
+  then-eleven : (t : Bool) → first (textChecks text ++ (check 11 (not t) ∷ [])) ≡ cond (eqb (first (textChecks text)) 0) (cond (not t) 11 0) (first (textChecks text))
+  then-eleven t =
+      first-append (textChecks text) (check 11 (not t) ∷ []) (text-numbered text)
+      ∙ ap (λ k. cond (eqb (first (textChecks text)) 0) k (first (textChecks text)))
+      (first-cons (check 11 (not t)) [] ∙ ap (cond (not t) 11) first-nil)
+
+  module _ (starts columns values right : List ℕ) (es : length starts ≡ 129) (ec : length columns ≡ 1024) (ev : length values ≡ 1024) (er : length right ≡ 128) where
+    abbrev small : Bool
+    small = leb (d .size) 128 && leb (d .count) 1024
+
+    room-small : (leb (d .size + 1) (length starts) && leb (d .count) (length columns) && leb (d .count) (length values) && leb (d .size) (length right)) ≡ small
+    room-small =
+        let n = d .size in
+        let k = d .count in
+        same-test (leb (n + 1) (length starts) && leb k (length columns) && leb k (length values) && leb n (length right)) small
+        (λ t.
+        let three = and-left (leb (n + 1) (length starts) && leb k (length columns) && leb k (length values)) (leb n (length right)) t in
+        let two = and-left (leb (n + 1) (length starts) && leb k (length columns)) (leb k (length values)) three in
+        and-both
+        (le-leb n 128 (omega (arith, leb-true n (length right) (and-right (leb (n + 1) (length starts) && leb k (length columns) && leb k (length values)) (leb n (length right)) t))))
+        (le-leb k 1024 (omega (arith, leb-true k (length columns) (and-right (leb (n + 1) (length starts)) (leb k (length columns)) two)))))
+        (λ t.
+        let hn = leb-true n 128 (and-left (leb n 128) (leb k 1024) t) in
+        let hk = leb-true k 1024 (and-right (leb n 128) (leb k 1024) t) in
+        and-both
+        (and-both
+        (and-both (le-leb (n + 1) (length starts) (omega arith)) (le-leb k (length columns) (omega arith)))
+        (le-leb k (length values) (omega arith)))
+        (le-leb n (length right) (omega arith)))
+
+    pub text-by-reader : (room : ℕ) → textRefusal text room ≡ byReader text room (readerRefusal text starts columns values right)
+    unfolding textRefusal readerRefusal byReader
+    text-by-reader room =
+        let k = first (textChecks text) in
+        let rest = first (textChecks text ++ (check 11 (not (small && leb 4608 room)) ∷ [])) in
+        let reader = readerRefusal text starts columns values right in
+        let by-reader : reader ≡ cond (eqb k 0) (cond (not small) 11 0) k =
+        then-eleven (leb (d .size + 1) (length starts) && leb (d .count) (length columns) && leb (d .count) (length values) && leb (d .size) (length right))
+        ∙ ap (λ t. cond (eqb k 0) (cond (not t) 11 0) k) room-small in
+        let later : rest ≡ cond (eqb reader 0) (cond (leb 4608 room) 0 11) reader =
+        then-eleven (small && leb 4608 room) ∙ eleven k small (leb 4608 room)
+        ∙ ap (λ r. cond (eqb r 0) (cond (leb 4608 room) 0 11) r) (sym by-reader) in
+        first-cons (check 1 (not (leb (length text) 24576))) (textChecks text ++ (check 11 (not (small && leb 4608 room)) ∷ []))
+        ∙ one (leb (length text) 24576) rest
+        ∙ ap (λ x. cond (leb (length text) 24576) x 1) later
+
+-- ---- what the call answers and leaves
+
+-- a refusal's number, and the slice as it was
+pub text-refused : (text answer : List ℕ) (k : ℕ) → textRefusal text (length answer) ≡ k → 1 ≤ k
+    → (k ≡ textAnswer text (length answer)) × (answer ≡ textAfter text answer)
+text-refused text answer k e h =
+    let no : eqb (textRefusal text (length answer)) 0 ≡ false = ne-eqb (textRefusal text (length answer)) 0 (λ z. omega arith) in (
+      sym (ap (λ t. cond t (length (solvedText text)) (textRefusal text (length answer))) no ∙ e),
+      sym (ap (λ t. cond t (overwrite (solvedText text) answer) answer) no),
+    )
+
+-- the answer's length, and its text before what else the slice held
+pub text-given : (text answer : List ℕ) → textRefusal text (length answer) ≡ 0
+    → (length (solvedText text) ≡ textAnswer text (length answer)) × (overwrite (solvedText text) answer ≡ textAfter text answer)
+text-given text answer e =
+    let yes : eqb (textRefusal text (length answer)) 0 ≡ true = eq-eqb (textRefusal text (length answer)) 0 e in (
+      sym (ap (λ t. cond t (length (solvedText text)) (textRefusal text (length answer))) yes),
+      sym (ap (λ t. cond t (overwrite (solvedText text) answer) answer) yes),
+    )
+
+module _ (text : List ℕ) (room r : ℕ) where
+  pub byReader-long : 24576 < length text → byReader text room r ≡ 1
+  unfolding byReader
+  byReader-long h = ap (λ t. cond t (cond (eqb r 0) (cond (leb 4608 room) 0 11) r) 1) (lt-leb (length text) 24576 h)
+
+  module _ (h : length text ≤ 24576) where
+    within-limit : byReader text room r ≡ cond (eqb r 0) (cond (leb 4608 room) 0 11) r
+    unfolding byReader
+    within-limit = ap (λ t. cond t (cond (eqb r 0) (cond (leb 4608 room) 0 11) r) 1) (le-leb (length text) 24576 h)
+
+    pub byReader-refused : 1 ≤ r → byReader text room r ≡ r
+    byReader-refused p = within-limit ∙ ap (λ t. cond t (cond (leb 4608 room) 0 11) r) (ne-eqb r 0 (λ z. omega arith))
+
+    pub byReader-short : r ≡ 0 → room < 4608 → byReader text room r ≡ 11
+    byReader-short e l =
+        within-limit ∙ ap (λ t. cond t (cond (leb 4608 room) 0 11) r) (eq-eqb r 0 e) ∙ ap (λ t. cond t 0 11) (lt-leb 4608 room l)
+
+    pub byReader-taken : r ≡ 0 → 4608 ≤ room → byReader text room r ≡ 0
+    byReader-taken e l =
+        within-limit ∙ ap (λ t. cond t (cond (leb 4608 room) 0 11) r) (eq-eqb r 0 e) ∙ ap (λ t. cond t 0 11) (le-leb 4608 room l)
+
+-- ---- what is taken
+
+-- no words are taken
+no-words : (n : ℕ) → wordsTaken n [] ≡ true
+unfolding wordsTaken
+no-words n = and-both (eq-eqb (0 % n) 0 (zero-mod n)) (le-leb 0 (64 * n) (omega arith))
+
+pub run-checked : (p : ℕ) (A : Matrix) (b : List ℕ) → first (systemChecks p A b) ≡ 0 → first (runChecks p A b []) ≡ 0
+unfolding runChecks
+run-checked p A b e =
+    first-both (systemChecks p A b) (check 10 (not (wordsTaken (size A) [])) ∷ []) (system-numbered p A b) e
+    (first-pass 10 (wordsTaken (size A) []) [] (no-words (size A)) first-nil)
+
+pub record Taken (text : List ℕ) : Type 0 where
+  pub fits : length text ≤ 24576
+  pub read : first (textChecks text) ≡ 0
+  pub rows : document text .size ≤ 128
+  pub entries : document text .count ≤ 1024
+
+pub text-taken : (text : List ℕ) (room : ℕ) → textRefusal text room ≡ 0 → Taken text × (4608 ≤ room)
+unfolding textRefusal
+text-taken text room e =
+    let n = document text .size in
+    let k = document text .count in
+    let last = check 11 (not (leb n 128 && leb k 1024 && leb 4608 room)) ∷ [] in
+    let one = first-passed 1 (leb (length text) 24576) (textChecks text ++ last) (omega arith) e in
+    let small =
+    first-passed 11 (leb n 128 && leb k 1024 && leb 4608 room) [] (omega arith)
+    (first-right (textChecks text) last (text-numbered text) (one .1)) .0 in
+    let two = and-left (leb n 128 && leb k 1024) (leb 4608 room) small in (
+      record {
+        fits = leb-true (length text) 24576 (one .0);
+        read = first-left (textChecks text) last (text-numbered text) (one .1);
+        rows = leb-true n 128 (and-left (leb n 128) (leb k 1024) two);
+        entries = leb-true k 1024 (and-right (leb n 128) (leb k 1024) two);
+      },
+      leb-true 4608 room (and-right (leb n 128 && leb k 1024) (leb 4608 room) small),
+    )
+
+pub size-system : (d : Document) → size (system d .matrix) ≡ d .size
+unfolding system
+size-system d = omega (arith, length-table (d .size + 1) (λ i. length (select (λ e. leb (row e) i) (d .entries))))
+
+module _ (text : List ℕ) (t : Taken text) where
+  abbrev s : System
+  s = systemOf text
+
+  pub system-checked : first (systemChecks (s .modulus) (s .matrix) (s .right)) ≡ 0
+  system-checked = read-and-written text (t .read) .accepted
+
+  pub solved-small : Small (s .modulus) (size (s .matrix)) (solve (s .modulus) (s .matrix) (s .right) [])
+  solved-small =
+      run-small (s .modulus) (s .matrix) (s .right) (run-checked (s .modulus) (s .matrix) (s .right) system-checked)
+      (omega (arith, size-system (document text), t .rows))
+
+  pub solved-fits : length (solvedText text) ≤ 4608
+  unfolding solvedText
+  solved-fits =
+      answer-fits (solve (s .modulus) (s .matrix) (s .right) []) (s .modulus) (size (s .matrix)) solved-small
+      (modulus-high (s .modulus) (system-accepted (s .modulus) (s .matrix) (s .right) system-checked .prime))
+      (omega (arith, size-system (document text), t .rows))
+
+pub solved-long : (text : List ℕ) → 18 < length (solvedText text)
+unfolding solvedText
+solved-long text = answer-long (solve (systemOf text .modulus) (systemOf text .matrix) (systemOf text .right) [])
+
+-- ---- the number returned says which it is
+
+first-high : (k : ℕ) (cs : List Check) → every (λ c. leb (c .number) k) cs ≡ true → first cs ≤ k
+first-high k [] e = omega (arith, first-nil)
+first-high k (c ∷ cs) e =
+    subst (λ x. x ≤ k) (sym (first-cons c cs))
+    (go (c .turnsDown) (leb-true (c .number) k (every-head (λ c. leb (c .number) k) c cs e)) (first-high k cs (every-tail (λ c. leb (c .number) k) c cs e)))
+  where
+    go : (t : Bool) → c .number ≤ k → first cs ≤ k → cond t (c .number) (first cs) ≤ k
+    go true h ih = h
+    go false h ih = ih
+
+text-high : (text : List ℕ) (room : ℕ) → textRefusal text room ≤ 11
+unfolding textRefusal textChecks documentChecks every
+text-high text room =
+    let d = document text in
+    first-high 11
+    (check 1 (not (leb (length text) 24576)) ∷ textChecks text ++ (check 11 (not (leb (d .size) 128 && leb (d .count) 1024 && leb 4608 room)) ∷ []))
+    refl
+
+pub answer-or-number : (text : List ℕ) (room : ℕ)
+    → ((textRefusal text room ≡ 0) × (18 < textAnswer text room))
+    ⊎ ((1 ≤ textRefusal text room) × (textRefusal text room ≤ 11) × (textAnswer text room ≡ textRefusal text room))
+answer-or-number text room = go (textRefusal text room) (text-high text room)
+  where
+    go : (r : ℕ) → r ≤ 11
+        → ((r ≡ 0) × (18 < unlessRefused r (length (solvedText text)) r)) ⊎ ((1 ≤ r) × (r ≤ 11) × (unlessRefused r (length (solvedText text)) r ≡ r))
+    go zero h = inl (refl, solved-long text)
+    go (suc r) h = inr (omega arith, h, ap (λ t. cond t (length (solvedText text)) (suc r)) (ne-eqb (suc r) 0 (λ z. omega arith)))

@@ -1,0 +1,9 @@
+-- Laws of the text call.
+--     Bounds       how large a run's numbers are, and how long its answer's text is
+--     Checks       its checks, by the reader's
+--     Loaded       a system in the arrays, from the reader to the answer
+--     Put          the answer's text, put part by part
+pub mod Bounds
+pub mod Checks
+pub mod Put
+pub mod Loaded

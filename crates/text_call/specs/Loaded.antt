@@ -1,0 +1,312 @@
+-- A system in the leading parts of the arrays.
+--     loadedMatrix, loadedRight      the matrix of n rows and `count` entries, and b
+--     outcomeOf                      the outcome of its run without words
+--     Loaded                         the arrays hold a system that is taken
+--     read-modulus, read-rows        the modulus and the size that the reader answers
+--     read-loaded                    .. after the reader took a text
+--     refused-number                 where the reader refuses, its number is from 1
+--     read-outcome                   the answer's text is the text call's
+--     verdictText, degreeOf          the answer's text and the degree, of what the solver says
+--     verdict-solved, verdict-singular, verdict-refused      .. by its cases
+--     said-answer, said-degree       .. where it says an outcome: answerText
+--     Ran                            what a run leaves in the arrays
+--     loaded-rows, loaded-small, loaded-fits      the size, the run's bounds, and its text's length
+--     ran-answer                     the answer's text, of what a run leaves
+--     loaded-taken, loaded-solved    the solver refuses nothing, and gives the outcome
+use mathlib.Core.Path.{_≡_, refl, sym, ap, ap₂, subst, _∙_}
+use mathlib.Core.Bool.{Bool, true, false, not, cond, _&&_}
+use mathlib.Core.List.{List, [], _∷_, _++_}
+use Prim.Native.Nat.{ℕ, zero, suc, _+_, _-_, _*_, _≤_, _<_}
+use native.Mathlib.Omega.{arith}
+use lib.Dec.{eqb, leb}
+use lib.ListN.{length, take, drop, length-take, length-map}
+use lib.Seq.{take-at, length-take-le}
+use borrow.Author.Tests.{leb-true, le-leb, eq-eqb}
+use Rattle.meaning.specs.List.{at, table, padded, overwrite, bytes, select}
+use Rattle.meaning.specs.Matrix.{Matrix, matrix, size}
+use Rattle.meaning.specs.Text.{Document, document, System, system, row, line}
+use Rattle.meaning.specs.Solver.{Kind, solved, singular, Outcome, passes, solve}
+use Rattle.meaning.specs.Refusal.{check, first, unlessRefused}
+use Rattle.meaning.specs.Answer.{answerText}
+use Rattle.meaning.specs.Calls.{systemChecks, runChecks, textChecks, solverRefusal, readerRefusal, readerAnswer, readerAfter, solvedText}
+use Rattle.laws.specs.Bool.{and-right, and-both}
+use Rattle.laws.specs.List.{length-table, getD-table}
+use Rattle.laws.specs.Refusal.{first-nil}
+use Rattle.text_laws.specs.Accepted.{first-both, first-left, first-right, first-pass, first-passed, AcceptedSystem, system-accepted, AcceptedDocument, document-accepted, modulus-low, modulus-high}
+use Rattle.text_laws.specs.RoundTrip.{systemOf, read-and-written, text-accepted}
+use Rattle.wiedemann.specs.declared.solver.Counts.{Counts}
+use Rattle.wiedemann.specs.declared.solver.Verdict.{Verdict}
+use Rattle.wiedemann.specs.declared.solver.Verdict.the-variants.{Solved, Singular, Refused}
+use Rattle.wiedemann.specs.Verdict.{Counted, Says, Solves}
+use Rattle.text_call.specs.Bounds.{Small, run-small, answer-fits}
+use Rattle.text_call.specs.Checks.{text-numbered, run-numbered, run-checked}
+use Rattle.text_call.specs.Put.{linesOf, linesOf-ext, headOf, textOf, answer-solved, answer-singular}
+
+abbrev pub loadedMatrix : ℕ → ℕ → List ℕ → List ℕ → List ℕ → Matrix
+loadedMatrix n count starts columns values = matrix (take (n + 1) starts) (take count columns) (take count values)
+
+abbrev pub outcomeOf : ℕ → ℕ → ℕ → List ℕ → List ℕ → List ℕ → List ℕ → Outcome
+outcomeOf p n count starts columns values right = solve p (loadedMatrix n count starts columns values) (take n right) []
+
+pub record Loaded (p n count : ℕ) (starts columns values right : List ℕ) : Type 0 where
+  pub rows : n ≤ 128
+  pub in-starts : n + 1 ≤ length starts
+  pub in-columns : count ≤ length columns
+  pub in-values : count ≤ length values
+  pub in-right : n ≤ length right
+  pub checked : first (systemChecks p (loadedMatrix n count starts columns values) (take n right)) ≡ 0
+
+-- a part of so many elements is within its list
+long : (k : ℕ) (l m : List ℕ) → take k l ≡ m → length m ≤ length l
+long k l m q = omega (arith, ap length q, length-take k l)
+
+-- ---- what the reader leaves
+
+given : {A : Type 0} (k : ℕ) (new old : A) → k ≡ 0 → unlessRefused k new old ≡ new
+given k new old e = ap (λ t. cond t new old) (eq-eqb k 0 e)
+
+module _ (d : Document) where
+  length-starts : length (system d .matrix .starts) ≡ d .size + 1
+  unfolding system
+  length-starts = length-table (d .size + 1) (λ i. length (select (λ e. leb (row e) i) (d .entries)))
+
+  length-columns : length (system d .matrix .columns) ≡ length (d .entries)
+  unfolding system
+  length-columns = length-map (d .entries) (λ e. at e 1 - 1)
+
+  length-values : length (system d .matrix .values) ≡ length (d .entries)
+  unfolding system
+  length-values = length-map (d .entries) (λ e. at e 2)
+
+  length-right : length (system d .right) ≡ d .size
+  unfolding system
+  length-right = length-table (d .size) _
+
+module _ (text starts columns values right : List ℕ) (e : readerRefusal text starts columns values right ≡ 0) where
+  abbrev d : Document
+  d = document text
+
+  abbrev A : Matrix
+  A = systemOf text .matrix
+
+  abbrev enough : Bool
+  enough = leb (d .size + 1) (length starts) && leb (d .count) (length columns) && leb (d .count) (length values) && leb (d .size) (length right)
+
+  reads : first (textChecks text) ≡ 0
+  unfolding readerRefusal
+  reads = first-left (textChecks text) (check 11 (not enough) ∷ []) (text-numbered text) e
+
+  has-room : enough ≡ true
+  unfolding readerRefusal
+  has-room = first-passed 11 enough [] (omega arith) (first-right (textChecks text) (check 11 (not enough) ∷ []) (text-numbered text) e) .0
+
+  -- a leading part that was filled
+  filled : (l old : List ℕ) (n : ℕ) → length l ≡ n → take n (unlessRefused (readerRefusal text starts columns values right) (overwrite l old) old) ≡ l
+  filled l old n h =
+      ap (take n) (given (readerRefusal text starts columns values right) (overwrite l old) old e) ∙ take-at l (drop (length l) old) n h
+
+  -- p is not 0
+  pub read-modulus : 1 ≤ readerAnswer (λ d. d .modulus) text starts columns values right
+  read-modulus =
+      omega (
+        arith,
+        given (readerRefusal text starts columns values right) (d .modulus) 0 e,
+        modulus-low (d .modulus) (document-accepted d (text-accepted text reads .2) .prime),
+      )
+
+  counted : d .count ≡ length (d .entries)
+  counted = document-accepted d (text-accepted text reads .2) .counted
+
+  module _ (p n count : ℕ) (starts′ columns′ values′ right′ : List ℕ)
+      (ep : p ≡ readerAnswer (λ d. d .modulus) text starts columns values right)
+      (en : n ≡ readerAnswer (λ d. d .size) text starts columns values right)
+      (ek : count ≡ readerAnswer (λ d. d .count) text starts columns values right)
+      (es : starts′ ≡ readerAfter (λ s. s .matrix .starts) starts text starts columns values right)
+      (ec : columns′ ≡ readerAfter (λ s. s .matrix .columns) columns text starts columns values right)
+      (ev : values′ ≡ readerAfter (λ s. s .matrix .values) values text starts columns values right)
+      (er : right′ ≡ readerAfter (λ s. s .right) right text starts columns values right)
+      where
+    modulus : p ≡ d .modulus
+    modulus = ep ∙ given (readerRefusal text starts columns values right) (d .modulus) 0 e
+
+    order : n ≡ d .size
+    order = en ∙ given (readerRefusal text starts columns values right) (d .size) 0 e
+
+    entries : count ≡ d .count
+    entries = ek ∙ given (readerRefusal text starts columns values right) (d .count) 0 e
+
+    same-starts : take (n + 1) starts′ ≡ A .starts
+    same-starts = ap (take (n + 1)) es ∙ filled (A .starts) starts (n + 1) (omega (arith, length-starts d, order))
+
+    same-columns : take count columns′ ≡ A .columns
+    same-columns = ap (take count) ec ∙ filled (A .columns) columns count (omega (arith, length-columns d, entries, counted))
+
+    same-values : take count values′ ≡ A .values
+    same-values = ap (take count) ev ∙ filled (A .values) values count (omega (arith, length-values d, entries, counted))
+
+    same-right : take n right′ ≡ systemOf text .right
+    same-right = ap (take n) er ∙ filled (systemOf text .right) right n (omega (arith, length-right d, order))
+
+    pub read-rows : length right ≡ 128 → n ≤ 128
+    read-rows er = omega (arith, order, leb-true (d .size) (length right) (and-right (leb (d .size + 1) (length starts) && leb (d .count) (length columns) && leb (d .count) (length values)) (leb (d .size) (length right)) has-room))
+
+    same-matrix : loadedMatrix n count starts′ columns′ values′ ≡ A
+    same-matrix =
+        ap (λ s. matrix s (take count columns′) (take count values′)) same-starts
+        ∙ ap₂ (λ c v. matrix (A .starts) c v) same-columns same-values
+
+    same-modulus : p ≡ systemOf text .modulus
+    unfolding system
+    same-modulus = modulus
+
+    pub read-loaded : n ≤ 128 → Loaded p n count starts′ columns′ values′ right′
+    read-loaded small =
+        record {
+          rows = small;
+          in-starts = omega (arith, long (n + 1) starts′ (A .starts) same-starts, length-starts d, order);
+          in-columns = omega (arith, long count columns′ (A .columns) same-columns, length-columns d, counted, entries);
+          in-values = omega (arith, long count values′ (A .values) same-values, length-values d, counted, entries);
+          in-right = omega (arith, long n right′ (systemOf text .right) same-right, length-right d, order);
+          checked =
+              ap₂ (λ q M. first (systemChecks q M (take n right′))) same-modulus same-matrix
+              ∙ ap (λ b. first (systemChecks (systemOf text .modulus) A b)) same-right
+              ∙ read-and-written text reads .accepted;
+        }
+
+    pub read-outcome : answerText (outcomeOf p n count starts′ columns′ values′ right′) ≡ solvedText text
+    unfolding solvedText
+    read-outcome =
+        ap₂ (λ q M. answerText (solve q M (take n right′) [])) same-modulus same-matrix
+        ∙ ap (λ b. answerText (solve (systemOf text .modulus) A b [])) same-right
+
+-- where the reader answers no modulus, its number is a refusal's
+pub refused-number : (text starts columns values right : List ℕ) (number : ℕ) → number ≡ readerRefusal text starts columns values right
+    → 0 ≡ readerAnswer (λ d. d .modulus) text starts columns values right → 1 ≤ number
+refused-number text starts columns values right zero e z = absurd (omega (arith, read-modulus text starts columns values right (sym e)))
+refused-number text starts columns values right (suc k) e z = omega arith
+
+-- ---- the answer, of what the solver says
+
+unfoldable pub verdictText : Verdict → List ℕ → List ℕ → List ℕ
+verdictText (Solved c) polynomial vector = textOf (bytes "solved") 120 (c .degree) (c .passes) (c .applications) polynomial vector
+verdictText (Singular c) polynomial vector = textOf (bytes "singular") 119 (c .degree) (c .passes) (c .applications) polynomial vector
+verdictText (Refused k) polynomial vector = []
+
+abbrev pub degreeOf : Verdict → ℕ
+degreeOf (Solved c) = c .degree
+degreeOf (Singular c) = c .degree
+degreeOf (Refused k) = 0
+
+module _ (polynomial vector : List ℕ) where
+  pub verdict-solved : (r : Verdict) (c : Counts) → r ≡ Solved c
+      → textOf (bytes "solved") 120 (c .degree) (c .passes) (c .applications) polynomial vector ≡ verdictText r polynomial vector
+  unfolding verdictText
+  verdict-solved r c e = ap (λ v. verdictText v polynomial vector) (sym e)
+
+  pub verdict-singular : (r : Verdict) (c : Counts) → r ≡ Singular c
+      → textOf (bytes "singular") 119 (c .degree) (c .passes) (c .applications) polynomial vector ≡ verdictText r polynomial vector
+  unfolding verdictText
+  verdict-singular r c e = ap (λ v. verdictText v polynomial vector) (sym e)
+
+  pub verdict-refused : (r : Verdict) (k : ℕ) → r ≡ Refused k → [] ≡ verdictText r polynomial vector
+  unfolding verdictText
+  verdict-refused r k e = ap (λ v. verdictText v polynomial vector) (sym e)
+
+module _ (p n : ℕ) (o : Outcome) (s : Small p n o) where
+  -- the polynomial's zeros after F are not written
+  same-text : (word : List ℕ) (letter degree passed applications : ℕ) → degree ≡ o .degree → passed ≡ passes o → applications ≡ o .applications
+      → textOf word letter degree passed applications (padded (n + 1) (o .polynomial)) (o .vector)
+      ≡ textOf word letter (o .degree) (passes o) (o .applications) (o .polynomial) (o .vector)
+  unfolding textOf
+  same-text word letter degree passed applications ed eq ea =
+      ap (λ D. textOf word letter D passed applications (padded (n + 1) (o .polynomial)) (o .vector)) ed
+      ∙ ap₂ (λ q a. textOf word letter (o .degree) q a (padded (n + 1) (o .polynomial)) (o .vector)) eq ea
+      ∙ ap (λ f. headOf word (o .degree) (passes o) (o .applications) ++ f ++ linesOf letter 1 (o .vector) (length (o .vector)) ++ line (bytes "end" ∷ []))
+      (linesOf-ext 102 0 (padded (n + 1) (o .polynomial)) (o .polynomial) (o .degree + 1)
+      (λ i l. getD-table (n + 1) (λ i. at (o .polynomial) i) i 0 (omega (arith, s .degree-low))))
+
+  pub said-answer : (r : Verdict) → Says r 0 o → verdictText r (padded (n + 1) (o .polynomial)) (o .vector) ≡ answerText o
+  unfolding verdictText
+  said-answer (Solved c) t =
+      same-text (bytes "solved") 120 (c .degree) (c .passes) (c .applications) (t .2 .degree) (t .2 .passes) (t .2 .applications)
+      ∙ sym (answer-solved o (t .1))
+  said-answer (Singular c) t =
+      same-text (bytes "singular") 119 (c .degree) (c .passes) (c .applications) (t .2 .degree) (t .2 .passes) (t .2 .applications)
+      ∙ sym (answer-singular o (t .1))
+  said-answer (Refused k) t = absurd (t .1 (sym (t .0)))
+
+  pub said-degree : (r : Verdict) → Says r 0 o → degreeOf r ≤ n
+  said-degree (Solved c) t = omega (arith, t .2 .degree, s .degree-low)
+  said-degree (Singular c) t = omega (arith, t .2 .degree, s .degree-low)
+  said-degree (Refused k) t = omega arith
+
+-- what a run leaves in the arrays
+pub record Ran (p n count : ℕ) (starts columns values right : List ℕ) (r : Verdict) (vector polynomial : List ℕ) : Type 0 where
+  pub says : Says r 0 (outcomeOf p n count starts columns values right)
+  pub vector-of : take n vector ≡ outcomeOf p n count starts columns values right .vector
+  pub polynomial-of : take (n + 1) polynomial ≡ padded (n + 1) (outcomeOf p n count starts columns values right .polynomial)
+
+module _ (p n count : ℕ) (starts columns values right : List ℕ) (l : Loaded p n count starts columns values right) where
+  abbrev o : Outcome
+  o = outcomeOf p n count starts columns values right
+
+  pub loaded-rows : size (loadedMatrix n count starts columns values) ≡ n
+  loaded-rows = omega (arith, length-take-le (n + 1) starts (l .in-starts))
+
+  pub loaded-small : Small p n o
+  loaded-small =
+      subst (λ k. Small p k o) loaded-rows
+      (run-small p (loadedMatrix n count starts columns values) (take n right)
+      (run-checked p (loadedMatrix n count starts columns values) (take n right) (l .checked))
+      (omega (arith, loaded-rows, l .rows)))
+
+  pub loaded-fits : length (answerText o) ≤ 4608
+  loaded-fits =
+      answer-fits o p n loaded-small (modulus-high p (system-accepted p (loadedMatrix n count starts columns values) (take n right) (l .checked) .prime)) (l .rows)
+
+  module _ (r : Verdict) (vector polynomial : List ℕ) (s : Ran p n count starts columns values right r vector polynomial) where
+    pub ran-answer : (f x : List ℕ) → f ≡ take (n + 1) polynomial → x ≡ take n vector → (degreeOf r < length f) × (verdictText r f x ≡ answerText o)
+    ran-answer f x ef ex = (
+      omega (
+        arith,
+        said-degree p n o loaded-small r (s .says),
+        ap length (ef ∙ s .polynomial-of),
+        length-table (n + 1) (λ i. at (o .polynomial) i),
+      ),
+      ap₂ (λ g y. verdictText r g y) (ef ∙ s .polynomial-of) (ex ∙ s .vector-of) ∙ said-answer p n o loaded-small r (s .says),
+    )
+
+  -- nothing is refused where the vector, the polynomial and the work slice are as long as stated
+  pub loaded-taken : (vector polynomial work : List ℕ) → length vector ≡ n → length polynomial ≡ n + 1 → 16 * n + 16 ≤ length work
+      → solverRefusal p (loadedMatrix n count starts columns values) (take n right) [] vector polynomial work ≡ 0
+  unfolding solverRefusal
+  loaded-taken vector polynomial work ev ef ew =
+      let A = loadedMatrix n count starts columns values in
+      first-both (runChecks p A (take n right) [])
+      (check 11 (not (eqb (length vector) (size A) && eqb (length polynomial) (size A + 1) && leb (16 * size A + 16) (length work))) ∷ [])
+      (run-numbered p A (take n right) [])
+      (run-checked p A (take n right) (l .checked))
+      (first-pass 11 (eqb (length vector) (size A) && eqb (length polynomial) (size A + 1) && leb (16 * size A + 16) (length work)) []
+      (and-both
+      (and-both (eq-eqb (length vector) (size A) (omega (arith, loaded-rows))) (eq-eqb (length polynomial) (size A + 1) (omega (arith, loaded-rows))))
+      (le-leb (16 * size A + 16) (length work) (omega (arith, loaded-rows))))
+      first-nil)
+
+  -- so a call of the solver on the arrays' leading parts gives the outcome
+  pub loaded-solved : {t k u b words v f w v′ f′ w′ : List ℕ} {r : Verdict} → Solves p (matrix t k u) b words v f w r v′ f′ w′
+      → t ≡ take (n + 1) starts → k ≡ take count columns → u ≡ take count values → b ≡ take n right → words ≡ []
+      → length v ≡ n → length f ≡ n + 1 → 16 * n + 16 ≤ length w
+      → Says r 0 o × (v′ ≡ o .vector) × (f′ ≡ padded (n + 1) (o .polynomial))
+  loaded-solved {t} {k} {u} {b} {words} {v} {f} {w} {v′} {f′} {w′} {r} h et ek eu eb ew lv lf lw =
+      let A = loadedMatrix n count starts columns values in
+      let on-starts = subst (λ x. Solves p (matrix x k u) b words v f w r v′ f′ w′) et h in
+      let on-columns = subst (λ x. Solves p (matrix (take (n + 1) starts) x u) b words v f w r v′ f′ w′) ek on-starts in
+      let on-values = subst (λ x. Solves p (matrix (take (n + 1) starts) (take count columns) x) b words v f w r v′ f′ w′) eu on-columns in
+      let on-right = subst (λ x. Solves p A x words v f w r v′ f′ w′) eb on-values in
+      let call = subst (λ x. Solves p A (take n right) x v f w r v′ f′ w′) ew on-right in
+      let none = loaded-taken v f w lv lf lw in (
+        subst (λ z. Says r z o) none (call .says),
+        call .vector-after ∙ given (solverRefusal p A (take n right) [] v f w) (o .vector) v none,
+        call .polynomial-after ∙ given (solverRefusal p A (take n right) [] v f w) (padded (size A + 1) (o .polynomial)) f none
+            ∙ ap (λ z. padded (z + 1) (o .polynomial)) loaded-rows,
+      )

@@ -1,0 +1,150 @@
+// The call on its arrays: the reader, the solver, the answer's writer.
+use crate::answer::put_answer;
+use field::Field;
+use system_text::reader::{Reading, read};
+use wiedemann::solver::{Verdict, solve};
+ghost use mathlib.Core.Path.{_≡_};
+ghost use Prim.Native.Nat.{_+_, _≤_, _<_};
+ghost use lib.ListN.{length, take};
+ghost use Rattle.meaning.specs.List.{overwrite};
+ghost use Rattle.meaning.specs.Answer.{answerText};
+ghost use Rattle.meaning.specs.Calls.{textAnswer, textAfter};
+ghost use Rattle.text_call.specs.Put.{Put};
+ghost use Rattle.text_call.specs.Loaded.{outcomeOf, Loaded, Ran, verdictText, degreeOf};
+
+// Solves the system in the leading parts of the arrays.
+fn run(
+    p: u32,
+    n: usize,
+    count: usize,
+    starts: &[u32],
+    columns: &[u32],
+    values: &[u32],
+    right: &[u32],
+    vector: &mut [u32],
+    polynomial: &mut [u32],
+    work: &mut [u32],
+) -> Verdict
+    requires { ⌜ Loaded p n count (now starts) (now columns) (now values) (now right) ⌝ }
+    requires { ⌜ (length (now vector) ≡ 128) × (length (now polynomial) ≡ 129) × (length (now work) ≡ 2064) ⌝ }
+    ensures { λ r. ⌜ Ran p n count (now (starts .entry)) (now (columns .entry)) (now (values .entry)) (now (right .entry)) r (now (vector .exit)) (now (polynomial .exit)) ⌝ }
+{
+    let z: usize = 0;
+    let m = n + 1;
+    solve(
+        Field { p },
+        &starts[z..m],
+        &columns[z..count],
+        &values[z..count],
+        &right[z..n],
+        &right[z..z],
+        &mut vector[z..n],
+        &mut polynomial[z..m],
+        work,
+    )
+}
+
+// The answer's text of a verdict; nothing of a refusal.
+fn put_verdict(answer: &mut [u8], verdict: Verdict, polynomial: &[u32], vector: &[u32]) -> usize
+    requires { ⌜ degreeOf verdict < length (now polynomial) ⌝ }
+    requires { ⌜ length (verdictText verdict (now polynomial) (now vector)) ≤ length (now answer) ⌝ }
+    ensures { λ r. ⌜ Put (now (answer .entry)) 0 (verdictText verdict (now (polynomial .entry)) (now (vector .entry))) r (now (answer .exit)) ⌝ }
+{
+    match verdict {
+        Verdict::Solved(c) => put_answer(
+            answer,
+            b"solved",
+            b'x',
+            c.degree,
+            c.passes,
+            c.applications,
+            polynomial,
+            vector,
+        ),
+        Verdict::Singular(c) => put_answer(
+            answer,
+            b"singular",
+            b'w',
+            c.degree,
+            c.passes,
+            c.applications,
+            polynomial,
+            vector,
+        ),
+        Verdict::Refused(_) => 0,
+    }
+}
+
+// The answer's text of the system in the arrays.
+fn put_solved(
+    p: u32,
+    n: usize,
+    count: usize,
+    answer: &mut [u8],
+    starts: &[u32],
+    columns: &[u32],
+    values: &[u32],
+    right: &[u32],
+    vector: &mut [u32],
+    polynomial: &mut [u32],
+    work: &mut [u32],
+) -> usize
+    requires { ⌜ Loaded p n count (now starts) (now columns) (now values) (now right) ⌝ }
+    requires { ⌜ (length (now vector) ≡ 128) × (length (now polynomial) ≡ 129) × (length (now work) ≡ 2064) × (4608 ≤ length (now answer)) ⌝ }
+    ensures { λ r. ⌜ Put (now (answer .entry)) 0 (answerText (outcomeOf p n count (now (starts .entry)) (now (columns .entry)) (now (values .entry)) (now (right .entry)))) r (now (answer .exit)) ⌝ }
+{
+    let verdict = run(p, n, count, starts, columns, values, right, vector, polynomial, work);
+    let z: usize = 0;
+    let m = n + 1;
+    put_verdict(answer, verdict, &polynomial[z..m], &vector[z..n])
+}
+
+fn wide(x: u32) -> usize
+    ensures { λ r. ⌜ (r ≡ x) × (r ≤ 4294967295) ⌝ }
+{
+    x as usize
+}
+
+// The text call, on arrays for 128 rows and 1,024 entries.
+pub fn answer_text(
+    text: &[u8],
+    answer: &mut [u8],
+    starts: &mut [u32],
+    columns: &mut [u32],
+    values: &mut [u32],
+    right: &mut [u32],
+    vector: &mut [u32],
+    polynomial: &mut [u32],
+    work: &mut [u32],
+) -> u64
+    requires { ⌜ (length (now starts) ≡ 129) × (length (now columns) ≡ 1024) × (length (now values) ≡ 1024) × (length (now right) ≡ 128) ⌝ }
+    requires { ⌜ (length (now vector) ≡ 128) × (length (now polynomial) ≡ 129) × (length (now work) ≡ 2064) ⌝ }
+    ensures { λ r. ⌜ r ≡ textAnswer (now (text .entry)) (length (now (answer .entry))) ⌝ }
+    ensures { λ _. ⌜ now (answer .exit) ≡ textAfter (now (text .entry)) (now (answer .entry)) ⌝ }
+{
+    if text.len() > 24576 {
+        return 1;
+    }
+    let reading = read(text, starts, columns, values, right);
+    match reading {
+        Reading::Refused(number) => number as u64,
+        Reading::System(p, n, count) => {
+            if answer.len() < 4608 {
+                return 11;
+            }
+            put_solved(
+                p,
+                wide(n),
+                wide(count),
+                answer,
+                starts,
+                columns,
+                values,
+                right,
+                vector,
+                polynomial,
+                work,
+            ) as u64
+        }
+    }
+}
