@@ -71,10 +71,9 @@ module _ (p : ℕ) (h : Prime p) (A : Matrix) (b F : List ℕ) (D : ℕ) where
           subst (Vector p (size A)) (sym (ap (λ v. v .1) (verdict-singular p A b F D e z)))
           (length-apply p h A (drop 1 F) b, reduced-apply p h A (drop 1 F) b)
       go (no e) (no z) =
-          subst (Vector p (size A)) (sym (ap (λ v. v .1) (verdict-solved p A b F D e z)))
-          (
+          subst (Vector p (size A)) (sym (ap (λ v. v .1) (verdict-solved p A b F D e z))) (
             length-table (size A) (λ i. times p (minus p 0 (at (apply p A (drop 1 F) b) i)) (inverse p (at F 0))),
-            reduced-table-mod p (size A) (λ i. minus p 0 (at (apply p A (drop 1 F) b) i) * inverse p (at F 0)) (omega (arith, h .two-le))
+            reduced-table-mod p (size A) (λ i. minus p 0 (at (apply p A (drop 1 F) b) i) * inverse p (at F 0)) (omega (arith, h .two-le)),
           )
 
 module _ (p : ℕ) (A : Matrix) (b : List ℕ) (e : first (runChecks p A b []) ≡ 0) (h : size A ≤ 128) where

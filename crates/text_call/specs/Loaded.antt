@@ -125,59 +125,59 @@ module _ (text starts columns values right : List ℕ) (e : readerRefusal text s
       (ec : columns′ ≡ readerAfter (λ s. s .matrix .columns) columns text starts columns values right)
       (ev : values′ ≡ readerAfter (λ s. s .matrix .values) values text starts columns values right)
       (er : right′ ≡ readerAfter (λ s. s .right) right text starts columns values right)
-      where
-    modulus : p ≡ d .modulus
-    modulus = ep ∙ given (readerRefusal text starts columns values right) (d .modulus) 0 e
+    where
+      modulus : p ≡ d .modulus
+      modulus = ep ∙ given (readerRefusal text starts columns values right) (d .modulus) 0 e
 
-    order : n ≡ d .size
-    order = en ∙ given (readerRefusal text starts columns values right) (d .size) 0 e
+      order : n ≡ d .size
+      order = en ∙ given (readerRefusal text starts columns values right) (d .size) 0 e
 
-    entries : count ≡ d .count
-    entries = ek ∙ given (readerRefusal text starts columns values right) (d .count) 0 e
+      entries : count ≡ d .count
+      entries = ek ∙ given (readerRefusal text starts columns values right) (d .count) 0 e
 
-    same-starts : take (n + 1) starts′ ≡ A .starts
-    same-starts = ap (take (n + 1)) es ∙ filled (A .starts) starts (n + 1) (omega (arith, length-starts d, order))
+      same-starts : take (n + 1) starts′ ≡ A .starts
+      same-starts = ap (take (n + 1)) es ∙ filled (A .starts) starts (n + 1) (omega (arith, length-starts d, order))
 
-    same-columns : take count columns′ ≡ A .columns
-    same-columns = ap (take count) ec ∙ filled (A .columns) columns count (omega (arith, length-columns d, entries, counted))
+      same-columns : take count columns′ ≡ A .columns
+      same-columns = ap (take count) ec ∙ filled (A .columns) columns count (omega (arith, length-columns d, entries, counted))
 
-    same-values : take count values′ ≡ A .values
-    same-values = ap (take count) ev ∙ filled (A .values) values count (omega (arith, length-values d, entries, counted))
+      same-values : take count values′ ≡ A .values
+      same-values = ap (take count) ev ∙ filled (A .values) values count (omega (arith, length-values d, entries, counted))
 
-    same-right : take n right′ ≡ systemOf text .right
-    same-right = ap (take n) er ∙ filled (systemOf text .right) right n (omega (arith, length-right d, order))
+      same-right : take n right′ ≡ systemOf text .right
+      same-right = ap (take n) er ∙ filled (systemOf text .right) right n (omega (arith, length-right d, order))
 
-    pub read-rows : length right ≡ 128 → n ≤ 128
-    read-rows er = omega (arith, order, leb-true (d .size) (length right) (and-right (leb (d .size + 1) (length starts) && leb (d .count) (length columns) && leb (d .count) (length values)) (leb (d .size) (length right)) has-room))
+      pub read-rows : length right ≡ 128 → n ≤ 128
+      read-rows er = omega (arith, order, leb-true (d .size) (length right) (and-right (leb (d .size + 1) (length starts) && leb (d .count) (length columns) && leb (d .count) (length values)) (leb (d .size) (length right)) has-room))
 
-    same-matrix : loadedMatrix n count starts′ columns′ values′ ≡ A
-    same-matrix =
-        ap (λ s. matrix s (take count columns′) (take count values′)) same-starts
-        ∙ ap₂ (λ c v. matrix (A .starts) c v) same-columns same-values
+      same-matrix : loadedMatrix n count starts′ columns′ values′ ≡ A
+      same-matrix =
+          ap (λ s. matrix s (take count columns′) (take count values′)) same-starts
+          ∙ ap₂ (λ c v. matrix (A .starts) c v) same-columns same-values
 
-    same-modulus : p ≡ systemOf text .modulus
-    unfolding system
-    same-modulus = modulus
+      same-modulus : p ≡ systemOf text .modulus
+      unfolding system
+      same-modulus = modulus
 
-    pub read-loaded : n ≤ 128 → Loaded p n count starts′ columns′ values′ right′
-    read-loaded small =
-        record {
-          rows = small;
-          in-starts = omega (arith, long (n + 1) starts′ (A .starts) same-starts, length-starts d, order);
-          in-columns = omega (arith, long count columns′ (A .columns) same-columns, length-columns d, counted, entries);
-          in-values = omega (arith, long count values′ (A .values) same-values, length-values d, counted, entries);
-          in-right = omega (arith, long n right′ (systemOf text .right) same-right, length-right d, order);
-          checked =
-              ap₂ (λ q M. first (systemChecks q M (take n right′))) same-modulus same-matrix
-              ∙ ap (λ b. first (systemChecks (systemOf text .modulus) A b)) same-right
-              ∙ read-and-written text reads .accepted;
-        }
+      pub read-loaded : n ≤ 128 → Loaded p n count starts′ columns′ values′ right′
+      read-loaded small =
+          record {
+            rows = small;
+            in-starts = omega (arith, long (n + 1) starts′ (A .starts) same-starts, length-starts d, order);
+            in-columns = omega (arith, long count columns′ (A .columns) same-columns, length-columns d, counted, entries);
+            in-values = omega (arith, long count values′ (A .values) same-values, length-values d, counted, entries);
+            in-right = omega (arith, long n right′ (systemOf text .right) same-right, length-right d, order);
+            checked =
+                ap₂ (λ q M. first (systemChecks q M (take n right′))) same-modulus same-matrix
+                ∙ ap (λ b. first (systemChecks (systemOf text .modulus) A b)) same-right
+                ∙ read-and-written text reads .accepted;
+          }
 
-    pub read-outcome : answerText (outcomeOf p n count starts′ columns′ values′ right′) ≡ solvedText text
-    unfolding solvedText
-    read-outcome =
-        ap₂ (λ q M. answerText (solve q M (take n right′) [])) same-modulus same-matrix
-        ∙ ap (λ b. answerText (solve (systemOf text .modulus) A b [])) same-right
+      pub read-outcome : answerText (outcomeOf p n count starts′ columns′ values′ right′) ≡ solvedText text
+      unfolding solvedText
+      read-outcome =
+          ap₂ (λ q M. answerText (solve q M (take n right′) [])) same-modulus same-matrix
+          ∙ ap (λ b. answerText (solve (systemOf text .modulus) A b [])) same-right
 
 -- where the reader answers no modulus, its number is a refusal's
 pub refused-number : (text starts columns values right : List ℕ) (number : ℕ) → number ≡ readerRefusal text starts columns values right

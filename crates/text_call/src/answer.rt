@@ -1,5 +1,7 @@
 // The answer's text, line by line. Every function answers the place after what it put; its caller has made room.
-use decimal::{put, put_byte, put_bytes};
+use decimal::put;
+use decimal::put_byte;
+use decimal::put_bytes;
 ghost use mathlib.Core.Path.{_≡_};
 ghost use mathlib.Core.List.{[], _∷_, _++_};
 ghost use Prim.Native.Nat.{_+_, _≤_, _<_};

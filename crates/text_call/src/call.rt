@@ -1,8 +1,10 @@
 // The call on its arrays: the reader, the solver, the answer's writer.
 use crate::answer::put_answer;
 use field::Field;
-use system_text::reader::{Reading, read};
-use wiedemann::solver::{Verdict, solve};
+use system_text::reader::Reading;
+use system_text::reader::read;
+use wiedemann::solver::Verdict;
+use wiedemann::solver::solve;
 ghost use mathlib.Core.Path.{_≡_};
 ghost use Prim.Native.Nat.{_+_, _≤_, _<_};
 ghost use lib.ListN.{length, take};
@@ -93,7 +95,18 @@ fn put_solved(
     requires { ⌜ (length (now vector) ≡ 128) × (length (now polynomial) ≡ 129) × (length (now work) ≡ 2064) × (4608 ≤ length (now answer)) ⌝ }
     ensures { λ r. ⌜ Put (now (answer .entry)) 0 (answerText (outcomeOf p n count (now (starts .entry)) (now (columns .entry)) (now (values .entry)) (now (right .entry)))) r (now (answer .exit)) ⌝ }
 {
-    let verdict = run(p, n, count, starts, columns, values, right, vector, polynomial, work);
+    let verdict = run(
+        p,
+        n,
+        count,
+        starts,
+        columns,
+        values,
+        right,
+        vector,
+        polynomial,
+        work,
+    );
     let z: usize = 0;
     let m = n + 1;
     put_verdict(answer, verdict, &polynomial[z..m], &vector[z..n])

@@ -15,11 +15,10 @@ abbrev μ-loop : tie.MeasureT-loop
 μ-loop out₀ at letter first elements n place₀ i₀ out place i = n - i
 
 loop-holds : tie.Need-loop-holds Inv-loop μ-loop
-loop-holds c =
-    (
-      omega arith,
-      put-as (sym (linesOf-zero (c .before .before .args .letter) (c .before .before .args .first) (c .before .before .args .elements .now))) (put-nil (c .before .before .args .out .now) (c .before .before .args .at) (omega arith)),
-    )
+loop-holds c = (
+  omega arith,
+  put-as (sym (linesOf-zero (c .before .before .args .letter) (c .before .before .args .first) (c .before .before .args .elements .now))) (put-nil (c .before .before .args .out .now) (c .before .before .args .at) (omega arith)),
+)
 
 add-put-line : tie.Need-add-put-line Inv-loop μ-loop
 add-put-line c = search needs
@@ -53,12 +52,11 @@ loop-less : tie.Need-loop-less Inv-loop μ-loop
 loop-less c = search needs
 
 loop-again : tie.Need-loop-again Inv-loop μ-loop
-loop-again c =
-    (
-      omega arith,
-      put-as (sym (linesOf-suc (c .before .before .before .before .before .before .before .before .before .args .letter) (c .before .before .before .before .before .before .before .before .before .args .first) (c .before .before .before .before .before .before .before .before .before .args .elements .now) (c .before .before .before .before .before .before .loop .i)))
-          (put-then (c .before .before .before .before .before .before .loop .inv .1) (c .before .before .put-line .ensures)),
-    )
+loop-again c = (
+  omega arith,
+  put-as (sym (linesOf-suc (c .before .before .before .before .before .before .before .before .before .args .letter) (c .before .before .before .before .before .before .before .before .before .args .first) (c .before .before .before .before .before .before .before .before .before .args .elements .now) (c .before .before .before .before .before .before .loop .i)))
+      (put-then (c .before .before .before .before .before .before .loop .inv .1) (c .before .before .put-line .ensures)),
+)
 
 same-length : tie.Need-same-length Inv-loop μ-loop
 same-length c = search needs

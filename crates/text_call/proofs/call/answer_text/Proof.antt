@@ -94,8 +94,7 @@ put-solved-requires c κs =
     let es = said .1 .1 .1 .1 .0 in
     let ec = said .1 .1 .1 .1 .1 .0 in
     let ev = said .1 .1 .1 .1 .1 .1 .0 in
-    let er = said .1 .1 .1 .1 .1 .1 .1 in
-    (
+    let er = said .1 .1 .1 .1 .1 .1 .1 in (
       read-loaded text starts columns values right taken p n count starts′ columns′ values′ right′ ep en ek es ec ev er (read-rows text starts columns values right taken p n count starts′ columns′ values′ right′ ep en ek es ec ev er (lengths .3)),
       (c .before .before .before .before .before .before .before .before .before .before .before .before .before .before .before .before .before .before .before .before .before .before .before .before .before .before .before .before .before .before .before .before .before .before .before .before .before .pre .1 .0, c .before .before .before .before .before .before .before .before .before .before .before .before .before .before .before .before .before .before .before .before .before .before .before .before .before .before .before .before .before .before .before .before .before .before .before .before .before .pre .1 .1, c .before .before .before .before .before .before .before .before .before .before .before .before .before .before .before .before .before .before .before .before .before .before .before .before .before .before .before .before .before .before .before .before .before .before .before .before .before .pre .1 .2, omega arith),
     )
