@@ -1,0 +1,272 @@
+#!/usr/bin/env python3
+"""Holds every exported call to the reference in Python: answers, refusals by number, and what stays as it was.
+
+    evidence/calls.py COUNT SEED
+    evidence/calls.py --gate
+
+Makes COUNT calls from SEED. Four in ten are right, the others have up to three faults, of which the first check must
+be told. Then come the calls at the limits of document 01, the same each time. driver.cpp says `harm` where a slice has
+changed that had to stay. Exit status 0: nothing differs."""
+
+import argparse
+import collections
+import random
+import sys
+import time
+
+import reference
+import systems
+import tools
+
+BAD_MODULI = [0, 1, 4, 9, 91, 561, 65536, 2147483646, 2147483648, 2147483659, 4294967291, 4294967295]
+
+
+# ---- a call: its name, what it gets, and what is expected. `reads` are numbers and lists, `writes` lengths.
+
+def expected_vector(result):
+    return [len(result[1])] + result[1]
+
+
+def expected_recurrence(result):
+    return [result[1], len(result[2])] + result[2]
+
+
+def expected_solve(result):
+    kind, D, passes, applications, vector, polynomial = result[1:]
+    number = 1 if kind == 'solved' else 2
+    return [number, D, passes, applications, len(vector)] + vector + [len(polynomial)] + polynomial
+
+
+def expected_read(result):
+    p, n, entries, starts, columns, values, b = result[1:]
+    return [p, n, entries] + starts[:n + 1] + columns[:entries] + values[:entries] + b[:n]
+
+
+def expected_bytes(result):
+    return [result[1]] + list(result[2][:result[1]])
+
+
+def expected_number(result):
+    return [int(result[1])]
+
+
+def expected_nothing(result):
+    return []
+
+
+# name: (the reference, what it answers if it accepts, how many numbers stand as 0 after a refusal)
+CALLS = {
+    'field': (reference.field, expected_nothing, 0),
+    'sum': (reference.field_sum, expected_number, 1),
+    'difference': (reference.field_difference, expected_number, 1),
+    'product_of': (reference.field_product, expected_number, 1),
+    'inverse': (reference.field_inverse, expected_number, 1),
+    'product': (reference.product, expected_vector, 0),
+    'transposed': (reference.transposed_product, expected_vector, 0),
+    'apply': (reference.polynomial_apply, expected_vector, 0),
+    'recurrence': (reference.recurrence, expected_recurrence, 1),
+    'solve': (reference.solve, expected_solve, 4),
+    'takes': (reference.check_solution, expected_number, 1),
+    'is_null': (reference.check_kernel, expected_number, 1),
+    'read': (reference.read_system, expected_read, 3),
+    'write': (reference.write_system, expected_bytes, 1),
+    'text': (reference.text_call, expected_bytes, 1),
+}
+
+
+class Call:
+    def __init__(self, name, reads, writes=()):
+        self.name, self.reads, self.writes = name, list(reads), list(writes)
+
+    def line(self):
+        return tools.spell(self.name, *self.reads, *self.writes)
+
+    def differs(self, answer):
+        function, expected, zeros = CALLS[self.name]
+        filler = bytes if self.name in ('text', 'write') else lambda length: [0] * length
+        result = function(*self.reads, *[filler(length) for length in self.writes])
+        if answer.startswith('harm'):
+            return True
+        numbers = [int(word) for word in answer.split()]
+        if result[0] == 'refused':
+            return numbers[:1 + zeros] != [result[1]] + [0] * zeros
+        return numbers != [0] + expected(result)
+
+    def refusal(self, answer):
+        return int(answer.replace('harm', '').split()[0])
+
+
+# ---- right calls
+
+def some_vector(source, n, p):
+    return [source.randrange(p) for _ in range(n)]
+
+
+def some_matrix(source):
+    what, p, starts, columns, values, b, words = systems.make(source, 12)
+    return p, starts, columns, values, b, words
+
+
+def right_call(source, name):
+    p, starts, columns, values, b, words = some_matrix(source)
+    n = len(b)
+    matrix = [p, starts, columns, values]
+    if name == 'field':
+        return Call(name, [p])
+    if name == 'inverse':
+        return Call(name, [p, source.randrange(p)])
+    if name in ('sum', 'difference', 'product_of'):
+        return Call(name, [p, source.randrange(p), source.randrange(p)])
+    if name in ('product', 'transposed'):
+        return Call(name, matrix + [some_vector(source, n, p)], [n])
+    if name == 'apply':
+        g = some_vector(source, source.randrange(1, n + 2), p)
+        return Call(name, matrix + [g, some_vector(source, n, p)], [n, 2 * n + source.randrange(3)])
+    if name == 'recurrence':
+        s = some_vector(source, source.randrange(0, 30), source.choice([p, min(p, 2), min(p, 3)]))
+        return Call(name, [p, s], [len(s) + 1, 4 * len(s) + 8 + source.randrange(3)])
+    if name == 'solve':
+        return Call(name, matrix + [b, words], [n, n + 1, 16 * n + 16 + source.randrange(3)])
+    answer = reference.solver_steps(p, starts, columns, values, b, [])[2]
+    if name == 'takes':
+        return Call(name, matrix + [source.choice([answer, b]), b])
+    if name == 'is_null':
+        return Call(name, matrix + [source.choice([answer, b, [0] * n])])
+    text = reference.system_text(p, starts, columns, values, b)
+    if name == 'read':
+        room = [n + 1, len(columns), len(values), n]
+        return Call(name, [text], [length + source.randrange(3) for length in room])
+    if name == 'write':
+        return Call(name, matrix + [b], [len(text) + source.randrange(3)])
+    return Call(name, [text], [4608 + source.randrange(3)])
+
+
+# ---- faults
+
+def edit_text(source, text):
+    """One edit, of a kind that people and programs make."""
+    at = source.randrange(len(text) + 1)
+    numbers = [b'0', b'1', b'01', b'4', b'128', b'129', b'4096', b'4097', b'4294967295', b'4294967296', b'']
+    lines = text.split(b'\n')
+    row = source.randrange(len(lines))
+    choice = source.randrange(6)
+    if choice == 0:
+        return text[:at] + bytes([source.choice(b'\t\n\r 0123456789absend-')]) + text[at:]
+    if choice == 1:
+        return text[:at] + text[at + 1:]
+    if choice == 2:
+        lines.insert(source.randrange(len(lines)), lines[row])
+    elif choice == 3:
+        lines.pop(row)
+    elif choice == 4:
+        fields = lines[row].split(b'\t')
+        fields[source.randrange(len(fields))] = source.choice(numbers)
+        lines[row] = b'\t'.join(fields)
+    else:
+        return text[:at]
+    return b'\n'.join(lines)
+
+
+def edit_list(source, elements, p):
+    elements = list(elements)
+    at = source.randrange(len(elements)) if elements else 0
+    choice = source.randrange(4)
+    if choice == 0 or not elements:
+        elements.insert(at, source.randrange(min(p, 3) + 1))
+    elif choice == 1:
+        elements.pop(at)
+    elif choice == 2:
+        elements[at] = source.choice([0, 1, p, p + 1, 2 ** 32 - 1, elements[0]])
+    else:
+        other = source.randrange(len(elements))
+        elements[at], elements[other] = elements[other], elements[at]
+    return elements
+
+
+def spoil(source, call):
+    """One fault, somewhere in the call: a number, an element, a length."""
+    p = call.reads[0] if isinstance(call.reads[0], int) else 2
+    at = source.randrange(len(call.reads) + len(call.writes))
+    if at >= len(call.reads):
+        at -= len(call.reads)
+        call.writes[at] = max(0, call.writes[at] + source.choice([-5, -1, 1, 2, -call.writes[at]]))
+    elif isinstance(call.reads[at], bytes):
+        call.reads[at] = edit_text(source, call.reads[at])
+    elif isinstance(call.reads[at], list):
+        call.reads[at] = edit_list(source, call.reads[at], p)
+    else:
+        call.reads[at] = source.choice(BAD_MODULI if at == 0 else [0, p, p + 1, 2 ** 32 - 1])
+
+
+def some_call(source):
+    call = right_call(source, source.choice(sorted(CALLS)))
+    if source.random() < 0.6:
+        for _ in range(source.choice([1, 2, 2, 3])):
+            spoil(source, call)
+    return call
+
+
+# ---- the limits
+
+def limit_calls():
+    """One step below and beyond each limit of document 01."""
+    for p in (2, 2147483647, *BAD_MODULI):
+        yield Call('field', [p])
+    for n in (4096, 4097):
+        starts, none = list(range(n + 1)), [0] * n
+        yield Call('product', [7, starts, list(range(n)), [1] * n, none], [n])
+        yield Call('solve', [7, starts, list(range(n)), [1] * n, none, []], [n, n + 1, 16 * n + 16])
+        text = reference.system_text(7, starts, list(range(n)), [1] * n, none)
+        yield Call('read', [text], [n + 1, n, n, n])
+    for last in (16, 17):  # 65,536 entries, and one more
+        starts = [16 * i for i in range(4096)] + [65520 + last]
+        columns = list(range(16)) * 4095 + list(range(last))
+        values = [1] * len(columns)
+        yield Call('product', [2, starts, columns, values, [1] * 4096], [4096])
+        yield Call('write', [2, starts, columns, values, [1] * 4096], [2000000])
+    for terms in (8192, 8193):
+        yield Call('recurrence', [3, [0] * terms], [terms + 1, 4 * terms + 8])
+    for words in (0, 127, 128, 129, 130):
+        yield Call('solve', [7, [0, 1, 2], [0, 1], [2, 3], [1, 1], [1] * words], [2, 3, 48])
+    for n in (128, 129):
+        starts, columns = list(range(n + 1)), list(range(n))
+        yield Call('text', [reference.system_text(7, starts, columns, [1] * n, [1] * n)], [4608])
+    for last in (8, 9):  # 1,024 entries, and one more
+        starts = [8 * i for i in range(128)] + [1016 + last]
+        columns = list(range(8)) * 127 + list(range(last))
+        yield Call('text', [reference.system_text(2, starts, columns, [1] * len(columns), [1] * 128)], [4608])
+    for length in (24576, 24577):
+        yield Call('text', [b'x' * length], [4608])
+    for length in (2097152, 2097153):
+        yield Call('read', [b'x' * length], [2, 1, 1, 1])
+    for length in (0, 4607, 4608, 4700):
+        yield Call('text', [b'system\t2\t1\t1\na\t1\t1\t1\nb\t1\t1\nend\n'], [length])
+
+
+def main():
+    parser = argparse.ArgumentParser(description='Holds every exported call to the reference.')
+    parser.add_argument('count', type=int, nargs='?', default=20000)
+    parser.add_argument('seed', type=int, nargs='?', default=1)
+    parser.add_argument('--gate', action='store_true', help='a small fixed set')
+    chosen = parser.parse_args()
+
+    began = time.time()
+    source = random.Random(11 if chosen.gate else chosen.seed)
+    made = [some_call(source) for _ in range(8000 if chosen.gate else chosen.count)]
+    made += limit_calls()
+    answers = tools.ask(tools.driver(), [call.line() for call in made])
+    refusals, differ = collections.Counter(), 0
+    for call, answer in zip(made, answers):
+        refusals[call.refusal(answer)] += 1
+        if call.differs(answer):
+            differ += 1
+            print('DIFFERS: %.300s\n   got: %.300s' % (call.line(), answer))
+    print('%d calls, %d accepted; refused: %s; %.0f seconds' % (
+        len(made), refusals[0], ', '.join('%d × %d' % (refusals[k], k) for k in sorted(refusals) if k),
+        time.time() - began))
+    print('calls: %d differ' % differ)
+    sys.exit(differ != 0)
+
+
+if __name__ == '__main__':
+    main()

@@ -1,0 +1,191 @@
+#!/usr/bin/env python3
+"""Holds the solver against other tools, on systems that its authors did not choose.
+
+    evidence/compare.py COUNT SEED [--largest N] [--budget B]
+    evidence/compare.py --gate
+
+Makes COUNT systems from SEED (systems.py), gives each to the static library through driver.cpp, and holds
+  - kind, D, passes, applications, vector and polynomial to a second implementation (second.cpp), and where the system
+    is small also to the reference in Python (reference.py), two programs that share no code with the library;
+  - kind, D and f to dense elimination: the ranks of the Krylov vectors b, Ab, .. and of Ab, A²b, .., and their first
+    dependence; by dense.cpp, by FLINT (Debian's libflint-dev) and by PARI (pari-gp), where these are installed;
+  - the vector to its meaning: Ax = b, or w is not zero and Aw = 0.
+
+--gate is a small fixed set that needs python3 and g++ only. The library is target/staticlib/libhost.a, or what
+FILZEUR_LIBRARY names. Exit status 0: nothing differs."""
+
+import argparse
+import collections
+import random
+import shutil
+import subprocess
+import sys
+import time
+
+import reference
+import systems
+import tools
+
+REFERENCE_SIZE = 24  # the reference is slow
+PARI_SIZE = 40
+KINDS = {1: 'solved', 2: 'singular'}
+
+
+def line_of(system):
+    what, p, starts, columns, values, b, words = system
+    n = len(b)
+    return tools.spell('solve', p, starts, columns, values, b, words, n, n + 1, 16 * n + 16)
+
+
+class Answer:
+    def __init__(self, line, n):
+        self.harm = line.startswith('harm')
+        numbers = [int(word) for word in line.replace('harm', '').split()]
+        self.refusal, self.kind, self.degree, self.passes, self.applications = numbers[:5]
+        self.vector = numbers[6:6 + n]
+        self.polynomial = numbers[7 + n:]
+
+    def all(self):
+        return (self.kind, self.degree, self.passes, self.applications, self.vector, self.polynomial)
+
+
+def holds_itself(system, answer):
+    """What can be said of the answer alone: its vector's meaning, a monic f, zeros after it, the count's bounds."""
+    what, p, starts, columns, values, b, words = system
+    n, D = len(b), answer.degree
+    if answer.harm or answer.refusal or answer.kind not in KINDS:
+        return False
+    image = reference.times(p, starts, columns, values, answer.vector)
+    right = image == b if answer.kind == 1 else any(answer.vector) and not any(image)
+    shape = D <= n and answer.polynomial[D] == 1 and not any(answer.polynomial[D + 1:])
+    return right and shape and answer.passes <= len(words) // n + n
+
+
+def by_reference(system):
+    what, p, starts, columns, values, b, words = system
+    n = len(b)
+    kind, F, vector, applications, passes = reference.solver_steps(p, starts, columns, values, b, words)
+    number = 1 if kind == 'solved' else 2
+    return (number, len(F) - 1, len(passes), applications, vector, F + [0] * (n + 1 - len(F)))
+
+
+def agrees_with_dense(report, answer):
+    """The report: D, the rank of Ab, A²b, .., and f. The kind is solved exactly if b adds nothing to those."""
+    degree, shifted, *f = [int(word) for word in report.split()]
+    kind = 1 if shifted == degree else 2
+    return (kind, degree, f) == (answer.kind, answer.degree, answer.polynomial[:answer.degree + 1])
+
+
+def pari_lines(chosen):
+    """For each system, a line as dense.cpp gives it."""
+    script = ['report(p, A, b) = { my(n = #b, v = b, K = Mat(b), D, S, c);'
+              ' for(i = 1, n, v = A * v; K = matconcat([K, v]));'
+              ' D = matrank(K); S = matrank(K[, 2..n + 1]);'
+              ' c = if(D, matinverseimage(K[, 1..D], K[, D + 1]), []~);'
+              ' print1(D, " ", S); for(i = 1, D, print1(" ", lift(-c[i]))); print(" 1"); }']
+    for what, p, starts, columns, values, b, words in chosen:
+        n = len(b)
+        script.append('A = matrix(%d, %d) * Mod(1, %d);' % (n, n, p))
+        for i in range(n):
+            for k in range(starts[i], starts[i + 1]):
+                script.append('A[%d, %d] = Mod(%d, %d);' % (i + 1, columns[k] + 1, values[k], p))
+        script.append('report(%d, A, [%s]~ * Mod(1, %d));' % (p, ', '.join(map(str, b)), p))
+    done = subprocess.run(['gp', '-q', '-f'], input='\n'.join(script) + '\n', stdout=subprocess.PIPE, text=True)
+    return done.stdout.splitlines()
+
+
+class Tally:
+    """Counts what was held to what, and prints the differences."""
+
+    def __init__(self):
+        self.held = collections.Counter()
+        self.differ = 0
+
+    def hold(self, tool, system, same):
+        self.held[tool] += 1
+        if not same:
+            self.differ += 1
+            print('DIFFERS from %s: %s' % (tool, system[0]))
+
+
+def compare(made, budget, packages):
+    tally = Tally()
+    lines = [line_of(system) for system in made]
+    answers = [Answer(line, len(system[5])) for line, system in zip(tools.ask(tools.driver(), lines), made)]
+
+    for system, answer in zip(made, answers):
+        tally.hold('the meaning of its vector', system, holds_itself(system, answer))
+
+    second = tools.ask(tools.build('second', 'second.cpp'), lines)
+    for system, answer, line in zip(made, answers, second):
+        tally.hold('the second implementation', system, Answer(line, len(system[5])).all() == answer.all())
+
+    for system, answer in zip(made, answers):
+        if len(system[5]) <= REFERENCE_SIZE:
+            tally.hold('the reference in Python', system, by_reference(system) == answer.all())
+
+    dense = {'dense elimination': tools.build('dense', 'dense.cpp')}
+    if packages:
+        dense['FLINT'] = tools.build('dense-flint', 'dense.cpp', '-DWITH_FLINT', '-lflint', needed=False)
+    for tool, program in dense.items():
+        if program is None:
+            print('%s is left out: it needs the package libflint-dev' % tool)
+            continue
+        for system, answer, report in zip(made, answers, tools.ask(program, lines, str(budget))):
+            if report != 'skipped':
+                tally.hold(tool, system, agrees_with_dense(report, answer))
+
+    if packages and shutil.which('gp') is None:
+        print('PARI is left out: it needs the package pari-gp')
+    elif packages:
+        chosen = [(s, a) for s, a in zip(made, answers) if len(s[5]) <= PARI_SIZE]
+        reports = pari_lines([system for system, answer in chosen])
+        for (system, answer), report in zip(chosen, reports + [''] * len(chosen)):
+            tally.hold('PARI', system, report != '' and agrees_with_dense(report, answer))
+
+    return tally, answers
+
+
+def gate_set():
+    """Fixed: many small systems, some of a few hundred rows, and two of the largest."""
+    made = [systems.make(random.Random(k), 32) for k in range(300)]
+    made += [systems.make(random.Random(1000 + k), 300) for k in range(30)]
+    large = random.Random(5)
+    for shape, p in ((systems.permutation, 2147483647), (systems.block, 65537)):
+        matrix = systems.slices(shape(large, p, 4096))
+        b = [large.randrange(p) for _ in range(4096)]
+        words = [large.randrange(2 ** 32) for _ in range(2 * 4096)]
+        made.append(('%s of 4,096 rows' % shape.__name__, p, *matrix, b, words))
+    return made
+
+
+def main():
+    parser = argparse.ArgumentParser(description='Holds the solver against other tools.')
+    parser.add_argument('count', type=int, nargs='?', default=300)
+    parser.add_argument('seed', type=int, nargs='?', default=1)
+    parser.add_argument('--largest', type=int, default=4096, help='rows of the largest system')
+    parser.add_argument('--budget', type=float, default=1e9, help='n × D × D up to which elimination is done')
+    parser.add_argument('--gate', action='store_true', help='the small fixed set')
+    chosen = parser.parse_args()
+
+    began = time.time()
+    if chosen.gate:
+        made = gate_set()
+    else:
+        source = random.Random(chosen.seed)
+        made = [systems.make(source, chosen.largest) for _ in range(chosen.count)]
+    tally, answers = compare(made, 3e7 if chosen.gate else chosen.budget, not chosen.gate)
+
+    kinds = collections.Counter(KINDS.get(answer.kind, 'refused') for answer in answers)
+    several = sum(answer.passes > 1 for answer in answers)
+    print('%d systems of 1 to %d rows: %s; %d with more than one pass; %.0f seconds' % (
+        len(made), max(len(system[5]) for system in made),
+        ', '.join('%d %s' % (kinds[kind], kind) for kind in sorted(kinds)), several, time.time() - began))
+    for tool, held in tally.held.items():
+        print('%6d held to %s' % (held, tool))
+    print('compare: %d differ' % tally.differ)
+    sys.exit(tally.differ != 0)
+
+
+if __name__ == '__main__':
+    main()

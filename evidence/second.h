@@ -1,0 +1,181 @@
+// A second implementation of document 01's solver, made to be different from the first: terms by the
+// transposed matrix, recurrences by Euclid's algorithm, 128-bit sums. It assumes a system that is accepted.
+#ifndef SECOND_H
+#define SECOND_H
+
+#include <algorithm>
+#include <cstdint>
+#include <utility>
+#include <vector>
+
+namespace second {
+
+using Vector = std::vector<uint32_t>;
+using Polynomial = std::vector<uint32_t>; // lowest power first, no zeros at the end; empty is 0
+
+struct System {
+    uint32_t p;
+    std::vector<std::vector<std::pair<uint32_t, uint32_t>>>
+        rows; // (column, value), both as document 01 has them
+    Vector b;
+};
+
+struct Answer {
+    bool solved;
+    Polynomial f;
+    Vector vector;
+    uint64_t passes, applications;
+};
+
+inline uint32_t multiply(uint32_t p, uint64_t a, uint64_t b) { return static_cast<uint32_t>(a * b % p); }
+
+inline uint32_t subtract(uint32_t p, uint32_t a, uint32_t b) { return a >= b ? a - b : a + (p - b); }
+
+// By Euclid's algorithm, not by a power.
+inline uint32_t invert(uint32_t p, uint32_t a) {
+    int64_t r0 = p, r1 = a, c0 = 0, c1 = 1;
+    while (r1 != 0) {
+        int64_t quotient = r0 / r1;
+        r0 = std::exchange(r1, r0 - quotient * r1);
+        c0 = std::exchange(c1, c0 - quotient * c1);
+    }
+    return static_cast<uint32_t>(c0 < 0 ? c0 + p : c0);
+}
+
+inline Vector times(const System &s, const Vector &v) {
+    Vector result;
+    for (const auto &row : s.rows) {
+        unsigned __int128 sum = 0;
+        for (auto [column, value] : row)
+            sum += uint64_t{value} * v[column];
+        result.push_back(static_cast<uint32_t>(sum % s.p));
+    }
+    return result;
+}
+
+inline System transpose(const System &s) {
+    System result{s.p, std::vector<std::vector<std::pair<uint32_t, uint32_t>>>(s.rows.size()), s.b};
+    for (uint32_t row = 0; row < s.rows.size(); row++)
+        for (auto [column, value] : s.rows[row])
+            result.rows[column].push_back({row, value});
+    return result;
+}
+
+inline uint32_t dot(uint32_t p, const Vector &u, const Vector &v) {
+    unsigned __int128 sum = 0;
+    for (size_t i = 0; i < u.size(); i++)
+        sum += uint64_t{u[i]} * v[i];
+    return static_cast<uint32_t>(sum % p);
+}
+
+inline void trim(Polynomial &f) {
+    while (!f.empty() && f.back() == 0)
+        f.pop_back();
+}
+
+// a -= c z^shift b
+inline void subtract_shifted(uint32_t p, Polynomial &a, uint32_t c, size_t shift, const Polynomial &b) {
+    a.resize(std::max(a.size(), b.size() + shift));
+    for (size_t i = 0; i < b.size(); i++)
+        a[i + shift] = subtract(p, a[i + shift], multiply(p, c, b[i]));
+    trim(a);
+}
+
+// The shortest recurrence of 2 × half terms that has a degree of at most half: with S = s[0] z^(N-1) + .. +
+// s[N-1], the cofactor of S at the first remainder of degree below half in Euclid's algorithm on z^N and S,
+// made monic.
+inline Polynomial recurrence(uint32_t p, const Vector &terms, size_t half) {
+    Polynomial r0(terms.size() + 1), r1(terms.rbegin(), terms.rend()), c0, c1{1};
+    r0.back() = 1;
+    trim(r1);
+    while (r1.size() > half) {
+        uint32_t inverse = invert(p, r1.back());
+        while (r0.size() >= r1.size()) {
+            uint32_t c = multiply(p, r0.back(), inverse);
+            size_t shift = r0.size() - r1.size();
+            subtract_shifted(p, r0, c, shift, r1);
+            subtract_shifted(p, c0, c, shift, c1);
+        }
+        std::swap(r0, r1);
+        std::swap(c0, c1);
+    }
+    uint32_t inverse = invert(p, c1.back());
+    for (uint32_t &coefficient : c1)
+        coefficient = multiply(p, coefficient, inverse);
+    return c1;
+}
+
+inline Polynomial multiply(uint32_t p, const Polynomial &f, const Polynomial &g) {
+    Polynomial result(f.size() + g.size() - 1);
+    for (size_t k = 0; k < result.size(); k++) {
+        unsigned __int128 sum = 0;
+        for (size_t i = k < g.size() ? 0 : k - g.size() + 1; i < f.size() && i <= k; i++)
+            sum += uint64_t{f[i]} * g[k - i];
+        result[k] = static_cast<uint32_t>(sum % p);
+    }
+    return result;
+}
+
+// Counts each product with the matrix as it is made.
+class Run {
+  public:
+    explicit Run(const System &system) : s(system), t(transpose(system)) {}
+
+    Answer operator()(const Vector &words) {
+        size_t n = s.rows.size();
+        Answer answer{true, {1}, Vector(n), 0, 0};
+        Vector r = s.b;
+        while (std::any_of(r.begin(), r.end(), [](uint32_t element) { return element != 0; })) {
+            size_t left = n - (answer.f.size() - 1);
+            Polynomial f = recurrence(s.p, terms(projection(words, answer.passes), r, 2 * left), left);
+            r = apply(f, r);
+            answer.f = multiply(s.p, answer.f, f);
+            answer.passes++;
+        }
+        if (answer.f.size() > 1) {
+            answer.vector = apply(Polynomial(answer.f.begin() + 1, answer.f.end()), s.b);
+            answer.solved = answer.f[0] != 0;
+            uint32_t scale = answer.solved ? subtract(s.p, 0, invert(s.p, answer.f[0])) : 1;
+            for (uint32_t &element : answer.vector)
+                element = multiply(s.p, element, scale);
+        }
+        answer.applications = made;
+        return answer;
+    }
+
+  private:
+    Vector projection(const Vector &words, size_t pass) const {
+        size_t n = s.rows.size(), vectors = words.size() / n;
+        Vector u(n);
+        for (size_t i = 0; i < n; i++)
+            u[i] = pass < vectors ? words[pass * n + i] % s.p : i == pass - vectors;
+        return u;
+    }
+    Vector terms(Vector u, const Vector &r, size_t count) {
+        Vector result{dot(s.p, u, r)};
+        while (result.size() < count) {
+            u = times(t, u);
+            made++;
+            result.push_back(dot(s.p, u, r));
+        }
+        return result;
+    }
+    Vector apply(const Polynomial &g, const Vector &v) {
+        Vector power = v, result(v.size());
+        for (size_t i = 0; i < g.size(); i++) {
+            if (i > 0) {
+                power = times(s, power);
+                made++;
+            }
+            for (size_t k = 0; k < v.size(); k++)
+                result[k] = static_cast<uint32_t>((result[k] + uint64_t{g[i]} * power[k]) % s.p);
+        }
+        return result;
+    }
+
+    System s, t;
+    uint64_t made = 0;
+};
+
+} // namespace second
+#endif

@@ -1,0 +1,184 @@
+/* filzeur.h: the C border of Filzeur, a proved Wiedemann solver modulo primes. For C99 and C++; x86-64.
+ *
+ * Every slice is a pointer and a length in elements. A matrix A of size n (1 to 4,096) is three slices: n + 1 row
+ * starts, then columns (from 0, rising strictly within a row) and values (1 to p - 1), one each per entry, at most
+ * 65,536. Row i holds the entries from starts[i] up to but not including starts[i + 1]. Polynomials are coefficients,
+ * lowest power first.
+ *
+ * Refusals. Each call makes its checks in the order of their numbers and answers the number of the first that turns its
+ * input down, 0 if none does. A refusal leaves every other field of the answer 0 and every lent slice as it was. So any
+ * numbers may stand in the slices, and they may have any length; a call ends and does nothing undefined. The comment of
+ * a call lists its checks.
+ *
+ * What the proof takes on trust from the caller, as any C function does: a pointer leads to as many elements as its
+ * length says, is not null and is aligned, also where the length is 0; a slice that is written overlaps no other slice
+ * of the same call; no other thread touches the slices meanwhile. Calls share no state: threads may call at the same
+ * time.
+ */
+#ifndef FILZEUR_H
+#define FILZEUR_H
+
+#include <stddef.h>
+#include <stdint.h>
+
+#ifdef __cplusplus
+extern "C" {
+#endif
+
+/* Bounds that a caller sizes its slices by. */
+enum {
+    FILZEUR_MAX_SIZE = 4096,     /* n */
+    FILZEUR_MAX_ENTRIES = 65536, /* of a matrix */
+    FILZEUR_MAX_LIST = 8192,     /* elements of a recurrence's list */
+    FILZEUR_MAX_VECTORS = 64,    /* R, the vectors of random words */
+    FILZEUR_MAX_TEXT = 2097152,  /* bytes of a system text */
+    FILZEUR_CALL_TEXT = 24576,   /* bytes of a system text that filzeur_text takes */
+    FILZEUR_CALL_ANSWER = 4608   /* bytes that filzeur_text wants for its answer */
+};
+
+/* The refusals.
+ *  1  the text call got more than 24,576 bytes
+ *  2  the text exceeds 2,097,152 bytes or breaks the line forms or their order of letters
+ *  3  p is not a prime from 2 to 2,147,483,647
+ *  4  n is not 1 to 4,096, or the starts are empty
+ *  5  starts don't begin at 0, fall, or don't end at the entry count; columns and values differ in length; there are
+ *     over 65,536 entries; or the header's count isn't that of the `a` lines
+ *  6  a row or column is out of range or out of order, `b` lines included
+ *  7  an entry or `b` line's value is 0 or at least p
+ *  8  a vector, list or polynomial that is read has a length other than stated
+ *  9  an element of one, or an operand of a field operation, is at least p
+ * 10  the words are not a multiple of n, or more than 64 * n
+ * 11  a slice to be written is not as long as stated (the writer: shorter than its text; the text call: also n over 128
+ *     or over 1,024 entries)
+ * 12  the inverse of 0 is wanted
+ */
+
+struct filzeur_element {
+    uint32_t refusal;
+    uint32_t value;
+};
+
+struct filzeur_degree {
+    uint32_t refusal;
+    uint32_t degree;
+};
+
+enum { FILZEUR_SOLVED = 1, FILZEUR_SINGULAR = 2 };
+
+struct filzeur_verdict {
+    uint32_t refusal;
+    uint32_t kind; /* FILZEUR_SOLVED or FILZEUR_SINGULAR; 0 where refused */
+    uint64_t degree;
+    uint64_t passes;
+    uint64_t applications; /* products with A that the run made */
+};
+
+struct filzeur_yes {
+    uint32_t refusal;
+    uint32_t yes; /* 1 or 0 */
+};
+
+struct filzeur_system {
+    uint32_t refusal;
+    uint32_t modulus;
+    uint32_t size;
+    uint32_t entries;
+};
+
+struct filzeur_length {
+    uint32_t refusal;
+    uint32_t length;
+};
+
+/* ---- The field of p elements, 0 to p - 1 ---- */
+
+/* 0 where p makes a field. Refusals: 3. */
+uint32_t filzeur_field(uint32_t p);
+
+/* a + b, a - b and a * b modulo p. Refusals: 3; 9 (a or b). */
+struct filzeur_element filzeur_sum(uint32_t p, uint32_t a, uint32_t b);
+struct filzeur_element filzeur_difference(uint32_t p, uint32_t a, uint32_t b);
+struct filzeur_element filzeur_product_of(uint32_t p, uint32_t a, uint32_t b);
+
+/* The element whose product with a is 1. Refusals: 3; 9 (a); 12. */
+struct filzeur_element filzeur_inverse(uint32_t p, uint32_t a);
+
+/* ---- Products ---- */
+
+/* out = Av. Refusals: 3 to 7; 8 (v: n elements); 9 (v); 11 (out: exactly n places). */
+uint32_t filzeur_product(uint32_t p, const uint32_t *starts, size_t starts_length, const uint32_t *columns,
+                         size_t columns_length, const uint32_t *values, size_t values_length, const uint32_t *v,
+                         size_t v_length, uint32_t *out, size_t out_length);
+
+/* out = the transpose of A times v. Refusals and lengths: those of filzeur_product. */
+uint32_t filzeur_transposed(uint32_t p, const uint32_t *starts, size_t starts_length, const uint32_t *columns,
+                            size_t columns_length, const uint32_t *values, size_t values_length, const uint32_t *v,
+                            size_t v_length, uint32_t *out, size_t out_length);
+
+/* out = g(A)v, the sum of g[i] times the i-th power of A times v.
+ * Refusals: 3 to 7; 8 (v: n elements; g: 1 to n + 1); 9 (v, g); 11 (out: exactly n places; work: at least 2 * n). */
+uint32_t filzeur_apply(uint32_t p, const uint32_t *starts, size_t starts_length, const uint32_t *columns,
+                       size_t columns_length, const uint32_t *values, size_t values_length, const uint32_t *g,
+                       size_t g_length, const uint32_t *v, size_t v_length, uint32_t *out, size_t out_length,
+                       uint32_t *work, size_t work_length);
+
+/* ---- The shortest recurrence ---- */
+
+/* The least degree L of a monic f that recurs on the list s of N elements; polynomial = f, then zeros.
+ * Refusals: 3; 8 (s: at most 8,192 elements); 9 (s); 11 (polynomial: exactly N + 1 places; work: at least
+ * 4 * N + 8). */
+struct filzeur_degree filzeur_recurrence(uint32_t p, const uint32_t *s, size_t s_length, uint32_t *polynomial,
+                                         size_t polynomial_length, uint32_t *work, size_t work_length);
+
+/* ---- The solver ---- */
+
+/* Solves Ax = b, or shows that A is singular. words: R vectors of n random words each, R from 0 to 64, any 32-bit
+ * numbers; they sway passes and applications only. polynomial = the monic f of least degree with f(A)b = 0, then zeros.
+ * Solved: b is a combination of Ab, A(Ab), .., and vector = x with Ax = b. Singular: vector = w, not zero, with Aw = 0;
+ * Ax = b may have solutions all the same.
+ * Refusals: 3 to 7; 8 (b: n elements); 9 (b); 10 (words); 11 (vector: exactly n places; polynomial: exactly n + 1;
+ * work: at least 16 * n + 16). */
+struct filzeur_verdict filzeur_solve(uint32_t p, const uint32_t *starts, size_t starts_length, const uint32_t *columns,
+                                     size_t columns_length, const uint32_t *values, size_t values_length,
+                                     const uint32_t *b, size_t b_length, const uint32_t *words, size_t words_length,
+                                     uint32_t *vector, size_t vector_length, uint32_t *polynomial,
+                                     size_t polynomial_length, uint32_t *work, size_t work_length);
+
+/* ---- Checks of answers that anyone offers ---- */
+
+/* Whether Ax = b. Refusals: 3 to 7; 8 (x and b: n elements each); 9 (x, b). */
+struct filzeur_yes filzeur_takes(uint32_t p, const uint32_t *starts, size_t starts_length, const uint32_t *columns,
+                                 size_t columns_length, const uint32_t *values, size_t values_length, const uint32_t *x,
+                                 size_t x_length, const uint32_t *b, size_t b_length);
+
+/* Whether w is not zero and Aw = 0. Refusals: 3 to 7; 8 (w: n elements); 9 (w). */
+struct filzeur_yes filzeur_is_null(uint32_t p, const uint32_t *starts, size_t starts_length, const uint32_t *columns,
+                                   size_t columns_length, const uint32_t *values, size_t values_length,
+                                   const uint32_t *w, size_t w_length);
+
+/* ---- System texts ---- */
+
+/* Reads a system text into the leading places of the slices and leaves the rest of them as it was; right = b.
+ * Refusals: 2 to 7; 11 (starts: at least n + 1 places; columns and values: at least entries; right: at least n). A text
+ * has at least 8 bytes for each entry, so text_length / 8 places for columns and for values are always enough. */
+struct filzeur_system filzeur_read(const uint8_t *text, size_t text_length, uint32_t *starts, size_t starts_length,
+                                   uint32_t *columns, size_t columns_length, uint32_t *values, size_t values_length,
+                                   uint32_t *right, size_t right_length);
+
+/* Writes the text of a system and answers its length; the bytes after it stay.
+ * Refusals: 3 to 7; 8 (b: n elements); 9 (b); 11 (text: at least as long as what is written; 33 + 23 * entries + 18 * n
+ * bytes are always enough). */
+struct filzeur_length filzeur_write(uint32_t p, const uint32_t *starts, size_t starts_length, const uint32_t *columns,
+                                    size_t columns_length, const uint32_t *values, size_t values_length,
+                                    const uint32_t *b, size_t b_length, uint8_t *text, size_t text_length);
+
+/* The text call: a system text in, the answer's text out, without random words. Answers the length of the answer's
+ * text, always above 18, or the refusal's number; the bytes after the answer stay.
+ * Refusals: 1 to 7; 11 (n over 128, or over 1,024 entries; answer: at least 4,608 bytes). */
+uint64_t filzeur_text(const uint8_t *text, size_t text_length, uint8_t *answer, size_t answer_length);
+
+#ifdef __cplusplus
+}
+#endif
+
+#endif

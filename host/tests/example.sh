@@ -1,0 +1,44 @@
+# The example host on the example systems.
+#
+#     sh example.sh PROGRAM FOLDER
+#
+# Without words it gives, byte for byte, the answers that evidence/reference.py gave (*.answer); with words the same but
+# for the counts, whatever they are. What is no system is refused, by number and exit status.
+set -eu
+program=$1 examples=$2
+
+fail() {
+    echo "example: FAILED: $1" >&2
+    exit 1
+}
+
+# The kind, the degree, f and the vector, without the passes and applications
+verdict() {
+    "$program" "$@" 2>/dev/null | cut -f 1-3
+}
+
+refused() {
+    set +e
+    got=$(printf "$2" | "$program" 2>/dev/null)
+    status=$?
+    set -e
+    [ "$got" = "$(printf 'refused\t%s' "$1")" ] && [ "$status" -eq 1 ] || fail "refusal $1: $got, status $status"
+}
+
+for answer in "$examples"/*.answer; do
+    got=$("$program" -r 0 "${answer%.answer}.system" 2>/dev/null)
+    [ "$got" = "$(cat "$answer")" ] || fail "$answer"
+done
+for system in "$examples"/*.system; do
+    without=$(verdict -r 0 "$system")
+    [ -n "$without" ] || fail "$system is not answered"
+    for vectors in 1 1 2 64; do
+        [ "$(verdict -r "$vectors" "$system")" = "$without" ] || fail "$system with $vectors vectors of words"
+    done
+    [ "$(verdict -r 1 <"$system")" = "$without" ] || fail "$system from standard input"
+done
+refused 2 ''
+refused 3 'system\t2147483646\t1\t0\nend\n'
+refused 4 'system\t7\t4097\t0\nend\n'
+refused 7 'system\t7\t1\t1\na\t1\t1\t7\nend\n'
+echo "example: passed"

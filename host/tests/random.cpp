@@ -1,0 +1,333 @@
+// Random systems on the C++ calls, held to the definitions by plain loops and dense elimination, with no line shared
+// with the library.
+//
+//     random [SEED]
+#include "check.hpp"
+#include "../filzeur.hpp"
+
+#include <cstdlib>
+#include <random>
+#include <set>
+#include <sstream>
+
+namespace {
+
+using filzeur::Kind;
+using filzeur::System;
+using filzeur::Vector;
+using tests::check;
+using Rows = std::vector<Vector>;
+
+std::mt19937 generator;
+
+std::uint32_t below(std::uint32_t bound) {
+    return std::uint32_t(generator() % bound);
+}
+
+Vector elements(std::uint32_t p, std::size_t count) {
+    Vector v(count);
+    for (auto &element : v)
+        element = below(p);
+    return v;
+}
+
+// ---- The definitions, densely ----
+
+Rows dense(const System &system) {
+    const auto &a = system.matrix;
+    Rows rows(a.size(), Vector(a.size()));
+    for (std::size_t i = 0; i < a.size(); ++i)
+        for (auto k = a.starts[i]; k < a.starts[i + 1]; ++k)
+            rows[i][a.columns[k]] = a.values[k];
+    return rows;
+}
+
+Rows transpose(const Rows &rows) {
+    Rows result(rows.size(), Vector(rows.size()));
+    for (std::size_t i = 0; i < rows.size(); ++i)
+        for (std::size_t j = 0; j < rows.size(); ++j)
+            result[j][i] = rows[i][j];
+    return result;
+}
+
+std::uint32_t times(std::uint64_t p, std::uint64_t a, std::uint64_t b) {
+    return std::uint32_t(a * b % p);
+}
+
+Vector times(std::uint32_t p, const Rows &rows, const Vector &v) {
+    Vector result(rows.size());
+    for (std::size_t i = 0; i < rows.size(); ++i)
+        for (std::size_t j = 0; j < v.size(); ++j)
+            result[i] = std::uint32_t((std::uint64_t{result[i]} + times(p, rows[i][j], v[j])) % p);
+    return result;
+}
+
+std::uint32_t inverse(std::uint32_t p, std::uint32_t a) {
+    std::uint32_t result = 1 % p;
+    for (std::uint32_t exponent = p - 2; exponent != 0; exponent >>= 1, a = times(p, a, a))
+        if (exponent & 1)
+            result = times(p, result, a);
+    return result;
+}
+
+std::size_t rank(std::uint32_t p, Rows rows) {
+    std::size_t found = 0, width = rows.empty() ? 0 : rows[0].size();
+    for (std::size_t column = 0; column < width && found < rows.size(); ++column) {
+        auto pivot = std::find_if(rows.begin() + std::ptrdiff_t(found), rows.end(),
+                                  [&](const Vector &row) { return row[column] != 0; });
+        if (pivot == rows.end())
+            continue;
+        std::swap(*pivot, rows[found]);
+        auto scale = inverse(p, rows[found][column]);
+        for (std::size_t i = found + 1; i < rows.size(); ++i) {
+            auto factor = times(p, rows[i][column], scale);
+            for (std::size_t j = column; j < width; ++j)
+                rows[i][j] = std::uint32_t((std::uint64_t{rows[i][j]} + p - times(p, factor, rows[found][j])) % p);
+        }
+        ++found;
+    }
+    return found;
+}
+
+// b, Ab, .., the n-th power of A times b
+Rows krylov(std::uint32_t p, const Rows &rows, const Vector &b) {
+    Rows powers{b};
+    for (std::size_t i = 0; i < rows.size(); ++i)
+        powers.push_back(times(p, rows, powers.back()));
+    return powers;
+}
+
+// Whether some monic polynomial of this degree recurs on s: whether its equations have a solution.
+bool some_recurs(std::uint32_t p, const Vector &s, std::size_t degree) {
+    Rows left, both;
+    for (std::size_t j = 0; j + degree < s.size(); ++j) {
+        auto from = s.begin() + std::ptrdiff_t(j), to = from + std::ptrdiff_t(degree);
+        left.emplace_back(from, to);
+        both.emplace_back(from, to + 1);
+    }
+    return rank(p, left) == rank(p, both);
+}
+
+bool recurs(std::uint32_t p, const filzeur::Polynomial &f, const Vector &s) {
+    for (std::size_t j = 0; j + f.size() <= s.size(); ++j) {
+        std::uint64_t sum = 0;
+        for (std::size_t i = 0; i < f.size(); ++i)
+            sum += times(p, f[i], s[i + j]);
+        if (sum % p != 0)
+            return false;
+    }
+    return !f.empty() && f.back() == 1;
+}
+
+// ---- Systems ----
+
+// Few entries to a row and small moduli: singular systems and restarts are common then.
+System draw_system(std::size_t size, std::uint32_t per_row) {
+    static const std::uint32_t primes[] = {2, 2, 3, 3, 5, 7, 251, 65537, 2147483629, 2147483647};
+    std::uint32_t p = primes[below(std::size(primes))];
+    System system{{p}, {{0}, {}, {}}, {}};
+    for (std::size_t i = 0; i < size; ++i) {
+        std::set<std::uint32_t> columns;
+        for (std::uint32_t k = below(per_row + 1); k != 0; --k)
+            columns.insert(below(std::uint32_t(size)));
+        for (auto column : columns) {
+            system.matrix.columns.push_back(column);
+            system.matrix.values.push_back(1 + below(p - 1));
+        }
+        system.matrix.starts.push_back(std::uint32_t(system.matrix.columns.size()));
+    }
+    system.right = elements(p, size);
+    for (auto &element : system.right)
+        if (below(3) == 0)
+            element = 0;
+    return system;
+}
+
+// Random words, words that are all 0 modulo p, or unit vectors
+std::vector<std::uint32_t> draw_words(std::uint32_t p, std::size_t size, std::size_t vectors) {
+    std::vector<std::uint32_t> words(vectors * size);
+    switch (below(3)) {
+    case 0:
+        for (auto &word : words)
+            word = p;
+        break;
+    case 1:
+        for (std::size_t j = 0; j < vectors; ++j)
+            words[j * size + below(std::uint32_t(size))] = 1;
+        break;
+    default:
+        for (auto &word : words)
+            word = std::uint32_t(generator());
+    }
+    return words;
+}
+
+// ---- What is tested ----
+
+void products(const System &system) {
+    auto p = system.field.p;
+    auto rows = dense(system);
+    auto v = elements(p, rows.size()), g = elements(p, 1 + below(std::uint32_t(rows.size()) + 1));
+    check(filzeur::product(system.field, system.matrix, v).value() == times(p, rows, v), "product");
+    check(filzeur::transposed(system.field, system.matrix, v).value() == times(p, transpose(rows), v), "transposed");
+    Vector sum(rows.size());
+    auto powers = krylov(p, rows, v);
+    for (std::size_t i = 0; i < g.size(); ++i)
+        for (std::size_t k = 0; k < sum.size(); ++k)
+            sum[k] = std::uint32_t((std::uint64_t{sum[k]} + times(p, g[i], powers[i][k])) % p);
+    check(filzeur::apply(system.field, system.matrix, g, v).value() == sum, "apply");
+    check(filzeur::takes(system.field, system.matrix, v, times(p, rows, v)).value(), "takes says yes");
+    check(filzeur::takes(system.field, system.matrix, v, system.right).value() == (times(p, rows, v) == system.right),
+          "takes");
+    const Vector zero(rows.size());
+    check(filzeur::is_null(system.field, system.matrix, v).value() == (v != zero && times(p, rows, v) == zero),
+          "is_null");
+}
+
+void text(const System &system) {
+    auto written = filzeur::write_system(system).value();
+    auto read = filzeur::read_system(written);
+    check(read.ok() && read.value() == system, "written and read");
+
+    // One byte changed: refused, or a system whose text is exactly these bytes.
+    static const std::string marks = "0123456789\t\nabx";
+    for (int i = 0; i < 8; ++i) {
+        auto changed = written;
+        changed[below(std::uint32_t(changed.size()))] = marks[below(std::uint32_t(marks.size()))];
+        auto found = filzeur::read_system(changed);
+        if (found.ok())
+            check(filzeur::write_system(found.value()).value() == changed, "accepted and written again");
+        else
+            check(found.refusal().number >= 2 && found.refusal().number <= 7, "a text's refusal");
+    }
+}
+
+// The third condition: the verdict by dense elimination, and the same verdict for all words.
+void solver(const System &system) {
+    auto p = system.field.p;
+    auto rows = dense(system);
+    auto n = rows.size();
+    const Vector zero(n);
+    auto powers = krylov(p, rows, system.right);
+    auto degree = rank(p, powers);
+    bool in_the_span = rank(p, {powers.begin() + 1, powers.end()}) == degree;
+    auto first = filzeur::solve(system).value();
+    check(first.degree == degree, "the least degree");
+    check(first.kind == (in_the_span ? Kind::solved : Kind::singular), "solved exactly if b is in the span");
+    check(first.polynomial.size() == degree + 1 && first.polynomial.back() == 1, "f is monic, of that degree");
+    check(filzeur::apply(system.field, system.matrix, first.polynomial, system.right).value() == zero, "f(A)b = 0");
+    auto image = times(p, rows, first.vector);
+    check(in_the_span ? image == system.right : image == zero && first.vector != zero, "the answer multiplies out");
+
+    for (std::size_t vectors : {std::size_t{0}, std::size_t{1}, std::size_t{1 + below(6)}, std::size_t{64}}) {
+        auto again = filzeur::solve(system, draw_words(p, n, vectors)).value();
+        check(again.kind == first.kind && again.vector == first.vector && again.polynomial == first.polynomial,
+              "the same verdict for other words");
+        check(again.passes <= vectors + n, "passes at most R + n");
+        if (system.right == zero)
+            check(again.passes == 0 && again.applications == 0, "nothing counted for b = 0");
+        if (again.passes == 1)
+            check(again.applications == 2 * n - 1 + 2 * degree - 1, "applications of one pass");
+    }
+}
+
+// The text call gives what the solver gives without words.
+void text_call(const System &system) {
+    auto run = filzeur::solve(system).value();
+    bool solved = run.kind == Kind::solved;
+    std::ostringstream text;
+    text << "answer\t" << (solved ? "solved" : "singular") << '\t' << run.degree << '\t' << run.passes << '\t'
+         << run.applications << '\n';
+    for (std::size_t i = 0; i < run.polynomial.size(); ++i)
+        text << "f\t" << i << '\t' << run.polynomial[i] << '\n';
+    for (std::size_t i = 0; i < run.vector.size(); ++i)
+        text << (solved ? "x\t" : "w\t") << i + 1 << '\t' << run.vector[i] << '\n';
+    text << "end\n";
+    check(filzeur::answer_text(filzeur::write_system(system).value()).value() == text.str(), "the text call");
+}
+
+void recurrences() {
+    static const std::uint32_t primes[] = {2, 3, 7, 2147483647};
+    filzeur::Field field{primes[below(std::size(primes))]};
+    auto s = elements(field.p, below(13));
+    auto f = filzeur::recurrence(field, s).value();
+    check(recurs(field.p, f, s), "recurs");
+    check(f.size() == 1 || !some_recurs(field.p, s, f.size() - 2), "the shortest");
+}
+
+// The largest systems, so that every slice that the header sizes is met at its full length.
+void largest() {
+    const std::uint32_t n = FILZEUR_MAX_SIZE, per_row = FILZEUR_MAX_ENTRIES / n, p = 2147483647;
+    System system{{p}, {{0}, {}, {}}, Vector(n, p - 1)};
+    for (std::uint32_t i = 0; i < n; ++i) {
+        for (std::uint32_t k = 0; k < per_row; ++k) {
+            system.matrix.columns.push_back(n - per_row + k); // the widest numerals
+            system.matrix.values.push_back(p - 1 - below(1000));
+        }
+        system.matrix.starts.push_back(std::uint32_t(system.matrix.columns.size()));
+    }
+    auto written = filzeur::write_system(system);
+    check(written.ok() && filzeur::read_system(written.value()).value() == system, "the largest system's text");
+    auto padded = written.value() + std::string(FILZEUR_MAX_TEXT, '\n');
+    check(filzeur::read_system(padded).refusal().number == 2, "a text that is too long");
+
+    // A of rank 16: few terms decide, though the slices are the longest.
+    auto answer = filzeur::solve(system, draw_words(p, n, 1)).value();
+    check(answer.degree <= per_row + 1, "the degree of a matrix of rank 16");
+    auto yes = answer.kind == Kind::solved ? filzeur::takes(system.field, system.matrix, answer.vector, system.right)
+                                           : filzeur::is_null(system.field, system.matrix, answer.vector);
+    check(yes.value(), "the largest answer multiplies out");
+
+    auto s = elements(p, FILZEUR_MAX_LIST);
+    check(filzeur::recurrence({p}, s).value().size() == FILZEUR_MAX_LIST / 2 + 1, "the longest list");
+
+    system.matrix.starts.push_back(system.matrix.starts.back());
+    check(filzeur::solve(system).refusal().number == 4, "4,097 rows");
+    check(filzeur::write_system(system).refusal().number == 4, "4,097 rows, written");
+    s.push_back(0);
+    check(filzeur::recurrence({p}, s).refusal().number == 8, "8,193 elements");
+}
+
+void refusals() {
+    std::set<std::string> meanings;
+    for (std::uint32_t number = 0; number <= 13; ++number)
+        meanings.insert(filzeur::Refusal{number}.meaning());
+    check(meanings.size() == 14, "each refusal has a meaning of its own");
+    // Two faults: the lower number, whichever argument has it
+    const filzeur::Matrix u{{0, 1, 1}, {1}, {1}};
+    check(filzeur::product({7}, u, {7, 0, 0}).refusal().number == 8, "v too long, and an element 7");
+    check(filzeur::transposed({7}, u, {7}).refusal().number == 8, "v too short, and an element 7");
+    check(filzeur::apply({7}, u, {1, 1, 1, 1}, {7, 0}).refusal().number == 8, "g too long, and v has an element 7");
+    check(filzeur::apply({7}, u, {7}, {0}).refusal().number == 8, "v too short, and g has an element 7");
+    check(filzeur::takes({7}, u, {7, 0}, {0}).refusal().number == 8, "b too short, and x has an element 7");
+    check(filzeur::takes({7}, u, {0, 0}, {0, 7}).refusal().number == 9, "b has an element 7");
+    check(filzeur::is_null({7}, u, {7}).refusal().number == 8, "w too short, and an element 7");
+    check(filzeur::solve({{6}, u, {7}}, {1}).refusal().number == 3, "a composite modulus, and all else wrong too");
+    check(filzeur::read_system("system\t7\t1\t0\nb\t0\t7\nend\n").refusal().number == 6, "b row 0, and value 7");
+    // Nothing at all, in every place
+    check(filzeur::solve({{7}, {}, {}}).refusal().number == 4, "no starts");
+    check(filzeur::write_system({{7}, {}, {}}).refusal().number == 4, "no starts, written");
+    check(filzeur::product({7}, {}, {}).refusal().number == 4, "no starts, multiplied");
+    check(filzeur::apply({7}, {{0, 0}, {}, {}}, {}, {1}).refusal().number == 8, "no polynomial");
+    check(filzeur::read_system({}).refusal().number == 2, "no text");
+    check(filzeur::answer_text({}).refusal().number == 2, "no text, in the text call");
+    check(filzeur::recurrence({7}, {}).value() == filzeur::Polynomial{1}, "the empty list");
+}
+
+} // namespace
+
+int main(int argc, char **argv) {
+    std::uint32_t seed = argc == 2 ? std::uint32_t(std::strtoul(argv[1], nullptr, 10)) : 1;
+    generator.seed(seed);
+    for (int i = 0; i < 600; ++i) {
+        auto system = draw_system(1 + below(i % 10 == 0 ? 30 : 9), 1 + below(4));
+        products(system);
+        text(system);
+        solver(system);
+        text_call(system);
+        recurrences();
+    }
+    refusals();
+    largest();
+    return tests::report("random");
+}
