@@ -14,7 +14,6 @@
 --     thirdCondition, sameAnswer      the third condition; two such runs agree
 -- Of `solve`:
 --     projections-zero, length-projections      the words' projections are such a list, of R + n
---     passed               where nothing is turned down, the first check does not, nor do the rest
 --     Accepted p A b, accepted      what the checks of a run say: p is prime, n ≥ 1, b has n elements, all below p
 --     everyRun             the third condition of every run, whatever the words
 --     everyTwoRuns         every two runs on one system give the same kind, vector and polynomial, whatever their words
@@ -40,7 +39,7 @@ use Rattle.meaning.specs.Refusal.{Check, check, first, elements, sizeTaken, sta
 use Rattle.meaning.specs.Calls.{systemChecks, runChecks, EveryRun, EveryTwoRuns}
 use Rattle.laws.specs.Bool.{and-left, and-right, test-cases, never}
 use Rattle.laws.specs.List.{length-table}
-use Rattle.laws.specs.Refusal.{first-cons}
+use Rattle.laws.specs.Refusal.{first-none}
 use Rattle.algebra.specs.Ring.{Ring, Field, ring-laws}
 use Rattle.algebra.specs.Ring as ring
 use Rattle.algebra.specs.Sum.{sum, sum-ext, sum-zeros}
@@ -361,13 +360,6 @@ length-projections p n words = simp (length-append, length-table)
 
 -- ---- every run
 
-pub passed : (k : ℕ) (t : Bool) (cs : List Check) → k ≢ 0 → first (check k t ∷ cs) ≡ 0 → (t ≡ false) × (first cs ≡ 0)
-passed k t cs f e = go t (sym (first-cons (check k t) cs) ∙ e)
-  where
-    go : (t : Bool) → cond t k (first cs) ≡ 0 → (t ≡ false) × (first cs ≡ 0)
-    go true q = absurd (f q)
-    go false q = (refl, q)
-
 pub record Accepted (p : ℕ) (A : Matrix) (b : List ℕ) : Type 0 where
   pub prime : Prime p
   pub size-positive : 1 ≤ size A
@@ -377,13 +369,13 @@ pub record Accepted (p : ℕ) (A : Matrix) (b : List ℕ) : Type 0 where
 pub accepted : (p : ℕ) (A : Matrix) (b words : List ℕ) → first (runChecks p A b words) ≡ 0 → Accepted p A b
 unfolding runChecks systemChecks matrixChecks isModulus sizeTaken elements
 accepted p A b words e =
-    let three = passed 3 (not (isModulus p)) _ (omega arith) e in
-    let four = passed 4 (not (sizeTaken A)) _ (omega arith) (three .1) in
-    let five = passed 5 (not (startsTaken A)) _ (omega arith) (four .1) in
-    let six = passed 6 (not (columnsTaken A)) _ (omega arith) (five .1) in
-    let seven = passed 7 (not (every (valueTaken p) (A .values))) _ (omega arith) (six .1) in
-    let eight = passed 8 (not (eqb (length b) (size A))) _ (omega arith) (seven .1) in
-    let nine = passed 9 (not (elements p b)) _ (omega arith) (eight .1) in
+    let three = first-none 3 (not (isModulus p)) _ (omega arith) e in
+    let four = first-none 4 (not (sizeTaken A)) _ (omega arith) (three .1) in
+    let five = first-none 5 (not (startsTaken A)) _ (omega arith) (four .1) in
+    let six = first-none 6 (not (columnsTaken A)) _ (omega arith) (five .1) in
+    let seven = first-none 7 (not (every (valueTaken p) (A .values))) _ (omega arith) (six .1) in
+    let eight = first-none 8 (not (eqb (length b) (size A))) _ (omega arith) (seven .1) in
+    let nine = first-none 9 (not (elements p b)) _ (omega arith) (eight .1) in
     record {
       prime = isPrime-Prime p .0 (and-left (isPrime p) (leb p 2147483647) (not-false (isModulus p) (three .0)));
       size-positive =

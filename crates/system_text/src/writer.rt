@@ -1,6 +1,6 @@
 // The writer: checks 3 to 9 and 11, and then the text.
 use crate::output::whole_text;
-use wiedemann::system_refusal;
+use checks::system_refusal;
 ghost use mathlib.Core.Path.{_≡_};
 ghost use Rattle.meaning.specs.Matrix.{matrix};
 ghost use Rattle.meaning.specs.Calls.{writerRefusal, writerAnswer, writerAfter};

@@ -6,7 +6,8 @@
 --     shoup-mod        c·x − h·p is c·x modulo p
 use mathlib.Core.Path.{_≡_, sym, ap, _∙_}
 use Prim.Native.Nat.{ℕ, _+_, _*_, _-_, _/_, _%_, _≤_, _<_}
-use native.Mathlib.Nat.{add-mul, mul-right-comm, mul-comm, div-add-mod', mod-lt, mul-le-mul, mul-lt-mul-of-pos-right, le-of-mul-le-mul-right, lt-of-mul-lt-mul-right, add-mul-mod-self-right, sub-add-cancel, le-of-lt}
+use native.Mathlib.Nat.{add-mul, mul-right-comm, mul-comm, div-add-mod', mod-lt, add-mul-mod-self-right, sub-add-cancel, le-of-lt}
+use native.Mathlib.Nat.{mul-le-mul, mul-lt-mul-of-pos-right, le-of-mul-le-mul-right, lt-of-mul-lt-mul-right}
 use native.Mathlib.Omega.{arith}
 
 module _ (B p c x : ℕ) where

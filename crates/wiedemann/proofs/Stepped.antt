@@ -1,5 +1,5 @@
 -- What the code's turn makes of a slice that is ready and holds the steps before r: document 01's step for r.
---     written-front              what is written further up leaves the front
+--     front, written-front       what happens further up leaves the front
 --     positive, most, two, within, q-element, spare-within, copied-element      what the callees ask of p, L, q and where q is copied to
 --     pairs, discrepancy-is      the discrepancy's products, and what their sum is
 --     terms-same                 the same front, the same terms

@@ -4,7 +4,7 @@
 --     productAt        coefficient k of the product
 --     coefficient      what coefficient k is, by the places of F and f that meet there
 --     Descending       the coefficients from k on have been written
---     Multiplied       all of them have
+--     Multiplied       all of them have; multiplied-lent: in a leading part that was lent
 --     descending-none, descending-same, descending-more, descending-all      where that begins, what a turn reads, a turn, and where it ends
 use mathlib.Core.Path.{_≡_, refl, sym, ap, ap₂, _∙_}
 use mathlib.Core.Logic.{_⊎_, inl, inr}
@@ -22,7 +22,7 @@ use Rattle.wiedemann.specs.declared.sums.Total.{Total}
 use Rattle.wiedemann.specs.Sums.{sumFrom-split, sumFrom-ext}
 use Rattle.wiedemann.specs.Region.{part, length-part, at-part}
 use Rattle.wiedemann.specs.Projection.{sumFrom-zero}
-use Rattle.wiedemann.specs.Lent.{drop-ext}
+use Rattle.wiedemann.specs.Lent.{lent, length-lent, part-lent, inner-lent, drop-lent, part-at, part-of-part, same-after, drop-ext}
 
 -- the empty sum
 abbrev pub nothing : Total
@@ -163,3 +163,28 @@ descending-all {p} {W} {d} {f} {t} {W′} a b w =
     sized : size ≡ d + t + 1
     sized =
         omega (arith, length-part 0 (d + 1) W (omega (arith, a, b)), length-part f (t + 1) W (omega (arith, b)))
+
+-- a leading part that holds F and f, lent to the product
+pub multiplied-lent : {p : ℕ} {W : List ℕ} {d f t : ℕ} (m : ℕ) {Y : List ℕ} → d + t < f → f + t < m → m ≤ length W → length Y ≡ m
+    → Multiplied p (part 0 m W) d f t Y → Multiplied p W d f t (lent W 0 m Y)
+multiplied-lent {p} {W} {d} {f} {t} m {Y} a b l same q =
+    record {
+      same-length = long;
+      product =
+          inner-lent W 0 m Y fits same 0 (d + t + 1) (omega (arith, a, b)) ∙ q .product
+          ∙ ap₂ (multiply p) (part-of-part 0 (d + 1) 0 m W (omega (arith, a, b)) fits)
+          (part-of-part f (t + 1) 0 m W (omega (arith, b)) fits ∙ part-at W (0 + f) (t + 1) f (t + 1) (zero-add f) refl);
+      rest = drop-ext (d + t + 1) W (lent W 0 m Y) long (λ i h. go i h (decLt i m));
+    }
+  where
+    fits : 0 + m ≤ length W
+    fits = omega (arith, l)
+
+    long : length (lent W 0 m Y) ≡ length W
+    long = length-lent W 0 m Y fits same
+
+    go : (i : ℕ) → d + t + 1 ≤ i → Dec (i < m) → at (lent W 0 m Y) i ≡ at W i
+    go i h (yes k) =
+        ap (at (lent W 0 m Y)) (sym (zero-add i)) ∙ sym (at-part 0 m (lent W 0 m Y) i k) ∙ ap (λ r. at r i) (part-lent W 0 m Y fits same)
+        ∙ same-after (d + t + 1) i (part 0 m W) Y (q .rest) h ∙ at-part 0 m W i k ∙ ap (at W) (zero-add i)
+    go i h (no k) = same-after (0 + m) i W (lent W 0 m Y) (drop-lent W 0 m Y fits same) (omega (arith, k))

@@ -7,6 +7,7 @@
 --     part-at                the same part, its bounds written otherwise
 --     part-zero              a leading part
 --     same-take, same-drop   parts that stay where a leading part, or a rest, stays
+--     same-after             places that stay where a rest stays
 --     take-ext, drop-ext     a leading part, a rest, by its places
 --     written-take, written-drop      what a write leaves before it and after it
 --     take-padded            a list out of zeros after it
@@ -102,3 +103,10 @@ take-padded m l k =
   where
     size : length (take (length l) (padded m l)) ≡ length l
     size = length-take-le (length l) (padded m l) (omega (arith, length-table m (λ j. at l j), k))
+
+pub same-after : (m i : ℕ) (W W′ : List ℕ) → drop m W′ ≡ drop m W → m ≤ i → at W′ i ≡ at W i
+same-after m i W W′ e l =
+    ap (at W′) place ∙ sym (getD-drop m W′ (i - m) 0) ∙ ap (λ r. at r (i - m)) e ∙ getD-drop m W (i - m) 0 ∙ ap (at W) (sym place)
+  where
+    place : i ≡ m + (i - m)
+    place = omega (arith, l)

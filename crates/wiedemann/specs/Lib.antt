@@ -1,11 +1,10 @@
 -- what the contracts cite
 pub mod Sums
-pub mod Valid
 pub mod Written
 pub mod Region
 pub mod Horner
 pub mod Transposed
-pub mod Checks
+pub mod Offered
 pub mod Answers
 pub mod Recurrence
 pub mod Lent

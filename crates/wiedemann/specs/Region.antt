@@ -19,7 +19,7 @@ use lib.ListN.{length, take, drop, set, length-drop}
 use lib.Seq.{ext-getD, getD-take, getD-drop, length-take-le}
 use Rattle.meaning.specs.List.{at, table}
 use Rattle.laws.specs.List.{table-of}
-use Rattle.wiedemann.specs.Valid.{Vector}
+use Rattle.checks.specs.Valid.{Vector}
 use Rattle.wiedemann.specs.Written.{Written, written-more}
 
 abbrev pub part : ℕ → ℕ → List ℕ → List ℕ

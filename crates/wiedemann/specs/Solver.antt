@@ -39,7 +39,7 @@ use Rattle.bridge.specs.Operator.{operator, operator-linear, null-isZero}
 use Rattle.bridge.specs.Run.{Stands, run-begun, run-nil, run-stop, run-pass, run-rest, run-found}
 use Rattle.bridge.specs.ThirdCondition.{Accepted, projections-zero, end-monic}
 use Rattle.wiedemann.specs.declared.solver.Counts.{Counts}
-use Rattle.wiedemann.specs.Valid.{Valid, Vector}
+use Rattle.checks.specs.Valid.{Valid, Vector}
 use Rattle.wiedemann.specs.Written.{Written}
 use Rattle.wiedemann.specs.Region.{part, length-part, at-part, written-part, written-other, written-copy}
 use Rattle.wiedemann.specs.Region as region

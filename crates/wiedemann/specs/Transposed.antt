@@ -25,7 +25,7 @@ use Rattle.meaning.specs.Field.{plus, times}
 use Rattle.meaning.specs.Matrix.{Matrix, size, rowSum, transposed}
 use Rattle.laws.specs.List.{sum-zero, sum-suc, length-table, getD-table, table-ext, table-of}
 use Rattle.wiedemann.specs.Sums.{sumFrom-empty, sumFrom-next}
-use Rattle.wiedemann.specs.Valid.{Vector}
+use Rattle.checks.specs.Valid.{Vector}
 use Rattle.wiedemann.specs.Horner.{vector-table}
 
 abbrev pub hit : List ℕ → List ℕ → ℕ → ℕ → ℕ → ℕ

@@ -32,7 +32,7 @@ use Rattle.laws.specs.Bool.{and-right}
 use Rattle.laws.specs.List.{table-of}
 use Rattle.residue.specs.Prime.{Prime, isModulus-Prime}
 use Rattle.bridge.specs.Recurrence.{steps-within, length-generator, isShortest}
-use Rattle.wiedemann.specs.Valid.{Valid, Vector}
+use Rattle.checks.specs.Valid.{Valid, Vector}
 use Rattle.wiedemann.specs.Written.{Written}
 use Rattle.wiedemann.specs.Region.{part, Apart, Regions, length-part, at-part, part-ext, vector-part, written-part}
 use Rattle.wiedemann.specs.Region as region

@@ -27,7 +27,7 @@ use Rattle.wiedemann.specs.declared.solver.Counts.{Counts}
 use Rattle.wiedemann.specs.declared.solver.Verdict.{Verdict}
 use Rattle.wiedemann.specs.declared.solver.Verdict.the-variants.{Solved, Singular, Refused}
 use Rattle.wiedemann.specs.Region.{part}
-use Rattle.wiedemann.specs.Checks.{Numbered, first-append-zero}
+use Rattle.laws.specs.Refusal.{Numbered, first-append-zero}
 use Rattle.wiedemann.specs.Solver.{held, Finished}
 
 pub record Counted (c : Counts) (o : Outcome) : Type 0 where

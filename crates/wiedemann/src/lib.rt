@@ -4,9 +4,6 @@ pub mod offered;
 mod pass;
 mod projection;
 pub mod recurrence;
-mod refusal;
 mod scale;
 pub mod solver;
 mod sums;
-
-pub use refusal::system_refusal;

@@ -8,20 +8,20 @@ ghost use Rattle.meaning.specs.Field.{plus, times};
 ghost use Rattle.wiedemann.specs.Sums.{Summed};
 ghost use Rattle.meaning.specs.Matrix.{matrix, product, apply, transposed};
 ghost use Rattle.meaning.specs.Calls.{productRefusal, productAfter, applyRefusal, applyAfter};
-ghost use Rattle.wiedemann.specs.Valid.{Entries, term, Valid, Vector, rowProduct};
+ghost use Rattle.checks.specs.Valid.{Entries, term, Valid, Vector, rowProduct};
 ghost use Rattle.wiedemann.specs.Horner.{step, stepAt};
 ghost use Rattle.wiedemann.specs.Written.{Written};
 ghost use Rattle.wiedemann.specs.Region.{part, Regions};
 ghost use Rattle.wiedemann.specs.Transposed.{scattered};
 ghost use Rattle.wiedemann.specs.Answers.{Writes};
-use crate::refusal::apply_refusal;
-use crate::refusal::product_refusal;
 use crate::scale::quotient;
 use crate::scale::scaled;
 use crate::sums::Total;
 use crate::sums::times;
 use crate::sums::weight;
-use crate::sums::wide;
+use checks::apply_refusal;
+use checks::product_refusal;
+use checks::wide;
 use field::Field;
 
 // The product of entry k's value with the element of v at its column.

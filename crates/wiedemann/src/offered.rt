@@ -1,8 +1,8 @@
 // Two checks of a vector that anyone offers: does A take x to b, and is w not zero and taken to zero. Neither needs the solver.
 use crate::matrix::row;
-use crate::refusal::system_refusal;
-use crate::refusal::takes_refusal;
 use crate::sums::weight;
+use checks::system_refusal;
+use checks::takes_refusal;
 use field::Field;
 ghost use mathlib.Core.Path.{_≡_};
 ghost use Prim.Native.Nat.{_-_, _%_, _<_};
@@ -11,7 +11,7 @@ ghost use lib.ListN.{length};
 ghost use Rattle.meaning.specs.List.{at, all, isZero};
 ghost use Rattle.meaning.specs.Matrix.{matrix, product};
 ghost use Rattle.meaning.specs.Calls.{takesRefusal, takesAnswer, isNullRefusal, isNullAnswer};
-ghost use Rattle.wiedemann.specs.Valid.{Valid, Vector};
+ghost use Rattle.checks.specs.Valid.{Valid, Vector};
 ghost use Rattle.wiedemann.specs.Answers.{Says};
 
 // What a check of an offered vector answers.

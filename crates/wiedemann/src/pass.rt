@@ -10,7 +10,7 @@ ghost use Rattle.meaning.specs.Field.{isModulus};
 ghost use Rattle.meaning.specs.Matrix.{matrix};
 ghost use Rattle.meaning.specs.Solver.{projections, dot};
 ghost use Rattle.wiedemann.specs.Sums.{Summed};
-ghost use Rattle.wiedemann.specs.Valid.{Valid, Vector};
+ghost use Rattle.checks.specs.Valid.{Valid, Vector};
 ghost use Rattle.wiedemann.specs.Written.{Written};
 ghost use Rattle.wiedemann.specs.Region.{part};
 ghost use Rattle.wiedemann.specs.Projection.{Words};

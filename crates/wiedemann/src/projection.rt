@@ -5,7 +5,7 @@ ghost use lib.ListN.{length, getD};
 ghost use mathlib.Core.List.{[]};
 ghost use Rattle.meaning.specs.List.{at, sumFrom, table, isZero};
 ghost use Rattle.meaning.specs.Solver.{dot, projections};
-ghost use Rattle.wiedemann.specs.Valid.{Vector};
+ghost use Rattle.checks.specs.Valid.{Vector};
 ghost use Rattle.wiedemann.specs.Sums.{Summed};
 ghost use Rattle.wiedemann.specs.Projection.{wordTerm, Raw, Words};
 use crate::sums::Total;

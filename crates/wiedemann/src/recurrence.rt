@@ -6,14 +6,13 @@
 use crate::scale;
 use crate::sums;
 use crate::sums::Total;
+use checks::recurrence_refusal;
 use field::Field;
 ghost use mathlib.Core.Path.{_≡_};
 ghost use Prim.Native.Nat.{ℕ, _+_, _-_, _*_, _%_, _≤_, _<_};
 ghost use lib.ListN.{length};
 ghost use Rattle.meaning.specs.List.{at, sum, sumFrom};
 ghost use Rattle.meaning.specs.Field.{minus, times};
-ghost use Rattle.meaning.specs.Refusal.{elements};
-ghost use Rattle.meaning.specs.Calls.{recurrenceRefusal};
 ghost use Rattle.wiedemann.specs.Sums.{Summed};
 ghost use Rattle.wiedemann.specs.Written.{Written, Turned};
 ghost use Rattle.wiedemann.specs.Recurrence.{Pairs, paired, nothing, Ready, Place, Turn, Stepped, Found, Recurred, spare, movedOn, grown};
@@ -285,42 +284,6 @@ pub enum Answer {
     Refused(u32),
 }
 
-// Whether every element is below p.
-pub(crate) fn below(p: u32, v: &[u32]) -> bool
-    ensures { λ r. ⌜ r ≡ elements p (now (v .entry)) ⌝ }
-{
-    let mut i = 0;
-    while i < v.len() {
-        if v[i] >= p {
-            return false;
-        }
-        i += 1;
-    }
-    true
-}
-
-// The first check that turns a call of `recurrence` down, 0 if none does.
-fn refusal(p: u32, s: &[u32], polynomial: &[u32], work: &[u32]) -> u32
-    ensures { λ r. ⌜ r ≡ recurrenceRefusal p (now (s .entry)) (now (polynomial .entry)) (now (work .entry)) ⌝ }
-{
-    if !field::is_modulus(p) {
-        return 3;
-    }
-    if s.len() > 8192 {
-        return 8;
-    }
-    if !below(p, s) {
-        return 9;
-    }
-    if polynomial.len() != s.len() + 1 {
-        return 11;
-    }
-    if work.len() < 4 * s.len() + 8 {
-        return 11;
-    }
-    0
-}
-
 // A copy of the `size` places of `from` that begin at `start`, at the front of `to`.
 fn transfer(from: &[u32], start: usize, to: &mut [u32], size: usize)
     requires { ⌜ (start + size ≤ length (now from)) × (size ≤ length (now to)) ⌝ }
@@ -338,7 +301,7 @@ pub fn recurrence(field: Field, s: &[u32], polynomial: &mut [u32], work: &mut [u
     ensures { λ r. ⌜ Recurred (field .p) (now (s .entry)) (now (polynomial .entry)) (now (work .entry)) r (now (polynomial .exit)) (now (work .exit)) ⌝ }
 {
     let p = field.p;
-    let number = refusal(p, s, polynomial, work);
+    let number = recurrence_refusal(p, s, polynomial, work);
     if number != 0 {
         return Answer::Refused(number);
     }

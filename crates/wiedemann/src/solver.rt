@@ -10,10 +10,11 @@ ghost use Rattle.meaning.specs.Field.{isModulus, minus, times};
 ghost use Rattle.meaning.specs.Matrix.{matrix};
 ghost use Rattle.meaning.specs.Solver.{projections};
 ghost use Rattle.meaning.specs.Calls.{solverRefusal};
-ghost use Rattle.wiedemann.specs.Valid.{Valid, Vector};
+ghost use Rattle.checks.specs.Valid.{Valid, Vector};
 ghost use Rattle.wiedemann.specs.Written.{Written};
 ghost use Rattle.wiedemann.specs.Region.{part};
 ghost use Rattle.wiedemann.specs.Projection.{Words};
+ghost use Rattle.wiedemann.specs.Factor.{Multiplied};
 ghost use Rattle.wiedemann.specs.Solver.{System, Narrowed, Passing, Passed, Midway, Finished, Closable, Inner, Lent, Imaged, none, counted};
 ghost use Rattle.wiedemann.specs.Verdict.{Closed, Solves, Found, closing};
 use crate::pass::applied;
@@ -21,11 +22,11 @@ use crate::pass::copy;
 use crate::pass::multiply;
 use crate::pass::shorten;
 use crate::projection::is_zero;
-use crate::refusal::system_refusal;
 use crate::scale::difference;
 use crate::scale::quotient;
 use crate::scale::scaled;
 use crate::sums::weight;
+use checks::solver_refusal;
 use field::Field;
 use field::inverse_modulo;
 
@@ -77,6 +78,16 @@ fn narrow(
     )
 }
 
+// F becomes F × f: the part with F and f is lent.
+fn enlarge(p: u32, weight: u64, work: &mut [u32], d: usize, f: usize, t: usize)
+    requires { ⌜ (weight ≡ 18446744073709551616 % p) × (0 < p) × (d + t ≤ 8191) × (d + t < f) × (f + t < length (now work)) ⌝ }
+    ensures { λ _. ⌜ Multiplied p (now (work .entry)) d f t (now (work .exit)) ⌝ }
+{
+    let front: usize = 0;
+    let end = f + t + 1;
+    multiply(p, weight, &mut work[front..end], d, f, t);
+}
+
 // The counts after a pass of degree t.
 fn count(c: Counts, left: usize, t: usize) -> Counts
     requires { ⌜ (c .degree ≤ 4096) × (c .passes < 65536) × (c .applications < 4294967296) × (0 < left) × (left ≤ 4096) × (t ≤ 8192) ⌝ }
@@ -122,7 +133,7 @@ fn pass(
         work,
         left,
     );
-    multiply(p, weight, work, d, n + 1 + (3 * n + (2 * left + 2)), t);
+    enlarge(p, weight, work, d, n + 1 + (3 * n + (2 * left + 2)), t);
     count(c, left, t)
 }
 
@@ -361,43 +372,6 @@ fn finish(
     Verdict::Solved(closed(c))
 }
 
-// Checks 3 to 11 in their order.
-fn refusal(
-    p: u32,
-    starts: &[u32],
-    columns: &[u32],
-    values: &[u32],
-    b: &[u32],
-    words: &[u32],
-    vector: &[u32],
-    polynomial: &[u32],
-    work: &[u32],
-) -> u32
-    ensures { λ r. ⌜ r ≡ solverRefusal p (matrix (now (starts .entry)) (now (columns .entry)) (now (values .entry))) (now (b .entry)) (now (words .entry)) (now (vector .entry)) (now (polynomial .entry)) (now (work .entry)) ⌝ }
-{
-    let number = system_refusal(p, starts, columns, values, b);
-    if number != 0 {
-        return number;
-    }
-    let n = b.len();
-    if words.len() % n != 0 {
-        return 10;
-    }
-    if words.len() > 64 * n {
-        return 10;
-    }
-    if vector.len() != n {
-        return 11;
-    }
-    if polynomial.len() != n + 1 {
-        return 11;
-    }
-    if work.len() < 16 * n + 16 {
-        return 11;
-    }
-    0
-}
-
 // The run and its end, where nothing was refused.
 fn solve_accepted(
     p: u32,
@@ -446,7 +420,7 @@ pub fn solve(
     ensures { λ r. ⌜ Solves (field .p) (matrix (now (starts .entry)) (now (columns .entry)) (now (values .entry))) (now (b .entry)) (now (words .entry)) (now (vector .entry)) (now (polynomial .entry)) (now (work .entry)) r (now (vector .exit)) (now (polynomial .exit)) (now (work .exit)) ⌝ }
 {
     let p = field.p;
-    let number = refusal(
+    let number = solver_refusal(
         p,
         starts,
         columns,

@@ -23,13 +23,6 @@ pub(crate) fn times(a: u32, b: u32) -> u64
     (a as u64) * (b as u64)
 }
 
-// A number of 32 bits as an index.
-pub(crate) fn wide(x: u32) -> usize
-    ensures { λ r. ⌜ (r ≡ x) × (r ≤ 4294967295) ⌝ }
-{
-    x as usize
-}
-
 // The lower word of a sum. LLVM makes one addition of it.
 fn plus(a: u64, b: u64) -> u64
     ensures { λ r. ⌜ r ≡ (a + b) % 18446744073709551616 ⌝ }

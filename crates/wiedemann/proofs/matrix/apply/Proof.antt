@@ -3,14 +3,15 @@ use native.Mathlib.Omega.{arith}
 use denote.Ref.{now}
 use Rattle.meaning.specs.Matrix.{matrix, apply}
 use Rattle.meaning.specs.Calls.{applyRefusal}
-use Rattle.wiedemann.specs.Checks.{Applicable, apply-accepted, unlessRefused-none, unlessRefused-some}
+use Rattle.checks.specs.Matrix.{Applicable, apply-accepted}
+use Rattle.laws.specs.Refusal.{unlessRefused-none, unlessRefused-some}
 use borrow.Author.Needs.{needs}
 use Rattle.wiedemann.proofs.matrix.apply.Statement.{statement}
 use Rattle.wiedemann.proofs.matrix.apply.Tie as tie
 use Rattle.wiedemann.proofs.matrix.apply.Reads as reads
 use Rattle.wiedemann.proofs.matrix.apply.Lts as lts
 use Rattle.wiedemann.proofs.matrix.horner.Reads as horner-reads
-use Rattle.wiedemann.proofs.refusal.apply_refusal.Reads as apply-refusal-reads
+use Rattle.checks.proofs.apply_refusal.Reads as apply-refusal-reads
 use Rattle.wiedemann.proofs.sums.weight.Reads as weight-reads
 
 none : (c : tie.Else1)

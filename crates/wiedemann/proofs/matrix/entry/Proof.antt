@@ -10,7 +10,7 @@ use Rattle.wiedemann.proofs.matrix.entry.Tie as tie
 use Rattle.wiedemann.proofs.matrix.entry.Reads as reads
 use Rattle.wiedemann.proofs.matrix.entry.Lts as lts
 use Rattle.wiedemann.proofs.sums.times.Reads as times-reads
-use Rattle.wiedemann.proofs.sums.wide.Reads as wide-reads
+use Rattle.checks.proofs.wide.Reads as wide-reads
 
 -- src/matrix.rt:17:18
 mul-wide : tie.Need-mul-wide

@@ -2,7 +2,7 @@ use mathlib.Core.Path.{sym, ap₂, _∙_}
 use Prim.Native.Nat.{_+_}
 use denote.Ref.{now}
 use Rattle.wiedemann.specs.Sums.{sumFrom-four}
-use Rattle.wiedemann.specs.Valid.{term}
+use Rattle.checks.specs.Valid.{term}
 use borrow.Author.Needs.{needs}
 use Rattle.wiedemann.proofs.matrix.four.Statement.{statement}
 use Rattle.wiedemann.proofs.matrix.four.Tie as tie

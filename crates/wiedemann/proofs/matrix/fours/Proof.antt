@@ -3,7 +3,7 @@ use Prim.Native.Nat.{_+_, _-_, _%_, _≤_}
 use native.Mathlib.Omega.{arith}
 use denote.Ref.{now}
 use Rattle.wiedemann.specs.Sums.{Summed, summed-none, summed-more}
-use Rattle.wiedemann.specs.Valid.{term}
+use Rattle.checks.specs.Valid.{term}
 use borrow.Author.Needs.{needs}
 use Rattle.wiedemann.proofs.matrix.fours.Statement.{statement}
 use Rattle.wiedemann.proofs.matrix.fours.Tie as tie

@@ -4,7 +4,7 @@ use native.Mathlib.Omega.{arith}
 use lib.ListN.{length, getD, drop}
 use denote.Ref.{now}
 use Rattle.meaning.specs.Matrix.{matrix, apply}
-use Rattle.wiedemann.specs.Valid.{Vector}
+use Rattle.checks.specs.Valid.{Vector}
 use Rattle.wiedemann.specs.Horner.{step, horner-begins, horner-goes-on, vector-apply}
 use borrow.Author.Needs.{needs}
 use Rattle.wiedemann.proofs.matrix.horner.Statement.{statement}

@@ -4,7 +4,8 @@ use lib.ListN.{length}
 use Prim.Native.Nat.{_-_}
 use Rattle.meaning.specs.Matrix.{matrix, product}
 use Rattle.meaning.specs.Calls.{productRefusal}
-use Rattle.wiedemann.specs.Checks.{Accepted, product-accepted, unlessRefused-none, unlessRefused-some}
+use Rattle.checks.specs.Matrix.{Accepted, product-accepted}
+use Rattle.laws.specs.Refusal.{unlessRefused-none, unlessRefused-some}
 use Rattle.wiedemann.specs.Horner.{step-product}
 use borrow.Author.Needs.{needs}
 use Rattle.wiedemann.proofs.matrix.product.Statement.{statement}
@@ -12,7 +13,7 @@ use Rattle.wiedemann.proofs.matrix.product.Tie as tie
 use Rattle.wiedemann.proofs.matrix.product.Reads as reads
 use Rattle.wiedemann.proofs.matrix.product.Lts as lts
 use Rattle.wiedemann.proofs.matrix.step.Reads as step-reads
-use Rattle.wiedemann.proofs.refusal.product_refusal.Reads as product-refusal-reads
+use Rattle.checks.proofs.product_refusal.Reads as product-refusal-reads
 use Rattle.wiedemann.proofs.sums.weight.Reads as weight-reads
 
 none : (c : tie.Else1) → productRefusal (c .before .before .before .before .before .before .before .before .args .field .p) (matrix (now (c .before .before .before .before .before .before .before .before .args .starts)) (now (c .before .before .before .before .before .before .before .before .args .columns)) (now (c .before .before .before .before .before .before .before .before .args .values))) (now (c .before .before .before .before .before .before .before .before .args .v)) (now (c .before .before .before .before .before .before .before .before .args .out)) ≡ 0

@@ -8,7 +8,7 @@ use Rattle.meaning.specs.List.{sumFrom}
 use Rattle.meaning.specs.Matrix.{matrix}
 use Rattle.wiedemann.specs.declared.sums.Total.{Total}
 use Rattle.wiedemann.specs.Sums.{summed-both}
-use Rattle.wiedemann.specs.Valid.{term, Entries, valid-entries}
+use Rattle.checks.specs.Valid.{term, Entries, valid-entries}
 use borrow.Author.Needs.{needs}
 use Rattle.wiedemann.proofs.matrix.row.Statement.{statement}
 use Rattle.wiedemann.proofs.matrix.row.Tie as tie
@@ -17,7 +17,7 @@ use Rattle.wiedemann.proofs.matrix.row.Lts as lts
 use Rattle.wiedemann.proofs.matrix.fours.Reads as fours-reads
 use Rattle.wiedemann.proofs.matrix.ones.Reads as ones-reads
 use Rattle.wiedemann.proofs.sums.Total.residue.Reads as residue-reads
-use Rattle.wiedemann.proofs.sums.wide.Reads as wide-reads
+use Rattle.checks.proofs.wide.Reads as wide-reads
 
 entries : (c : tie.Start) → Entries (now (c .args .columns)) (now (c .args .values)) (now (c .args .v))
 entries c =

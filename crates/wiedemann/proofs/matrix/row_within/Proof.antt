@@ -4,7 +4,7 @@ use native.Mathlib.Nat.{add-sub-cancel-left}
 use lib.ListN.{length}
 use denote.Ref.{now}
 use Rattle.meaning.specs.Matrix.{matrix}
-use Rattle.wiedemann.specs.Valid.{rowProduct}
+use Rattle.checks.specs.Valid.{rowProduct}
 use Rattle.wiedemann.specs.Region.{part}
 use borrow.Author.Needs.{needs}
 use Rattle.wiedemann.proofs.matrix.row_within.Statement.{statement}

@@ -4,7 +4,7 @@ use native.Mathlib.Omega.{arith}
 use lib.ListN.{length, getD, set}
 use denote.Ref.{now}
 use Rattle.meaning.specs.Field.{plus, times}
-use Rattle.wiedemann.specs.Valid.{Vector}
+use Rattle.checks.specs.Valid.{Vector}
 use Rattle.wiedemann.specs.Transposed.{scattered, scattered-none, scattered-more, vector-scattered, times-lt}
 use borrow.Author.Needs.{needs}
 use Rattle.wiedemann.proofs.matrix.scatter.Statement.{statement}
@@ -14,7 +14,7 @@ use Rattle.wiedemann.proofs.matrix.scatter.Lts as lts
 use Rattle.wiedemann.proofs.matrix.sum.Reads as sum-reads
 use Rattle.wiedemann.proofs.scale.quotient.Reads as quotient-reads
 use Rattle.wiedemann.proofs.scale.scaled.Reads as scaled-reads
-use Rattle.wiedemann.proofs.sums.wide.Reads as wide-reads
+use Rattle.checks.proofs.wide.Reads as wide-reads
 
 abbrev Inv-loop : tie.InvT-loop
 Inv-loop p c from to columns values out₀ w k₀ out k =

@@ -4,7 +4,7 @@ use native.Mathlib.Omega.{arith}
 use lib.ListN.{length}
 use denote.Ref.{now}
 use Rattle.meaning.specs.Matrix.{matrix}
-use Rattle.wiedemann.specs.Valid.{rowProduct}
+use Rattle.checks.specs.Valid.{rowProduct}
 use Rattle.wiedemann.specs.Written.{Written, written-none, written-all}
 use Rattle.wiedemann.specs.Region.{written-next, written-table}
 use Rattle.wiedemann.specs.Horner.{stepAt, table-step}

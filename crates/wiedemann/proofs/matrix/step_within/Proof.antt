@@ -4,7 +4,7 @@ use native.Mathlib.Omega.{arith}
 use lib.ListN.{length, getD}
 use denote.Ref.{now}
 use Rattle.meaning.specs.Matrix.{matrix}
-use Rattle.wiedemann.specs.Valid.{Vector, rowProduct}
+use Rattle.checks.specs.Valid.{Vector, rowProduct}
 use Rattle.wiedemann.specs.Written.{Written, written-none, written-more, written-all}
 use Rattle.wiedemann.specs.Region.{part, apart-shorter, at-part, vector-part, written-other-at, written-other}
 use Rattle.wiedemann.specs.Horner.{stepAt}

@@ -4,14 +4,15 @@ use lib.ListN.{length}
 use Prim.Native.Nat.{_-_}
 use Rattle.meaning.specs.Matrix.{matrix, transposed}
 use Rattle.meaning.specs.Calls.{productRefusal}
-use Rattle.wiedemann.specs.Checks.{Accepted, product-accepted, unlessRefused-none, unlessRefused-some}
+use Rattle.checks.specs.Matrix.{Accepted, product-accepted}
+use Rattle.laws.specs.Refusal.{unlessRefused-none, unlessRefused-some}
 use borrow.Author.Needs.{needs}
 use Rattle.wiedemann.proofs.matrix.transposed.Statement.{statement}
 use Rattle.wiedemann.proofs.matrix.transposed.Tie as tie
 use Rattle.wiedemann.proofs.matrix.transposed.Reads as reads
 use Rattle.wiedemann.proofs.matrix.transposed.Lts as lts
 use Rattle.wiedemann.proofs.matrix.transposed_into.Reads as transposed-into-reads
-use Rattle.wiedemann.proofs.refusal.product_refusal.Reads as product-refusal-reads
+use Rattle.checks.proofs.product_refusal.Reads as product-refusal-reads
 
 none : (c : tie.Else1) → productRefusal (c .before .before .before .before .before .before .before .before .args .field .p) (matrix (now (c .before .before .before .before .before .before .before .before .args .starts)) (now (c .before .before .before .before .before .before .before .before .args .columns)) (now (c .before .before .before .before .before .before .before .before .args .values))) (now (c .before .before .before .before .before .before .before .before .args .v)) (now (c .before .before .before .before .before .before .before .before .args .out)) ≡ 0
 none c = sym (c .before .product-refusal .ensures) ∙ c .if1 .left

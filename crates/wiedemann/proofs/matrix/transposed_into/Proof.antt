@@ -6,7 +6,7 @@ use lib.ListN.{length, getD}
 use denote.Ref.{now}
 use Rattle.meaning.specs.List.{zeros}
 use Rattle.meaning.specs.Matrix.{matrix}
-use Rattle.wiedemann.specs.Valid.{Vector}
+use Rattle.checks.specs.Valid.{Vector}
 use Rattle.wiedemann.specs.Transposed.{scattered, gathered, gathered-none, gathered-more, gathered-all, vector-gathered}
 use borrow.Author.Needs.{needs}
 use Rattle.wiedemann.proofs.matrix.transposed_into.Statement.{statement}
@@ -15,7 +15,7 @@ use Rattle.wiedemann.proofs.matrix.transposed_into.Reads as reads
 use Rattle.wiedemann.proofs.matrix.transposed_into.Lts as lts
 use Rattle.wiedemann.proofs.matrix.clear.Reads as clear-reads
 use Rattle.wiedemann.proofs.matrix.scatter.Reads as scatter-reads
-use Rattle.wiedemann.proofs.sums.wide.Reads as wide-reads
+use Rattle.checks.proofs.wide.Reads as wide-reads
 
 abbrev Inv-loop : tie.InvT-loop
 Inv-loop p starts columns values v out₀ i₀ out i =

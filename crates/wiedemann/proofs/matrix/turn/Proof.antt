@@ -4,7 +4,7 @@ use native.Mathlib.Omega.{arith}
 use lib.ListN.{length}
 use denote.Ref.{now}
 use Rattle.meaning.specs.Matrix.{matrix}
-use Rattle.wiedemann.specs.Valid.{Vector}
+use Rattle.checks.specs.Valid.{Vector}
 use Rattle.wiedemann.specs.Region.{part, written-copy}
 use Rattle.wiedemann.specs.Horner.{step}
 use borrow.Author.Needs.{needs}

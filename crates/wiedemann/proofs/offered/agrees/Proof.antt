@@ -11,9 +11,9 @@ use borrow.Author.Tests.{eq-eqb, ne-eqb}
 use Rattle.meaning.specs.List.{all}
 use Rattle.meaning.specs.Matrix.{Matrix, matrix, product}
 use Rattle.laws.specs.List.{all-zero, all-not}
-use Rattle.wiedemann.specs.Valid.{rowProduct}
+use Rattle.checks.specs.Valid.{rowProduct}
 use Rattle.wiedemann.specs.Horner.{at-product}
-use Rattle.wiedemann.specs.Checks.{all-next}
+use Rattle.checks.specs.Matrix.{all-next}
 use borrow.Author.Needs.{needs}
 use Rattle.wiedemann.proofs.offered.agrees.Statement.{statement}
 use Rattle.wiedemann.proofs.offered.agrees.Tie as tie

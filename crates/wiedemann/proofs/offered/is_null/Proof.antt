@@ -5,7 +5,8 @@ use Rattle.meaning.specs.List.{isZero}
 use Rattle.meaning.specs.Matrix.{matrix, product}
 use Rattle.meaning.specs.Solver.{isNull}
 use Rattle.meaning.specs.Calls.{isNullRefusal, isNullAnswer}
-use Rattle.wiedemann.specs.Checks.{Accepted, system-accepted, unlessRefused-none, unlessRefused-some}
+use Rattle.checks.specs.Matrix.{Accepted, system-accepted}
+use Rattle.laws.specs.Refusal.{unlessRefused-none, unlessRefused-some}
 use borrow.Author.Needs.{needs}
 use Rattle.wiedemann.proofs.offered.is_null.Statement.{statement}
 use Rattle.wiedemann.proofs.offered.is_null.Tie as tie
@@ -13,7 +14,7 @@ use Rattle.wiedemann.proofs.offered.is_null.Reads as reads
 use Rattle.wiedemann.proofs.offered.is_null.Lts as lts
 use Rattle.wiedemann.proofs.offered.is_zero.Reads as is-zero-reads
 use Rattle.wiedemann.proofs.offered.vanishes.Reads as vanishes-reads
-use Rattle.wiedemann.proofs.refusal.system_refusal.Reads as system-refusal-reads
+use Rattle.checks.proofs.system_refusal.Reads as system-refusal-reads
 use Rattle.wiedemann.proofs.sums.weight.Reads as weight-reads
 
 none : (c : tie.Else1) → isNullRefusal (c .before .before .before .before .before .before .args .field .p) (matrix (now (c .before .before .before .before .before .before .args .starts)) (now (c .before .before .before .before .before .before .args .columns)) (now (c .before .before .before .before .before .before .args .values))) (now (c .before .before .before .before .before .before .args .w)) ≡ 0

@@ -8,7 +8,8 @@ use denote.Ref.{now}
 use borrow.Author.Tests.{eq-eqb, ne-eqb}
 use Rattle.meaning.specs.List.{all}
 use Rattle.laws.specs.List.{all-zero, all-not}
-use Rattle.wiedemann.specs.Checks.{all-next, zero-all}
+use Rattle.checks.specs.Matrix.{all-next}
+use Rattle.wiedemann.specs.Offered.{zero-all}
 use borrow.Author.Needs.{needs}
 use Rattle.wiedemann.proofs.offered.is_zero.Statement.{statement}
 use Rattle.wiedemann.proofs.offered.is_zero.Tie as tie

@@ -6,14 +6,16 @@ use denote.Ref.{now}
 use Rattle.meaning.specs.Matrix.{matrix}
 use Rattle.meaning.specs.Solver.{takes}
 use Rattle.meaning.specs.Calls.{takesRefusal, takesAnswer}
-use Rattle.wiedemann.specs.Checks.{Accepted, takes-accepted, takes-all, unlessRefused-none, unlessRefused-some}
+use Rattle.checks.specs.Matrix.{Accepted, takes-accepted}
+use Rattle.laws.specs.Refusal.{unlessRefused-none, unlessRefused-some}
+use Rattle.wiedemann.specs.Offered.{takes-all}
 use borrow.Author.Needs.{needs}
 use Rattle.wiedemann.proofs.offered.takes.Statement.{statement}
 use Rattle.wiedemann.proofs.offered.takes.Tie as tie
 use Rattle.wiedemann.proofs.offered.takes.Reads as reads
 use Rattle.wiedemann.proofs.offered.takes.Lts as lts
 use Rattle.wiedemann.proofs.offered.agrees.Reads as agrees-reads
-use Rattle.wiedemann.proofs.refusal.takes_refusal.Reads as takes-refusal-reads
+use Rattle.checks.proofs.takes_refusal.Reads as takes-refusal-reads
 use Rattle.wiedemann.proofs.sums.weight.Reads as weight-reads
 
 none : (c : tie.Else1) → takesRefusal (c .before .before .before .before .before .before .before .args .field .p) (matrix (now (c .before .before .before .before .before .before .before .args .starts)) (now (c .before .before .before .before .before .before .before .args .columns)) (now (c .before .before .before .before .before .before .before .args .values))) (now (c .before .before .before .before .before .before .before .args .x)) (now (c .before .before .before .before .before .before .before .args .b)) ≡ 0

@@ -7,7 +7,7 @@ use denote.Ref.{now}
 use Rattle.meaning.specs.List.{all}
 use Rattle.meaning.specs.Matrix.{matrix, product}
 use Rattle.wiedemann.specs.Horner.{vector-product}
-use Rattle.wiedemann.specs.Checks.{zero-all}
+use Rattle.wiedemann.specs.Offered.{zero-all}
 use borrow.Author.Needs.{needs}
 use Rattle.wiedemann.proofs.offered.vanishes.Statement.{statement}
 use Rattle.wiedemann.proofs.offered.vanishes.Tie as tie

@@ -1,7 +1,7 @@
 use Rattle.wiedemann.specs.Projection.{Words}
 use Rattle.wiedemann.specs.Lent.{part-at}
 use Rattle.wiedemann.specs.Region.{part, length-part, at-part}
-use Rattle.wiedemann.specs.Valid.{Valid, Vector}
+use Rattle.checks.specs.Valid.{Valid, Vector}
 use Rattle.meaning.specs.Solver.{dot, projections}
 use denote.Ref.{now}
 use mathlib.Core.List.{List, []}

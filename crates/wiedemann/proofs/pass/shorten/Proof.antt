@@ -1,7 +1,7 @@
 use Rattle.wiedemann.specs.Lent.{same-take}
 use Rattle.wiedemann.specs.Turns.{Seat, Other, seat-low, regions, advanced, vector-power, Iterated, Sequenced, Generated, iterated-none, iterated-more, iterated-from, iterated-all, Applying, Leading, applying-none, applying-more, applied-all, generated, shortened, vector-terms}
 use Rattle.wiedemann.specs.Region.{part, length-part, at-part}
-use Rattle.wiedemann.specs.Valid.{Valid, Vector}
+use Rattle.checks.specs.Valid.{Valid, Vector}
 use Rattle.meaning.specs.Solver.{dot, projections}
 use Rattle.meaning.specs.Matrix.{matrix, size}
 use denote.Ref.{now}

@@ -41,7 +41,8 @@ add-result-3 c = search needs
 returns : tie.Need-returns
 returns c =
     let a = c .before .before .before .before .before .args in
-    ap₂ _+_ (ap₂ _+_ (ap₂ _+_ (c .before .before .before .pair .ensures .0) (c .before .before .pair2 .ensures .0)) (c .before .pair3 .ensures .0)) (c .pair4 .ensures .0)
+    ap₂ _+_ (ap₂ _+_ (ap₂ _+_ (c .before .before .before .pair .ensures .0) (c .before .before .pair2 .ensures .0))
+    (c .before .pair3 .ensures .0)) (c .pair4 .ensures .0)
     ∙ sym (sumFrom-four (a .i) (paired (now (a .work)) (a .q) (a .last)))
 
 pub four-spec : {M : Type 1} → statement M

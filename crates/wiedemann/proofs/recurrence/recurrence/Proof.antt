@@ -3,7 +3,8 @@ use mathlib.Core.Path.{sym, _∙_}
 use native.Mathlib.Omega.{arith}
 use denote.Ref.{now}
 use borrow.Author.Needs.{needs}
-use Rattle.wiedemann.proofs.Recurred.{Accepted, accepted, recurred-refused, ready, recurred-found}
+use Rattle.checks.specs.Recurrence.{Accepted, accepted}
+use Rattle.wiedemann.proofs.Recurred.{recurred-refused, ready, recurred-found}
 use Rattle.wiedemann.proofs.recurrence.recurrence.Statement.{statement}
 use Rattle.wiedemann.proofs.recurrence.recurrence.Tie as tie
 
@@ -12,10 +13,10 @@ taken : (c : tie.Else1) → Accepted (c .before .before .before .before .before 
     (now (c .before .before .before .before .before .before .before .args .s))
     (now (c .before .before .before .before .before .before .before .args .polynomial))
     (now (c .before .before .before .before .before .before .before .args .work))
-taken c = accepted _ _ _ _ (sym (c .before .refusal .ensures) ∙ omega (arith, c .if1 .left))
+taken c = accepted _ _ _ _ (sym (c .before .recurrence-refusal .ensures) ∙ omega (arith, c .if1 .left))
 
-refusal-requires : tie.Need-refusal-requires
-refusal-requires c κs = search needs
+recurrence-refusal-requires : tie.Need-recurrence-refusal-requires
+recurrence-refusal-requires c κs = search needs
 
 same-length : tie.Need-same-length
 same-length c = search needs
@@ -26,7 +27,7 @@ same-length-2 c = search needs
 returns : tie.Need-returns
 returns c =
     let a = c .before .before .before .before .before .before .before .args in
-    recurred-refused (a .field .p) (now (a .s)) (now (a .polynomial)) (now (a .work)) (c .before .refusal .result) (c .before .refusal .ensures) (c .if1 .taken)
+    recurred-refused (a .field .p) (now (a .s)) (now (a .polynomial)) (now (a .work)) (c .before .recurrence-refusal .result) (c .before .recurrence-refusal .ensures) (c .if1 .taken)
 
 transfer-requires : tie.Need-transfer-requires
 transfer-requires c κs =
@@ -59,14 +60,15 @@ same-length-4 c = search needs
 
 returns-2 : tie.Need-returns-2
 returns-2 c =
-    let input = taken (c .before .before .before .before .before .before .before .before .before .before .before .before .before) in
-    recurred-found input (c .before .before .before .before .before .before .before .before .before .before .before .transfer .ensures) (c .before .before .before .before .before .before .before .shortest .ensures) (c .before .before .transfer2 .ensures)
+    let core = c .before .before .before .before .before .before .before in
+    let copied = core .before .before .before .before in
+    recurred-found (taken (copied .before .before)) (copied .transfer .ensures) (core .shortest .ensures) (c .before .before .transfer2 .ensures)
 
 pub recurrence-spec : {M : Type 1} → statement M
 recurrence-spec =
     tie.close
     (tie.spec
-    refusal-requires
+    recurrence-refusal-requires
     same-length
     same-length-2
     returns

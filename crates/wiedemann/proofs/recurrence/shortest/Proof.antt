@@ -30,8 +30,10 @@ add-r c = search needs
 
 step-requires : tie.Need-step-requires Inv-loop μ-loop
 step-requires c κs =
-    let l = c .before .before .loop in
-    (stepped-turn (c .before .before .before .before .before .before .before .before .before .pre) (stepped-on (c .before .before .before .before .before .start .ensures) (l .inv .1)) (c .before .loop-test .taken), c .before .before .before .before .before .before .before .weight .ensures)
+    let loop = c .before .before in
+    let begun = loop .before .before .before in
+    let start = begun .before .before .before .before in
+    (stepped-turn (start .pre) (stepped-on (begun .start .ensures) (loop .loop .inv .1)) (c .before .loop-test .taken), begun .before .before .weight .ensures)
 
 loop-less : tie.Need-loop-less Inv-loop μ-loop
 loop-less c = search needs
@@ -50,9 +52,11 @@ same-length c = search needs
 
 returns : tie.Need-returns Inv-loop μ-loop
 returns c =
-    let l = c .before .before .before .before .before .loop in
-    let e : l .r ≡ c .before .before .before .before .before .before .before .before .before .before .before .before .args .count = omega (arith, l .inv .0, c .before .before .before .before .loop-test .left) in
-    found (c .before .before .before .before .before .before .before .before .before .before .before .before .pre) e (stepped-on (c .before .before .before .before .before .before .before .before .start .ensures) (l .inv .1)) (c .before .before .reverse .ensures)
+    let loop = c .before .before .before .before .before in
+    let begun = loop .before .before .before in
+    let start = begun .before .before .before .before in
+    let end : loop .loop .r ≡ start .args .count = omega (arith, loop .loop .inv .0, c .before .before .before .before .loop-test .left) in
+    found (start .pre) end (stepped-on (begun .start .ensures) (loop .loop .inv .1)) (c .before .before .reverse .ensures)
 
 pub shortest-spec : {M : Type 1} → statement M
 shortest-spec =

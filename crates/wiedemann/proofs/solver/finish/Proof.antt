@@ -7,7 +7,7 @@ use native.Mathlib.Nat.{zero-add, add-zero, pos-of-ne-zero}
 use Rattle.wiedemann.specs.Solver.{System, Midway, Finished, Closable, Inner, Lent, narrowed, passed, inner, imaged, imaged-leading, midway-begin, midway-less, midway-passing, midway-next, midway-end, closable}
 use Rattle.wiedemann.specs.Lent.{lent, part-at, part-of-part}
 use Rattle.wiedemann.specs.Region.{part, length-part, at-part, part-ext, written-part, written-next, written-table, written-copy}
-use Rattle.wiedemann.specs.Valid.{Valid, Vector}
+use Rattle.checks.specs.Valid.{Valid, Vector}
 use Rattle.meaning.specs.Solver.{Kind, solved, singular, verdict}
 use Rattle.meaning.specs.Matrix.{matrix, size, apply}
 use Rattle.meaning.specs.List.{at, table, isZero, padded, zeros}

@@ -1,7 +1,7 @@
 use Rattle.wiedemann.specs.Solver.{System, Midway, Finished, Closable, Inner, Lent, narrowed, passed, inner, imaged, imaged-leading, midway-begin, midway-less, midway-passing, midway-next, midway-end, closable}
 use Rattle.wiedemann.specs.Written.{Written, written-none, written-more, written-all}
 use Rattle.wiedemann.specs.Region.{part, length-part, at-part, part-ext, written-part, written-next, written-table, written-copy}
-use Rattle.wiedemann.specs.Valid.{Valid, Vector}
+use Rattle.checks.specs.Valid.{Valid, Vector}
 use Rattle.meaning.specs.Matrix.{matrix, size}
 use Rattle.meaning.specs.List.{at, table, isZero}
 use denote.Ref.{now}

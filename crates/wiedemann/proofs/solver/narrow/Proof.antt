@@ -2,7 +2,7 @@ use Rattle.wiedemann.specs.Solver.{System, Midway, Finished, Closable, I
 use native.Mathlib.Nat.{zero-add, add-zero}
 use Rattle.wiedemann.specs.Lent.{lent, part-at, part-of-part}
 use Rattle.wiedemann.specs.Region.{part, length-part, at-part, part-ext, written-part, written-next, written-table, written-copy}
-use Rattle.wiedemann.specs.Valid.{Valid, Vector}
+use Rattle.checks.specs.Valid.{Valid, Vector}
 use Rattle.meaning.specs.Matrix.{matrix, size}
 use denote.Ref.{now}
 use mathlib.Core.List.{List, []}

@@ -1,5 +1,5 @@
 use Rattle.wiedemann.specs.Solver.{System, Midway, Finished, Closable, Inner, Lent, narrowed, passed, inner, imaged, imaged-leading, midway-begin, midway-less, midway-passing, midway-next, midway-end, closable}
-use Rattle.wiedemann.specs.Valid.{Valid, Vector}
+use Rattle.checks.specs.Valid.{Valid, Vector}
 use Rattle.meaning.specs.Matrix.{matrix, size}
 use denote.Ref.{now}
 use mathlib.Core.List.{List, []}
@@ -12,7 +12,7 @@ use Rattle.wiedemann.proofs.solver.pass.Statement.{statement}
 use Rattle.wiedemann.proofs.solver.pass.Tie as tie
 use Rattle.wiedemann.proofs.solver.pass.Reads as reads
 use Rattle.wiedemann.proofs.solver.pass.Lts as lts
-use Rattle.wiedemann.proofs.pass.multiply.Reads as multiply-reads
+use Rattle.wiedemann.proofs.solver.enlarge.Reads as enlarge-reads
 use Rattle.wiedemann.proofs.solver.count.Reads as count-reads
 use Rattle.wiedemann.proofs.solver.narrow.Reads as narrow-reads
 
@@ -32,32 +32,32 @@ narrow-requires c κs =
     (pre .0, ((pre .1 .0 .0, pre .1 .0 .1, omega (arith, h .found), omega arith, pre .1 .0 .2), (h .room, h .residual)))
 
 -- src/solver.rt:103:34
-add-multiply : tie.Need-add-multiply
-add-multiply c = search needs
+add-enlarge : tie.Need-add-enlarge
+add-enlarge c = search needs
 
 -- src/solver.rt:103:43
-mul-multiply : tie.Need-mul-multiply
-mul-multiply c = search needs
+mul-enlarge : tie.Need-mul-enlarge
+mul-enlarge c = search needs
 
 -- src/solver.rt:103:52
-mul-multiply-2 : tie.Need-mul-multiply-2
-mul-multiply-2 c = search needs
+mul-enlarge-2 : tie.Need-mul-enlarge-2
+mul-enlarge-2 c = search needs
 
 -- src/solver.rt:103:52
-add-multiply-2 : tie.Need-add-multiply-2
-add-multiply-2 c = search needs
+add-enlarge-2 : tie.Need-add-enlarge-2
+add-enlarge-2 c = search needs
 
 -- src/solver.rt:103:43
-add-multiply-3 : tie.Need-add-multiply-3
-add-multiply-3 c = search needs
+add-enlarge-3 : tie.Need-add-enlarge-3
+add-enlarge-3 c = search needs
 
 -- src/solver.rt:103:34
-add-multiply-4 : tie.Need-add-multiply-4
-add-multiply-4 c = search needs
+add-enlarge-4 : tie.Need-add-enlarge-4
+add-enlarge-4 c = search needs
 
 -- src/solver.rt:103:5
-multiply-requires : tie.Need-multiply-requires
-multiply-requires c κs =
+enlarge-requires : tie.Need-enlarge-requires
+enlarge-requires c κs =
     let pre = c .before .before .before .before .before .before .before .before .before .before .pre in
     let h = pre .1 .1 in
     let done = c .before .before .before .narrow .ensures in
@@ -83,7 +83,7 @@ same-length c = search needs
 returns : tie.Need-returns
 returns c =
     let pre = c .before .before .before .before .before .before .before .before .before .before .before .before .before .before .pre in
-    rw (c .count .ensures) (passed (pre .0 .0 .sized) (pre .1 .1) (c .before .before .before .before .before .before .before .narrow .ensures) (c .before .before .before .multiply .ensures))
+    rw (c .count .ensures) (passed (pre .0 .0 .sized) (pre .1 .1) (c .before .before .before .before .before .before .before .narrow .ensures) (c .before .before .before .enlarge .ensures))
 
 pub pass-spec : {M : Type 1} → statement M
 pass-spec =
@@ -92,13 +92,13 @@ pass-spec =
     sub-n
     sub-left
     narrow-requires
-    add-multiply
-    mul-multiply
-    mul-multiply-2
-    add-multiply-2
-    add-multiply-3
-    add-multiply-4
-    multiply-requires
+    add-enlarge
+    mul-enlarge
+    mul-enlarge-2
+    add-enlarge-2
+    add-enlarge-3
+    add-enlarge-4
+    enlarge-requires
     count-requires
     same-length
     returns)

@@ -10,12 +10,12 @@ use Rattle.wiedemann.proofs.solver.solve.Statement.{statement}
 use Rattle.wiedemann.proofs.solver.solve.Tie as tie
 use Rattle.wiedemann.proofs.solver.solve.Reads as reads
 use Rattle.wiedemann.proofs.solver.solve.Lts as lts
-use Rattle.wiedemann.proofs.solver.refusal.Reads as refusal-reads
+use Rattle.checks.proofs.solver_refusal.Reads as solver-refusal-reads
 use Rattle.wiedemann.proofs.solver.solve_accepted.Reads as solve-accepted-reads
 
 -- src/solver.rt:396:9
-refusal-requires : tie.Need-refusal-requires
-refusal-requires c κs = search needs
+solver-refusal-requires : tie.Need-solver-refusal-requires
+solver-refusal-requires c κs = search needs
 
 -- src/solver.rt:398:9
 same-length : tie.Need-same-length
@@ -34,11 +34,11 @@ returns : tie.Need-returns
 returns c =
     let a = c .before .before .before .before .before .before .before .before .before .before .before .before .before .args in
     refused (a .field .p) (matrix (now (a .starts)) (now (a .columns)) (now (a .values))) (now (a .b)) (now (a .words)) (now (a .vector)) (now (a .polynomial)) (now (a .work))
-    (c .before .refusal .result) (sym (c .before .refusal .ensures)) (c .if1 .taken)
+    (c .before .solver-refusal .result) (sym (c .before .solver-refusal .ensures)) (c .if1 .taken)
 
 -- src/solver.rt:400:5
 solve-accepted-requires : tie.Need-solve-accepted-requires
-solve-accepted-requires c κs = sym (c .before .before .before .before .refusal .ensures) ∙ c .before .before .before .if1 .left
+solve-accepted-requires c κs = sym (c .before .before .before .before .solver-refusal .ensures) ∙ c .before .before .before .if1 .left
 
 -- src/solver.rt:382:1
 same-length-4 : tie.Need-same-length-4
@@ -57,13 +57,13 @@ returns-2 : tie.Need-returns-2
 returns-2 c =
     let a = c .before .before .before .before .before .before .before .before .before .before .before .before .before .before .before .before .before .before .before .before .before .before .before .args in
     taken (a .field .p) (matrix (now (a .starts)) (now (a .columns)) (now (a .values))) (now (a .b)) (now (a .words)) (now (a .vector)) (now (a .polynomial)) (now (a .work))
-    (sym (c .before .before .before .before .before .before .before .before .before .before .before .refusal .ensures) ∙ c .before .before .before .before .before .before .before .before .before .before .if1 .left) (c .before .before .before .before .before .before .solve-accepted .ensures)
+    (sym (c .before .before .before .before .before .before .before .before .before .before .before .solver-refusal .ensures) ∙ c .before .before .before .before .before .before .before .before .before .before .if1 .left) (c .before .before .before .before .before .before .solve-accepted .ensures)
 
 pub solve-spec : {M : Type 1} → statement M
 solve-spec =
     tie.close
     (tie.spec
-    refusal-requires
+    solver-refusal-requires
     same-length
     same-length-2
     same-length-3

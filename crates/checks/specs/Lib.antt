@@ -1,0 +1,5 @@
+-- what the contracts cite, and what the checks leave known
+pub mod Valid
+pub mod Matrix
+pub mod Recurrence
+pub mod Solver

@@ -1,0 +1,351 @@
+-- The checks of a matrix, and what they leave known.
+--     columnTaken      6 for one entry: its column is below n, and below the next one of its row
+--     rowTaken         6 for one row
+--     all-next, allFrom-none, allFrom-next, allFrom-not      tests along a loop
+--     size-range, length-sizeTaken, rows-columnsTaken, all-elements      each check by what the code asks
+--     Ordered          starts that rise and stay within the entries
+use mathlib.Core.Path.{_≡_, refl, sym, ap, ap₂, _∙_, subst}
+use mathlib.Core.Bool.{Bool, true, false, cond, _&&_, _||_, not}
+use mathlib.Core.Logic.{_≢_}
+use mathlib.Core.List.{List, [], _∷_, _++_, append-assoc}
+use Prim.Native.Nat.{ℕ, zero, suc, _+_, _-_, _*_, _%_, _≤_, _<_}
+use native.Mathlib.Nat.{add-zero, sub-self, add-sub-of-le, le-refl, le-trans}
+use native.Mathlib.Decide.{decLt, ℕ-discrete}
+use native.Mathlib.Numerals.{add-one}
+use native.Mathlib.Omega.{arith}
+use lib.Dec.{eqb, ltb, leb}
+use lib.ListN.{length}
+use lib.Seq.{ext-getD}
+use borrow.Author.Tests.{ltb-true, leb-true, eqb-true, eqb-false, not-true, not-false, le-leb, eq-eqb, ne-eqb}
+use Rattle.meaning.specs.List.{at, all, allFrom, every, equal, isZero}
+use Rattle.meaning.specs.Field.{isPrime, isModulus}
+use Rattle.meaning.specs.Matrix.{Matrix, matrix, size, product}
+use Rattle.meaning.specs.Refusal.{Check, check, first, unlessRefused, within, sizeTaken, startsTaken, columnsTaken, valueTaken, elements, matrixChecks}
+use Rattle.meaning.specs.Calls.{systemChecks, productRefusal, applyRefusal, takesRefusal}
+use Rattle.laws.specs.Bool.{and-left, and-right, and-both, same-test}
+use Rattle.laws.specs.List.{all-zero, all-suc, all-at, all-of, all-not, equal→≡, equal-refl, every-cons, every-at, every-all}
+use Rattle.laws.specs.Refusal.{first-none, Numbered, first-append-zero}
+use Rattle.checks.specs.Valid.{Valid, Vector}
+
+abbrev pub columnTaken : ℕ → ℕ → List ℕ → ℕ → Bool
+columnTaken n end columns k = ltb (at columns k) n && (leb end (k + 1) || ltb (at columns k) (at columns (k + 1)))
+
+-- 6 for row i
+abbrev pub rowTaken : List ℕ → List ℕ → ℕ → Bool
+rowTaken starts columns i = allFrom (at starts i) (at starts (i + 1)) (columnTaken (length starts - 1) (at starts (i + 1)) columns)
+
+pub record Ordered (starts : List ℕ) (count : ℕ) : Type 0 where
+  pub some : 0 < length starts
+  pub rise : (i : ℕ) → i < length starts - 1 → at starts i ≤ at starts (i + 1)
+  pub within : (i : ℕ) → i < length starts - 1 → at starts (i + 1) ≤ count
+
+-- ---- tests along a loop
+
+pub all-next : (n : ℕ) (f : ℕ → Bool) → all n f ≡ true → f n ≡ true → all (n + 1) f ≡ true
+all-next n f e h = ap (λ k. all k f) (add-one n) ∙ all-suc n f ∙ and-both e h
+
+module _ (a : ℕ) (f : ℕ → Bool) where
+  pub allFrom-none : allFrom a a f ≡ true
+  allFrom-none = ap (λ n. all n (λ j. f (a + j))) (sub-self a) ∙ all-zero (λ j. f (a + j))
+
+  pub allFrom-next : (k : ℕ) → a ≤ k → allFrom a k f ≡ true → f k ≡ true → allFrom a (k + 1) f ≡ true
+  allFrom-next k l e h =
+      let one : k + 1 - a ≡ k - a + 1 = omega (arith, l) in
+      ap (λ n. all n (λ j. f (a + j))) one ∙ all-next (k - a) (λ j. f (a + j)) e (ap f (add-sub-of-le l) ∙ h)
+
+  pub allFrom-not : (b k : ℕ) → a ≤ k → k < b → f k ≡ false → allFrom a b f ≡ false
+  allFrom-not b k l m e = all-not (b - a) (λ j. f (a + j)) (k - a) (omega (arith, l, m)) (ap f (add-sub-of-le l) ∙ e)
+
+-- ---- each check by what the code asks
+
+pub size-range : (n : ℕ) → not (eqb n 0) && (leb 1 (n - 1) && leb (n - 1) 4096) ≡ leb 2 n && leb n 4097
+size-range n = same-test (not (eqb n 0) && (leb 1 (n - 1) && leb (n - 1) 4096)) (leb 2 n && leb n 4097) to from
+  where
+    to : not (eqb n 0) && (leb 1 (n - 1) && leb (n - 1) 4096) ≡ true → leb 2 n && leb n 4097 ≡ true
+    to e =
+        let h = and-right (not (eqb n 0)) (leb 1 (n - 1) && leb (n - 1) 4096) e in
+        let low = leb-true 1 (n - 1) (and-left (leb 1 (n - 1)) (leb (n - 1) 4096) h) in
+        let high = leb-true (n - 1) 4096 (and-right (leb 1 (n - 1)) (leb (n - 1) 4096) h) in
+        and-both (le-leb 2 n (omega (arith, low))) (le-leb n 4097 (omega (arith, high)))
+
+    from : leb 2 n && leb n 4097 ≡ true → not (eqb n 0) && (leb 1 (n - 1) && leb (n - 1) 4096) ≡ true
+    from e =
+        let low = leb-true 2 n (and-left (leb 2 n) (leb n 4097) e) in
+        let high = leb-true n 4097 (and-right (leb 2 n) (leb n 4097) e) in
+        and-both (ap not (ne-eqb n 0 (λ q. omega (arith, low, q))))
+        (and-both (le-leb 1 (n - 1) (omega (arith, low))) (le-leb (n - 1) 4096 (omega (arith, high))))
+
+pub length-sizeTaken : (starts columns values : List ℕ) → sizeTaken (matrix starts columns values) ≡ leb 2 (length starts) && leb (length starts) 4097
+unfolding sizeTaken
+length-sizeTaken starts columns values = size-range (length starts)
+
+pub rows-columnsTaken : (starts columns values : List ℕ)
+    → columnsTaken (matrix starts columns values) ≡ all (length starts - 1) (rowTaken starts columns)
+unfolding columnsTaken
+rows-columnsTaken starts columns values = refl
+
+pub all-elements : (p : ℕ) (v : List ℕ) → elements p v ≡ all (length v) (λ i. ltb (at v i) p)
+unfolding elements
+all-elements p v = every-all (λ a. ltb a p) v 0
+
+-- the size is a matter of the starts, and the columns one of starts and columns
+pub starts-sizeTaken : (starts columns values : List ℕ) → sizeTaken (matrix starts columns values) ≡ sizeTaken (matrix starts [] [])
+unfolding sizeTaken
+starts-sizeTaken starts columns values = refl
+
+pub entries-columnsTaken : (starts columns values : List ℕ) → columnsTaken (matrix starts columns values) ≡ columnsTaken (matrix starts columns [])
+unfolding columnsTaken
+entries-columnsTaken starts columns values = refl
+
+-- ---- what the checks leave known
+
+pub modulus-range : (p : ℕ) → isModulus p ≡ true → (2 ≤ p) × (p ≤ 2147483647)
+unfolding isModulus isPrime
+modulus-range p e = (
+  leb-true 2 p (and-left (leb 2 p) (all (p - 2) (λ i. not (eqb (p % (i + 2)) 0))) (and-left (isPrime p) (leb p 2147483647) e)),
+  leb-true p 2147483647 (and-right (isPrime p) (leb p 2147483647) e),
+)
+
+pub size-known : (A : Matrix) → sizeTaken A ≡ true → (length (A .starts) ≡ size A + 1) × (size A ≤ 4096) × (1 ≤ size A)
+size-known A e =
+    let n = length (A .starts) in
+    let h = sym (length-sizeTaken (A .starts) (A .columns) (A .values)) ∙ e in
+    let low = leb-true 2 n (and-left (leb 2 n) (leb n 4097) h) in
+    let high = leb-true n 4097 (and-right (leb 2 n) (leb n 4097) h) in
+    (omega (arith, low), omega (arith, high), omega (arith, low))
+
+-- the five parts of 5
+pub record Started (A : Matrix) : Type 0 where
+  pub begins : at (A .starts) 0 ≡ 0
+  pub rise : (i : ℕ) → i < size A → at (A .starts) i ≤ at (A .starts) (i + 1)
+  pub ends : at (A .starts) (size A) ≡ length (A .columns)
+  pub paired : length (A .columns) ≡ length (A .values)
+  pub few : length (A .columns) ≤ 65536
+
+pub starts-known : (A : Matrix) → startsTaken A ≡ true → Started A
+unfolding startsTaken
+starts-known A e =
+    record {
+      begins = eqb-true (at (A .starts) 0) 0 (and-left begins rise (and-left (begins && rise) ends (and-left (begins && rise && ends) paired three)));
+      rise =
+          λ i l. leb-true (at (A .starts) i) (at (A .starts) (i + 1))
+          (all-at (size A) (λ j. leb (at (A .starts) j) (at (A .starts) (j + 1)))
+          (and-right begins rise (and-left (begins && rise) ends (and-left (begins && rise && ends) paired three))) i l);
+      ends = eqb-true (at (A .starts) (size A)) (length (A .columns)) (and-right (begins && rise) ends (and-left (begins && rise && ends) paired three));
+      paired = eqb-true (length (A .columns)) (length (A .values)) (and-right (begins && rise && ends) paired three);
+      few = leb-true (length (A .columns)) 65536 (and-right (begins && rise && ends && paired) (leb (length (A .columns)) 65536) e);
+    }
+  where
+    begins : Bool
+    begins = eqb (at (A .starts) 0) 0
+
+    rise : Bool
+    rise = all (size A) (λ i. leb (at (A .starts) i) (at (A .starts) (i + 1)))
+
+    ends : Bool
+    ends = eqb (at (A .starts) (size A)) (length (A .columns))
+
+    paired : Bool
+    paired = eqb (length (A .columns)) (length (A .values))
+
+    three : begins && rise && ends && paired ≡ true
+    three = and-left (begins && rise && ends && paired) (leb (length (A .columns)) 65536) e
+
+module _ (A : Matrix) (h : Started A) where
+  -- no start is above one further up
+  start-le : (i d : ℕ) → i + d ≤ size A → at (A .starts) i ≤ at (A .starts) (i + d)
+  start-le i zero l = rw (add-zero i) (le-refl (at (A .starts) i))
+  start-le i (suc d) l =
+      let next : i + d + 1 ≡ i + suc d = omega arith in
+      rw (← next) (le-trans (start-le i d (omega (arith, l))) (h .rise (i + d) (omega (arith, l))))
+
+  pub start-within : (i : ℕ) → i ≤ size A → at (A .starts) i ≤ length (A .columns)
+  start-within i l =
+      rw (← h .ends) (subst (λ k. at (A .starts) i ≤ at (A .starts) k) (add-sub-of-le l) (start-le i (size A - i) (omega (arith, l))))
+
+  pub ordered : 0 < length (A .starts) → Ordered (A .starts) (length (A .columns))
+  ordered l = record { some = l; rise = h .rise; within = λ i k. start-within (i + 1) (omega (arith, k)) }
+
+  -- every entry is in some row
+  column-known : columnsTaken A ≡ true → (i : ℕ) → i ≤ size A → (k : ℕ) → k < at (A .starts) i → at (A .columns) k < size A
+  column-known e zero l k b = absurd (omega (arith, h .begins, b))
+  column-known e (suc i) l k b = side (decLt k (at (A .starts) i)) (column-known e i (omega (arith, l)) k)
+    where
+      next : at (A .starts) (i + 1) ≡ at (A .starts) (suc i)
+      next = ap (at (A .starts)) (add-one i)
+
+      taken : rowTaken (A .starts) (A .columns) i ≡ true
+      taken = all-at (size A) (rowTaken (A .starts) (A .columns)) (sym (rows-columnsTaken (A .starts) (A .columns) (A .values)) ∙ e) i l
+
+      here : at (A .starts) i ≤ k → columnTaken (size A) (at (A .starts) (i + 1)) (A .columns) k ≡ true
+      here m =
+          ap (columnTaken (size A) (at (A .starts) (i + 1)) (A .columns)) (sym (add-sub-of-le m))
+          ∙ all-at (at (A .starts) (i + 1) - at (A .starts) i)
+          (λ j. columnTaken (size A) (at (A .starts) (i + 1)) (A .columns) (at (A .starts) i + j)) taken (k - at (A .starts) i) (omega (arith, m, b, next))
+
+      side : Dec (k < at (A .starts) i) → (k < at (A .starts) i → at (A .columns) k < size A) → at (A .columns) k < size A
+      side (yes m) ih = ih m
+      side (no m) ih =
+          ltb-true (at (A .columns) k) (size A)
+          (and-left (ltb (at (A .columns) k) (size A))
+          (leb (at (A .starts) (i + 1)) (k + 1) || ltb (at (A .columns) k) (at (A .columns) (k + 1))) (here (omega arith)))
+
+pub valid-of : (p : ℕ) (A : Matrix) → isModulus p ≡ true → sizeTaken A ≡ true → startsTaken A ≡ true → columnsTaken A ≡ true
+    → every (valueTaken p) (A .values) ≡ true → Valid p A
+valid-of p A m n s c v =
+    let range = modulus-range p m in
+    let sized = size-known A n in
+    let started = starts-known A s in
+    record {
+      positive = omega (arith, range .0);
+      small = range .1;
+      one-more = sized .0;
+      sized = sized .1;
+      some = sized .2;
+      rise = started .rise;
+      within = λ i l. start-within A started (i + 1) (omega (arith, l));
+      paired = started .paired;
+      few = started .few;
+      column = λ k l. column-known A started c (size A) (le-refl (size A)) k (omega (arith, l, started .ends));
+      value = λ k l. ltb-true (at (A .values) k) p (and-right (leb 1 (at (A .values) k)) (ltb (at (A .values) k) p) (every-at (valueTaken p) (A .values) 0 v k l));
+    }
+
+pub vector-of : (p : ℕ) (v : List ℕ) (n : ℕ) → length v ≡ n → elements p v ≡ true → Vector p n v
+unfolding elements
+vector-of p v n e h =
+    record { places = e; below = λ i l. ltb-true (at v i) p (every-at (λ a. ltb a p) v 0 h i (omega (arith, e, l))) }
+
+-- ---- a matrix
+
+pub numbered-matrix : (p : ℕ) (A : Matrix) → Numbered (matrixChecks p A)
+unfolding matrixChecks every
+numbered-matrix p A = refl
+
+pub matrix-valid : (p : ℕ) (A : Matrix) → first (matrixChecks p A) ≡ 0 → Valid p A
+unfolding matrixChecks
+matrix-valid p A e =
+    let c3 = first-none 3 (not (isModulus p)) (check 4 (not (sizeTaken A)) ∷ check 5 (not (startsTaken A)) ∷ check 6 (not (columnsTaken A)) ∷ check 7 (not (every (valueTaken p) (A .values))) ∷ []) (λ z. omega (arith, z)) e in
+    let c4 = first-none 4 (not (sizeTaken A)) (check 5 (not (startsTaken A)) ∷ check 6 (not (columnsTaken A)) ∷ check 7 (not (every (valueTaken p) (A .values))) ∷ []) (λ z. omega (arith, z)) (c3 .1) in
+    let c5 = first-none 5 (not (startsTaken A)) (check 6 (not (columnsTaken A)) ∷ check 7 (not (every (valueTaken p) (A .values))) ∷ []) (λ z. omega (arith, z)) (c4 .1) in
+    let c6 = first-none 6 (not (columnsTaken A)) (check 7 (not (every (valueTaken p) (A .values))) ∷ []) (λ z. omega (arith, z)) (c5 .1) in
+    let c7 = first-none 7 (not (every (valueTaken p) (A .values))) [] (λ z. omega (arith, z)) (c6 .1) in
+    valid-of p A (not-false (isModulus p) (c3 .0)) (not-false (sizeTaken A) (c4 .0)) (not-false (startsTaken A) (c5 .0))
+    (not-false (columnsTaken A) (c6 .0)) (not-false (every (valueTaken p) (A .values)) (c7 .0))
+
+-- ---- the calls' checks
+
+-- a matrix and a vector that were not turned down
+pub record Accepted (p : ℕ) (A : Matrix) (v : List ℕ) : Type 0 where
+  pub valid : Valid p A
+  pub vector : Vector p (size A) v
+
+abbrev pub vectorChecks : ℕ → Matrix → List ℕ → List Check
+vectorChecks p A b = check 8 (not (eqb (length b) (size A))) ∷ check 9 (not (elements p b)) ∷ []
+
+pub systemChecks-parts : (p : ℕ) (A : Matrix) (b : List ℕ) → systemChecks p A b ≡ matrixChecks p A ++ vectorChecks p A b
+unfolding systemChecks
+systemChecks-parts p A b = refl
+
+pub system-accepted : (p : ℕ) (A : Matrix) (b : List ℕ) → first (systemChecks p A b) ≡ 0 → Accepted p A b
+unfolding systemChecks
+system-accepted p A b e =
+    let both = first-append-zero (matrixChecks p A) (vectorChecks p A b) (numbered-matrix p A) e in
+    let c8 = first-none 8 (not (eqb (length b) (size A))) (check 9 (not (elements p b)) ∷ []) (λ z. omega (arith, z)) (both .1) in
+    let c9 = first-none 9 (not (elements p b)) [] (λ z. omega (arith, z)) (c8 .1) in
+    record {
+      valid = matrix-valid p A (both .0);
+      vector =
+          vector-of p b (size A) (eqb-true (length b) (size A) (not-false (eqb (length b) (size A)) (c8 .0))) (not-false (elements p b) (c9 .0));
+    }
+
+pub numbered-system : (p : ℕ) (A : Matrix) (b : List ℕ) → Numbered (systemChecks p A b)
+unfolding systemChecks matrixChecks every
+numbered-system p A b = refl
+
+-- a product's checks are the system's, and then its slice's
+pub productRefusal-system : (p : ℕ) (A : Matrix) (v out : List ℕ)
+    → productRefusal p A v out ≡ first (systemChecks p A v ++ (check 11 (not (eqb (length out) (size A))) ∷ []))
+unfolding productRefusal systemChecks
+productRefusal-system p A v out =
+    ap first
+    (sym
+    (append-assoc (matrixChecks p A) (vectorChecks p A v) (check 11 (not (eqb (length out) (size A))) ∷ [])))
+
+pub product-accepted : (p : ℕ) (A : Matrix) (v out : List ℕ) → productRefusal p A v out ≡ 0 → Accepted p A v × (length out ≡ size A)
+product-accepted p A v out e =
+    let both = first-append-zero (systemChecks p A v) (check 11 (not (eqb (length out) (size A))) ∷ []) (numbered-system p A v) (sym (productRefusal-system p A v out) ∙ e) in
+    let c11 = first-none 11 (not (eqb (length out) (size A))) [] (λ z. omega (arith, z)) (both .1) in
+    (system-accepted p A v (both .0), eqb-true (length out) (size A) (not-false (eqb (length out) (size A)) (c11 .0)))
+
+abbrev pub applyChecks : ℕ → Matrix → List ℕ → List ℕ → List ℕ → List ℕ → List Check
+applyChecks p A g v out work =
+    check 8 (not (within 1 (size A + 1) (length g) && eqb (length v) (size A)))
+    ∷ check 9 (not (elements p g && elements p v))
+    ∷ check 11 (not (eqb (length out) (size A) && leb (2 * size A) (length work)))
+    ∷ []
+
+pub applyRefusal-parts : (p : ℕ) (A : Matrix) (g v out work : List ℕ)
+    → applyRefusal p A g v out work ≡ first (matrixChecks p A ++ applyChecks p A g v out work)
+unfolding applyRefusal
+applyRefusal-parts p A g v out work = refl
+
+-- what g(A)v needs that was not turned down
+pub record Applicable (p : ℕ) (A : Matrix) (g v out work : List ℕ) : Type 0 where
+  pub valid : Valid p A
+  pub vector : Vector p (size A) v
+  pub some : 0 < length g
+  pub coefficients : Vector p (length g) g
+  pub places : length out ≡ size A
+  pub room : 2 * size A ≤ length work
+
+pub apply-accepted : (p : ℕ) (A : Matrix) (g v out work : List ℕ) → applyRefusal p A g v out work ≡ 0 → Applicable p A g v out work
+apply-accepted p A g v out work e =
+    let both = first-append-zero (matrixChecks p A) (applyChecks p A g v out work) (numbered-matrix p A) (sym (applyRefusal-parts p A g v out work) ∙ e) in
+    let c8 =
+    first-none 8 (not (within 1 (size A + 1) (length g) && eqb (length v) (size A)))
+    (check 9 (not (elements p g && elements p v)) ∷ check 11 (not (eqb (length out) (size A) && leb (2 * size A) (length work))) ∷ [])
+    (λ z. omega (arith, z)) (both .1) in
+    let c9 =
+    first-none 9 (not (elements p g && elements p v)) (check 11 (not (eqb (length out) (size A) && leb (2 * size A) (length work))) ∷ [])
+    (λ z. omega (arith, z)) (c8 .1) in
+    let c11 = first-none 11 (not (eqb (length out) (size A) && leb (2 * size A) (length work))) [] (λ z. omega (arith, z)) (c9 .1) in
+    let lengths = not-false (within 1 (size A + 1) (length g) && eqb (length v) (size A)) (c8 .0) in
+    let below = not-false (elements p g && elements p v) (c9 .0) in
+    let slices = not-false (eqb (length out) (size A) && leb (2 * size A) (length work)) (c11 .0) in
+    let range = and-left (within 1 (size A + 1) (length g)) (eqb (length v) (size A)) lengths in
+    record {
+      valid = matrix-valid p A (both .0);
+      vector =
+          vector-of p v (size A) (eqb-true (length v) (size A) (and-right (within 1 (size A + 1) (length g)) (eqb (length v) (size A)) lengths))
+          (and-right (elements p g) (elements p v) below);
+      some = leb-true 1 (length g) (and-left (leb 1 (length g)) (leb (length g) (size A + 1)) range);
+      coefficients = vector-of p g (length g) refl (and-left (elements p g) (elements p v) below);
+      places = eqb-true (length out) (size A) (and-left (eqb (length out) (size A)) (leb (2 * size A) (length work)) slices);
+      room = leb-true (2 * size A) (length work) (and-right (eqb (length out) (size A)) (leb (2 * size A) (length work)) slices);
+    }
+
+abbrev pub takesChecks : ℕ → Matrix → List ℕ → List ℕ → List Check
+takesChecks p A x b =
+    check 8 (not (eqb (length x) (size A) && eqb (length b) (size A))) ∷ check 9 (not (elements p x && elements p b)) ∷ []
+
+pub takesRefusal-parts : (p : ℕ) (A : Matrix) (x b : List ℕ) → takesRefusal p A x b ≡ first (matrixChecks p A ++ takesChecks p A x b)
+unfolding takesRefusal
+takesRefusal-parts p A x b = refl
+
+pub takes-accepted : (p : ℕ) (A : Matrix) (x b : List ℕ) → takesRefusal p A x b ≡ 0 → Accepted p A x × (length b ≡ size A)
+takes-accepted p A x b e =
+    let both = first-append-zero (matrixChecks p A) (takesChecks p A x b) (numbered-matrix p A) (sym (takesRefusal-parts p A x b) ∙ e) in
+    let c8 =
+    first-none 8 (not (eqb (length x) (size A) && eqb (length b) (size A))) (check 9 (not (elements p x && elements p b)) ∷ [])
+    (λ z. omega (arith, z)) (both .1) in
+    let c9 = first-none 9 (not (elements p x && elements p b)) [] (λ z. omega (arith, z)) (c8 .1) in
+    let lengths = not-false (eqb (length x) (size A) && eqb (length b) (size A)) (c8 .0) in
+    let below = not-false (elements p x && elements p b) (c9 .0) in (
+      record {
+        valid = matrix-valid p A (both .0);
+        vector =
+            vector-of p x (size A) (eqb-true (length x) (size A) (and-left (eqb (length x) (size A)) (eqb (length b) (size A)) lengths))
+            (and-left (elements p x) (elements p b) below);
+      },
+      eqb-true (length b) (size A) (and-right (eqb (length x) (size A)) (eqb (length b) (size A)) lengths),
+    )

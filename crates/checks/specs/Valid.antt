@@ -1,0 +1,55 @@
+-- What the checks leave known of a matrix and a vector, as the code that runs without checks needs it.
+--     Valid p A        a matrix of size 1 to 4,096 with values below p
+--     Vector p n v     n elements below p
+--     term             the product of entry k with its element of v
+--     rowProduct       their sum over row i
+--     Entries          what the sum of a row needs to know: entries and elements below 2³¹ − 1, columns within v
+--     valid-entries    a valid matrix with a vector
+use mathlib.Core.Path.{_≡_, sym}
+use mathlib.Core.List.{List}
+use Prim.Native.Nat.{ℕ, _+_, _*_, _≤_, _<_}
+use native.Mathlib.Omega.{arith}
+use lib.ListN.{length}
+use Rattle.meaning.specs.List.{at}
+use Rattle.meaning.specs.Matrix.{Matrix, size, rowSum}
+
+pub record Valid (p : ℕ) (A : Matrix) : Type 0 where
+  pub positive : 0 < p
+  pub small : p ≤ 2147483647
+  pub one-more : length (A .starts) ≡ size A + 1
+  pub sized : size A ≤ 4096
+  pub some : 1 ≤ size A
+  pub rise : (i : ℕ) → i < size A → at (A .starts) i ≤ at (A .starts) (i + 1)
+  pub within : (i : ℕ) → i < size A → at (A .starts) (i + 1) ≤ length (A .columns)
+  pub paired : length (A .columns) ≡ length (A .values)
+  pub few : length (A .columns) ≤ 65536
+  pub column : (k : ℕ) → k < length (A .columns) → at (A .columns) k < size A
+  pub value : (k : ℕ) → k < length (A .values) → at (A .values) k < p
+
+pub record Vector (p n : ℕ) (v : List ℕ) : Type 0 where
+  pub places : length v ≡ n
+  pub below : (i : ℕ) → i < n → at v i < p
+
+abbrev pub term : List ℕ → List ℕ → List ℕ → ℕ → ℕ
+term columns values v k = at values k * at v (at columns k)
+
+-- the product of row i with v, not reduced
+abbrev pub rowProduct : Matrix → List ℕ → ℕ → ℕ
+rowProduct A v i = rowSum A i (term (A .columns) (A .values) v)
+
+pub record Entries (columns values v : List ℕ) : Type 0 where
+  pub paired : length columns ≡ length values
+  pub few : length columns ≤ 65536
+  pub column : (k : ℕ) → k < length columns → at columns k < length v
+  pub value : (k : ℕ) → k < length values → at values k < 2147483647
+  pub element : (i : ℕ) → i < length v → at v i < 2147483647
+
+pub valid-entries : (p : ℕ) (A : Matrix) (v : List ℕ) → Valid p A → Vector p (size A) v → Entries (A .columns) (A .values) v
+valid-entries p A v h w =
+    record {
+      paired = h .paired;
+      few = h .few;
+      column = λ k l. omega (arith, h .column k l, w .places);
+      value = λ k l. omega (arith, h .value k l, h .small);
+      element = λ i l. omega (arith, w .below i (omega (arith, w .places)), h .small);
+    }

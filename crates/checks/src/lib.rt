@@ -1,0 +1,330 @@
+// Document 01, "Where a system stops": what a call of the library is refused for. Each check covers the whole input before the next, and every
+// function here answers for all inputs: a test, or the number of the first check that turns the input down, 0 if none does.
+//
+// The contracts cite the crate meaning (Refusal: the checks; Calls: their order for each call).
+use field::is_modulus;
+ghost use mathlib.Core.Path.{_≡_};
+ghost use mathlib.Core.Bool.{true, _&&_, _||_};
+ghost use mathlib.Core.List.{[]};
+ghost use Prim.Native.Nat.{_+_, _-_, _≤_, _<_};
+ghost use lib.Dec.{ltb, leb};
+ghost use lib.ListN.{length};
+ghost use Rattle.meaning.specs.List.{at, all, allFrom, every};
+ghost use Rattle.meaning.specs.Matrix.{matrix};
+ghost use Rattle.meaning.specs.Refusal.{first, within, elements, sizeTaken, startsTaken, columnsTaken, valueTaken, matrixChecks};
+ghost use Rattle.meaning.specs.Calls.{systemChecks, productRefusal, applyRefusal, takesRefusal, recurrenceRefusal, solverRefusal};
+ghost use Rattle.checks.specs.Matrix.{columnTaken, Ordered};
+
+// A number of 32 bits as an index.
+pub fn wide(x: u32) -> usize
+    ensures { λ r. ⌜ (r ≡ x) × (r ≤ 4294967295) ⌝ }
+{
+    x as usize
+}
+
+// 4: the size.
+fn size_taken(starts: &[u32]) -> bool
+    ensures { λ r. ⌜ r ≡ sizeTaken (matrix (now (starts .entry)) [] []) ⌝ }
+{
+    starts.len() >= 2 && starts.len() <= 4097
+}
+
+// No start is above the next.
+fn rising(starts: &[u32]) -> bool
+    ensures { λ r. ⌜ r ≡ all (length (now (starts .entry)) - 1) (λ i. leb (at (now (starts .entry)) i) (at (now (starts .entry)) (i + 1))) ⌝ }
+{
+    let mut i = 0;
+    while i + 1 < starts.len() {
+        if starts[i + 1] < starts[i] {
+            return false;
+        }
+        i += 1;
+    }
+    true
+}
+
+// 5: the starts and the number of entries.
+fn starts_taken(starts: &[u32], columns: &[u32], values: &[u32]) -> bool
+    requires { ⌜ 0 < length (now starts) ⌝ }
+    ensures { λ r. ⌜ r ≡ startsTaken (matrix (now (starts .entry)) (now (columns .entry)) (now (values .entry))) ⌝ }
+{
+    if starts[0] != 0 {
+        return false;
+    }
+    if !rising(starts) {
+        return false;
+    }
+    if wide(starts[starts.len() - 1]) != columns.len() {
+        return false;
+    }
+    if columns.len() != values.len() {
+        return false;
+    }
+    columns.len() <= 65536
+}
+
+// A column is below n, and below the next one of its row, which ends at `end`.
+fn column_taken(n: usize, k: usize, end: usize, columns: &[u32]) -> bool
+    requires { ⌜ (k < end) × (end ≤ length (now columns)) ⌝ }
+    ensures { λ r. ⌜ r ≡ columnTaken n end (now (columns .entry)) k ⌝ }
+{
+    wide(columns[k]) < n && (end <= k + 1 || columns[k] < columns[k + 1])
+}
+
+fn row_taken(n: usize, from: usize, end: usize, columns: &[u32]) -> bool
+    requires { ⌜ (from ≤ end) × (end ≤ length (now columns)) ⌝ }
+    ensures { λ r. ⌜ r ≡ allFrom from end (columnTaken n end (now (columns .entry))) ⌝ }
+{
+    let mut k = from;
+    while k < end {
+        if !column_taken(n, k, end, columns) {
+            return false;
+        }
+        k += 1;
+    }
+    true
+}
+
+// 6: the columns, row after row.
+fn columns_taken(starts: &[u32], columns: &[u32]) -> bool
+    requires { ⌜ Ordered (now starts) (length (now columns)) ⌝ }
+    ensures { λ r. ⌜ r ≡ columnsTaken (matrix (now (starts .entry)) (now (columns .entry)) []) ⌝ }
+{
+    let n = starts.len() - 1;
+    let mut i = 0;
+    while i < n {
+        if !row_taken(n, wide(starts[i]), wide(starts[i + 1]), columns) {
+            return false;
+        }
+        i += 1;
+    }
+    true
+}
+
+// 7: the values.
+fn values_taken(p: u32, values: &[u32]) -> bool
+    ensures { λ r. ⌜ r ≡ every (valueTaken p) (now (values .entry)) ⌝ }
+{
+    let mut k = 0;
+    while k < values.len() {
+        if values[k] == 0 {
+            return false;
+        }
+        if values[k] >= p {
+            return false;
+        }
+        k += 1;
+    }
+    true
+}
+
+// 9: every element is below p.
+pub fn are_elements(p: u32, v: &[u32]) -> bool
+    ensures { λ r. ⌜ r ≡ elements p (now (v .entry)) ⌝ }
+{
+    let mut i = 0;
+    while i < v.len() {
+        if v[i] >= p {
+            return false;
+        }
+        i += 1;
+    }
+    true
+}
+
+// 3 to 7, in their order: the number of the first that turns the field or the matrix down, 0 if none does.
+pub fn matrix_refusal(p: u32, starts: &[u32], columns: &[u32], values: &[u32]) -> u32
+    ensures { λ r. ⌜ r ≡ first (matrixChecks p (matrix (now (starts .entry)) (now (columns .entry)) (now (values .entry)))) ⌝ }
+{
+    if !is_modulus(p) {
+        return 3;
+    }
+    if !size_taken(starts) {
+        return 4;
+    }
+    if !starts_taken(starts, columns, values) {
+        return 5;
+    }
+    if !columns_taken(starts, columns) {
+        return 6;
+    }
+    if !values_taken(p, values) {
+        return 7;
+    }
+    0
+}
+
+// 3 to 9 for a matrix and a vector.
+pub fn system_refusal(p: u32, starts: &[u32], columns: &[u32], values: &[u32], b: &[u32]) -> u32
+    ensures { λ r. ⌜ r ≡ first (systemChecks p (matrix (now (starts .entry)) (now (columns .entry)) (now (values .entry))) (now (b .entry))) ⌝ }
+{
+    let number = matrix_refusal(p, starts, columns, values);
+    if number != 0 {
+        return number;
+    }
+    if b.len() != starts.len() - 1 {
+        return 8;
+    }
+    if !are_elements(p, b) {
+        return 9;
+    }
+    0
+}
+
+// What a product with v into out is refused for.
+pub fn product_refusal(
+    p: u32,
+    starts: &[u32],
+    columns: &[u32],
+    values: &[u32],
+    v: &[u32],
+    out: &[u32],
+) -> u32
+    ensures { λ r. ⌜ r ≡ productRefusal p (matrix (now (starts .entry)) (now (columns .entry)) (now (values .entry))) (now (v .entry)) (now (out .entry)) ⌝ }
+{
+    let number = system_refusal(p, starts, columns, values, v);
+    if number != 0 {
+        return number;
+    }
+    if out.len() != v.len() {
+        return 11;
+    }
+    0
+}
+
+// 8 for a polynomial: 1 to n + 1 coefficients.
+fn polynomial_taken(n: usize, g: &[u32]) -> bool
+    requires { ⌜ n ≤ 4096 ⌝ }
+    ensures { λ r. ⌜ r ≡ within 1 (n + 1) (length (now (g .entry))) ⌝ }
+{
+    g.len() >= 1 && g.len() <= n + 1
+}
+
+// What g(A)v into out is refused for.
+pub fn apply_refusal(
+    p: u32,
+    starts: &[u32],
+    columns: &[u32],
+    values: &[u32],
+    g: &[u32],
+    v: &[u32],
+    out: &[u32],
+    work: &[u32],
+) -> u32
+    ensures { λ r. ⌜ r ≡ applyRefusal p (matrix (now (starts .entry)) (now (columns .entry)) (now (values .entry))) (now (g .entry)) (now (v .entry)) (now (out .entry)) (now (work .entry)) ⌝ }
+{
+    let number = matrix_refusal(p, starts, columns, values);
+    if number != 0 {
+        return number;
+    }
+    let n = starts.len() - 1;
+    if !polynomial_taken(n, g) {
+        return 8;
+    }
+    if v.len() != n {
+        return 8;
+    }
+    if !are_elements(p, g) {
+        return 9;
+    }
+    if !are_elements(p, v) {
+        return 9;
+    }
+    if out.len() != n {
+        return 11;
+    }
+    if work.len() < 2 * n {
+        return 11;
+    }
+    0
+}
+
+// What the check that A takes x to b is refused for.
+pub fn takes_refusal(
+    p: u32,
+    starts: &[u32],
+    columns: &[u32],
+    values: &[u32],
+    x: &[u32],
+    b: &[u32],
+) -> u32
+    ensures { λ r. ⌜ r ≡ takesRefusal p (matrix (now (starts .entry)) (now (columns .entry)) (now (values .entry))) (now (x .entry)) (now (b .entry)) ⌝ }
+{
+    let number = matrix_refusal(p, starts, columns, values);
+    if number != 0 {
+        return number;
+    }
+    let n = starts.len() - 1;
+    if x.len() != n {
+        return 8;
+    }
+    if b.len() != n {
+        return 8;
+    }
+    if !are_elements(p, x) {
+        return 9;
+    }
+    if !are_elements(p, b) {
+        return 9;
+    }
+    0
+}
+
+// What a shortest recurrence is refused for.
+pub fn recurrence_refusal(p: u32, s: &[u32], polynomial: &[u32], work: &[u32]) -> u32
+    ensures { λ r. ⌜ r ≡ recurrenceRefusal p (now (s .entry)) (now (polynomial .entry)) (now (work .entry)) ⌝ }
+{
+    if !is_modulus(p) {
+        return 3;
+    }
+    if s.len() > 8192 {
+        return 8;
+    }
+    if !are_elements(p, s) {
+        return 9;
+    }
+    if polynomial.len() != s.len() + 1 {
+        return 11;
+    }
+    if work.len() < 4 * s.len() + 8 {
+        return 11;
+    }
+    0
+}
+
+// What a run of the solver is refused for.
+pub fn solver_refusal(
+    p: u32,
+    starts: &[u32],
+    columns: &[u32],
+    values: &[u32],
+    b: &[u32],
+    words: &[u32],
+    vector: &[u32],
+    polynomial: &[u32],
+    work: &[u32],
+) -> u32
+    ensures { λ r. ⌜ r ≡ solverRefusal p (matrix (now (starts .entry)) (now (columns .entry)) (now (values .entry))) (now (b .entry)) (now (words .entry)) (now (vector .entry)) (now (polynomial .entry)) (now (work .entry)) ⌝ }
+{
+    let number = system_refusal(p, starts, columns, values, b);
+    if number != 0 {
+        return number;
+    }
+    let n = b.len();
+    if words.len() % n != 0 {
+        return 10;
+    }
+    if words.len() > 64 * n {
+        return 10;
+    }
+    if vector.len() != n {
+        return 11;
+    }
+    if polynomial.len() != n + 1 {
+        return 11;
+    }
+    if work.len() < 16 * n + 16 {
+        return 11;
+    }
+    0
+}
