@@ -4,28 +4,26 @@
 --     run-small            the outcome of every run without words on a system of at most 128 rows
 --     answer-fits          its text has at most 4,608 bytes
 --     answer-long          every answer's text has more than 18
---     solved-fits, solved-long      .. of the text of a system that the text call takes
-use mathlib.Core.Path.{_≡_, refl, sym, ap, subst, _∙_}
-use mathlib.Core.Logic.{_⊎_, inl, inr}
+use mathlib.Core.Path.{_≡_, refl, sym, ap, subst}
 use mathlib.Core.Bool.{Bool, true, false, cond, _&&_}
 use mathlib.Core.List.{List, [], _∷_, _++_}
-use Prim.Native.Nat.{ℕ, zero, suc, _+_, _-_, _*_, _/_, _%_, _≤_, _<_}
+use Prim.Native.Nat.{ℕ, _+_, _-_, _*_, _≤_, _<_}
 use native.Mathlib.Nat.{zero-div}
 use native.Mathlib.Decide.{ℕ-discrete}
 use native.Mathlib.Omega.{arith}
 use lib.Dec.{eqb, ltb}
 use lib.ListN.{length, drop, length-append}
-use borrow.Author.Tests.{ltb-true, eqb-true}
-use Rattle.meaning.specs.List.{at, table, zeros, isZero, every, flat, bytes}
+use borrow.Author.Tests.{eqb-true}
+use Rattle.meaning.specs.List.{at, table, isZero, every, flat, bytes}
 use Rattle.meaning.specs.Field.{times, minus, inverse}
 use Rattle.meaning.specs.Matrix.{Matrix, size, apply}
 use Rattle.meaning.specs.Recurrence.{isMonic}
 use Rattle.meaning.specs.Solver.{Kind, solved, singular, Outcome, passes, projections, begin, run, verdict, close, solve}
 use Rattle.meaning.specs.ThirdCondition.{termCost, ThirdCondition}
-use Rattle.meaning.specs.Text.{decimal, line, document, system}
+use Rattle.meaning.specs.Text.{decimal, line}
 use Rattle.meaning.specs.Answer.{kindWord, vectorWord, answerText}
-use Rattle.meaning.specs.Refusal.{check, first, elements, wordsTaken}
-use Rattle.meaning.specs.Calls.{systemChecks, runChecks, textChecks, solvedText}
+use Rattle.meaning.specs.Refusal.{first}
+use Rattle.meaning.specs.Calls.{runChecks}
 use Rattle.laws.specs.Bool.{and-left, and-right}
 use Rattle.laws.specs.List.{length-table}
 use Rattle.residue.specs.Prime.{Prime}
@@ -33,12 +31,10 @@ use Rattle.residue.specs.Lists.{Reduced, reduced-table}
 use Rattle.bridge.specs.Lists.{every-reduced, reduced-table-mod}
 use Rattle.bridge.specs.Operator.{length-apply, reduced-apply}
 use Rattle.bridge.specs.Run.{termCost-nil, termCost-cons, run-found}
-use Rattle.bridge.specs.ThirdCondition.{Accepted, accepted, everyRun, verdict-zero, verdict-singular, verdict-solved}
-use Rattle.text_laws.specs.Tables.{flat-table-zero, flat-table-suc}
+use Rattle.bridge.specs.ThirdCondition.{accepted, everyRun, verdict-zero, verdict-singular, verdict-solved}
 use Rattle.text_laws.specs.Numeral.{decimal-short, decimal-bounded, decimal-positive}
 use Rattle.text_laws.specs.Line.{length-line-last, length-line-more}
 use Rattle.text_laws.specs.Length.{length-line-three, length-flat-rows}
-use Rattle.text_laws.specs.Accepted.{first-both, first-pass, numbered, modulus-high}
 
 pub termCost-bounded : (left : ℕ) (ts : List ℕ) → left ≤ 128 → termCost left ts ≤ 256 * length ts
 termCost-bounded left [] h = omega (arith, termCost-nil left)

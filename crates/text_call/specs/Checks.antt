@@ -10,7 +10,7 @@
 --     system-checked, solved-small      the system of a text that is taken, and the bounds of its run
 --     solved-fits, solved-long      the text of a system that is taken: at most 4,608 bytes, more than 18
 --     answer-or-number         the number returned is above 18, or at most 11 and the refusal's
-use mathlib.Core.Path.{_≡_, refl, sym, ap, ap₂, subst, _∙_}
+use mathlib.Core.Path.{_≡_, refl, sym, ap, subst, _∙_}
 use mathlib.Core.Logic.{_⊎_, inl, inr}
 use mathlib.Core.Bool.{Bool, true, false, not, cond, _&&_}
 use mathlib.Core.List.{List, [], _∷_, _++_}
@@ -25,14 +25,13 @@ use Rattle.meaning.specs.Matrix.{Matrix, size}
 use Rattle.meaning.specs.Text.{Document, document, System, system, row}
 use Rattle.meaning.specs.Refusal.{Check, check, first, unlessRefused, matrixChecks, documentChecks, wordsTaken}
 use Rattle.meaning.specs.Solver.{solve}
-use Rattle.meaning.specs.Answer.{answerText}
 use Rattle.meaning.specs.Calls.{systemChecks, runChecks, textChecks, readerRefusal, textRefusal, solvedText, textAnswer, textAfter}
 use Rattle.laws.specs.Bool.{and-left, and-right, and-both, same-test}
 use Rattle.laws.specs.List.{length-table}
 use Rattle.laws.specs.Refusal.{first-cons, first-nil}
-use Rattle.text_laws.specs.Accepted.{numbered, first-append, first-both, first-left, first-right, first-pass, first-passed, AcceptedSystem, system-accepted, modulus-high}
+use Rattle.text_laws.specs.Accepted.{numbered, first-append, first-both, first-left, first-right, first-pass, first-passed, system-accepted, modulus-high}
 use Rattle.text_laws.specs.Lists.{every-head, every-tail}
-use Rattle.text_laws.specs.RoundTrip.{systemOf, ReadAndWritten, read-and-written}
+use Rattle.text_laws.specs.RoundTrip.{systemOf, read-and-written}
 use Rattle.text_call.specs.Bounds.{Small, run-small, answer-fits, answer-long}
 
 unfoldable pub byReader : List ℕ → ℕ → ℕ → ℕ

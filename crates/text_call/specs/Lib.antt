@@ -2,8 +2,10 @@
 --     Bounds       how large a run's numbers are, and how long its answer's text is
 --     Checks       its checks, by the reader's
 --     Loaded       a system in the arrays, from the reader to the answer
+--     Program      what the program prints
 --     Put          the answer's text, put part by part
 pub mod Bounds
 pub mod Checks
 pub mod Put
 pub mod Loaded
+pub mod Program

@@ -13,8 +13,8 @@
 --     loaded-rows, loaded-small, loaded-fits      the size, the run's bounds, and its text's length
 --     ran-answer                     the answer's text, of what a run leaves
 --     loaded-taken, loaded-solved    the solver refuses nothing, and gives the outcome
-use mathlib.Core.Path.{_≡_, refl, sym, ap, ap₂, subst, _∙_}
-use mathlib.Core.Bool.{Bool, true, false, not, cond, _&&_}
+use mathlib.Core.Path.{_≡_, sym, ap, ap₂, subst, _∙_}
+use mathlib.Core.Bool.{Bool, true, not, cond, _&&_}
 use mathlib.Core.List.{List, [], _∷_, _++_}
 use Prim.Native.Nat.{ℕ, zero, suc, _+_, _-_, _*_, _≤_, _<_}
 use native.Mathlib.Omega.{arith}
@@ -22,22 +22,22 @@ use lib.Dec.{eqb, leb}
 use lib.ListN.{length, take, drop, length-take, length-map}
 use lib.Seq.{take-at, length-take-le}
 use borrow.Author.Tests.{leb-true, le-leb, eq-eqb}
-use Rattle.meaning.specs.List.{at, table, padded, overwrite, bytes, select}
+use Rattle.meaning.specs.List.{at, padded, overwrite, bytes, select}
 use Rattle.meaning.specs.Matrix.{Matrix, matrix, size}
-use Rattle.meaning.specs.Text.{Document, document, System, system, row, line}
-use Rattle.meaning.specs.Solver.{Kind, solved, singular, Outcome, passes, solve}
+use Rattle.meaning.specs.Text.{Document, document, system, row, line}
+use Rattle.meaning.specs.Solver.{solved, singular, Outcome, passes, solve}
 use Rattle.meaning.specs.Refusal.{check, first, unlessRefused}
 use Rattle.meaning.specs.Answer.{answerText}
 use Rattle.meaning.specs.Calls.{systemChecks, runChecks, textChecks, solverRefusal, readerRefusal, readerAnswer, readerAfter, solvedText}
 use Rattle.laws.specs.Bool.{and-right, and-both}
 use Rattle.laws.specs.List.{length-table, getD-table}
 use Rattle.laws.specs.Refusal.{first-nil}
-use Rattle.text_laws.specs.Accepted.{first-both, first-left, first-right, first-pass, first-passed, AcceptedSystem, system-accepted, AcceptedDocument, document-accepted, modulus-low, modulus-high}
+use Rattle.text_laws.specs.Accepted.{first-both, first-left, first-right, first-pass, first-passed, system-accepted, document-accepted, modulus-low, modulus-high}
 use Rattle.text_laws.specs.RoundTrip.{systemOf, read-and-written, text-accepted}
 use Rattle.wiedemann.specs.declared.solver.Counts.{Counts}
 use Rattle.wiedemann.specs.declared.solver.Verdict.{Verdict}
 use Rattle.wiedemann.specs.declared.solver.Verdict.the-variants.{Solved, Singular, Refused}
-use Rattle.wiedemann.specs.Verdict.{Counted, Says, Solves}
+use Rattle.wiedemann.specs.Verdict.{Says, Solves}
 use Rattle.text_call.specs.Bounds.{Small, run-small, answer-fits}
 use Rattle.text_call.specs.Checks.{text-numbered, run-numbered, run-checked}
 use Rattle.text_call.specs.Put.{linesOf, linesOf-ext, headOf, textOf, answer-solved, answer-singular}

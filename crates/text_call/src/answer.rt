@@ -2,12 +2,11 @@
 use decimal::put;
 use decimal::put_byte;
 use decimal::put_bytes;
-ghost use mathlib.Core.Path.{_≡_};
-ghost use mathlib.Core.List.{[], _∷_, _++_};
+ghost use mathlib.Core.List.{[], _∷_};
 ghost use Prim.Native.Nat.{_+_, _≤_, _<_};
 ghost use lib.ListN.{length};
-ghost use Rattle.meaning.specs.List.{bytes};
 ghost use Rattle.meaning.specs.Text.{decimal, line};
+ghost use Rattle.meaning.specs.Answer.{refusedText};
 ghost use Rattle.text_call.specs.Put.{Put, linesOf, headOf, textOf};
 
 fn put_letter(out: &mut [u8], at: usize, letter: u8) -> usize
@@ -99,4 +98,14 @@ pub fn put_answer(
     let places = put_lines(out, powers, b'f', 0, polynomial, degree + 1);
     let end = put_lines(out, places, letter, 1, vector, vector.len());
     put_word(out, end, b"end\n")
+}
+
+// The program's line for a refusal.
+pub fn put_refused(out: &mut [u8], number: u64) -> usize
+    requires { ⌜ length (refusedText number) ≤ length (now out) ⌝ }
+    ensures { λ r. ⌜ Put (now (out .entry)) 0 (refusedText number) r (now (out .exit)) ⌝ }
+{
+    let field = put_word(out, 0, b"refused");
+    let end = put_field(out, field, number);
+    put_letter(out, end, b'\n')
 }

@@ -5,10 +5,12 @@
 mod answer;
 mod call;
 
+use answer::put_refused;
 use call::answer_text;
 ghost use mathlib.Core.Path.{_≡_};
 ghost use lib.ListN.{length};
 ghost use Rattle.meaning.specs.Calls.{textAnswer, textAfter};
+ghost use Rattle.text_call.specs.Program.{Printed};
 
 // The number is the answer's length, which is always above 18, or the refusal's. The arrays take 128 rows and 1,024 entries.
 #[no_mangle]
@@ -34,4 +36,20 @@ pub extern "C" fn filzeur_text(text: &[u8], answer: &mut [u8]) -> u64
         &mut polynomial,
         &mut work,
     )
+}
+
+// What the program prints for a text, at the front of a slice of at least 4,608 bytes: the answer's text, or `refused` and the number. A
+// shorter slice stays as it is, and the answer is 0.
+pub fn output(text: &[u8], out: &mut [u8]) -> usize
+    ensures { λ r. ⌜ Printed (now (text .entry)) (now (out .entry)) r (now (out .exit)) ⌝ }
+{
+    if out.len() < 4608 {
+        return 0;
+    }
+    let number = filzeur_text(text, out);
+    if number > 18 {
+        number as usize
+    } else {
+        put_refused(out, number)
+    }
 }

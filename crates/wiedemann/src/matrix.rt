@@ -1,7 +1,7 @@
 // Sparse matrices: the product of a row, and what is made of it.
 ghost use mathlib.Core.Path.{_≡_};
 ghost use mathlib.Core.Logic.{_≢_};
-ghost use Prim.Native.Nat.{ℕ, _+_, _-_, _*_, _%_, _≤_, _<_};
+ghost use Prim.Native.Nat.{ℕ, _+_, _-_, _*_, _/_, _%_, _≤_, _<_};
 ghost use lib.ListN.{length};
 ghost use Rattle.meaning.specs.List.{at, sumFrom, table, zeros};
 ghost use Rattle.meaning.specs.Field.{plus, times};
@@ -23,6 +23,8 @@ use checks::apply_refusal;
 use checks::product_refusal;
 use checks::wide;
 use field::Field;
+use std::num::wrapping_add_u32;
+use std::num::wrapping_sub_u32;
 
 // The product of entry k's value with the element of v at its column.
 fn entry(k: usize, columns: &[u32], values: &[u32], v: &[u32]) -> u64
@@ -118,8 +120,9 @@ pub(crate) fn step(
     requires { ⌜ (weight ≡ 18446744073709551616 % p) × (length (now out) ≡ length (now starts) - 1) × (length (now x) ≡ length (now starts) - 1) × Vector p (length (now starts) - 1) (now v) ⌝ }
     ensures { λ r. ⌜ now (out .exit) ≡ step p (matrix (now (starts .entry)) (now (columns .entry)) (now (values .entry))) c (now (x .entry)) (now (v .entry)) ⌝ }
 {
+    let rows = starts.len() - 1;
     let mut i = 0;
-    while i < out.len() {
+    while i < rows {
         out[i] = row(p, weight, times(c, x[i]), i, starts, columns, values, v);
         i += 1;
     }
@@ -281,13 +284,31 @@ fn clear(out: &mut [u32])
     }
 }
 
-// a + b modulo p: 32 bits hold the sum.
-fn sum(p: u32, a: u32, b: u32) -> u32
-    requires { ⌜ (a < p) × (b < p) × (p ≤ 2147483647) ⌝ }
-    ensures { λ r. ⌜ r ≡ plus p a b ⌝ }
+// s modulo p for s below 2p: the top bit of s − p, which wraps if s is below p, says whether p is added again. Arithmetic and no `if`, which would
+// be an unpredictable branch for each entry.
+fn folded(p: u32, s: u32) -> u32
+    requires { ⌜ (s < p + p) × (p ≤ 2147483647) ⌝ }
+    ensures { λ r. ⌜ r ≡ s % p ⌝ }
 {
-    let s = a + b;
-    if s < p { s } else { s - p }
+    let d = wrapping_sub_u32(s, p);
+    wrapping_add_u32(d, d / 2147483648 * p)
+}
+
+// c × x, with c's quotient w: below 2p, and right modulo p.
+fn near(p: u32, c: u32, w: u32, x: u32) -> u32
+    requires { ⌜ (c < p) × (p ≤ 2147483647) × (w ≡ c * 4294967296 / p) ⌝ }
+    ensures { λ r. ⌜ (r < p + p) × (r % p ≡ times p c x) ⌝ }
+{
+    let h = (w as u64) * (x as u64) / 4294967296;
+    ((c as u64) * (x as u64) - h * (p as u64)) as u32
+}
+
+// y + c × x modulo p, with c's quotient w.
+fn added(p: u32, c: u32, w: u32, x: u32, y: u32) -> u32
+    requires { ⌜ (c < p) × (p ≤ 2147483647) × (w ≡ c * 4294967296 / p) × (y < p) ⌝ }
+    ensures { λ r. ⌜ r ≡ plus p y (times p c x) ⌝ }
+{
+    folded(p, y + folded(p, near(p, c, w, x)))
 }
 
 // c × the value of each entry added to out at its column: the product with one element of a row, all of whose entries share c's quotient.
@@ -300,7 +321,7 @@ fn scatter(p: u32, c: u32, from: usize, to: usize, columns: &[u32], values: &[u3
     let mut k = from;
     while k < to {
         let j = wide(columns[k]);
-        out[j] = sum(p, out[j], scaled(p, c, w, values[k]));
+        out[j] = added(p, c, w, values[k], out[j]);
         k += 1;
     }
 }

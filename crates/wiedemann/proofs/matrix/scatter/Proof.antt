@@ -1,3 +1,4 @@
+-- `wiedemann::matrix::scatter` meets its contract: the loop's invariant: out has the entries passed added at their columns. Assumes nothing.
 use mathlib.Core.Path.{_≡_, refl, sym, ap, ap₂, _∙_, subst}
 use Prim.Native.Nat.{_-_, _≤_, _<_}
 use native.Mathlib.Omega.{arith}
@@ -5,16 +6,10 @@ use lib.ListN.{length, getD, set}
 use denote.Ref.{now}
 use Rattle.meaning.specs.Field.{plus, times}
 use Rattle.checks.specs.Valid.{Vector}
-use Rattle.wiedemann.specs.Transposed.{scattered, scattered-none, scattered-more, vector-scattered, times-lt}
+use Rattle.wiedemann.specs.Transposed.{scattered, scattered-none, scattered-more, vector-scattered}
 use borrow.Author.Needs.{needs}
 use Rattle.wiedemann.proofs.matrix.scatter.Statement.{statement}
 use Rattle.wiedemann.proofs.matrix.scatter.Tie as tie
-use Rattle.wiedemann.proofs.matrix.scatter.Reads as reads
-use Rattle.wiedemann.proofs.matrix.scatter.Lts as lts
-use Rattle.wiedemann.proofs.matrix.sum.Reads as sum-reads
-use Rattle.wiedemann.proofs.scale.quotient.Reads as quotient-reads
-use Rattle.wiedemann.proofs.scale.scaled.Reads as scaled-reads
-use Rattle.checks.proofs.wide.Reads as wide-reads
 
 abbrev Inv-loop : tie.InvT-loop
 Inv-loop p c from to columns values out₀ w k₀ out k =
@@ -37,11 +32,9 @@ inside c =
     omega
     (arith, c .wide .ensures .0, start .pre .1 (c .before .before .before .loop .k) (omega (arith, c .before .before .loop-test .taken, start .pre .0 .3)), vector (c .before .before .before) .places)
 
--- src/matrix.rt:283:9
 quotient-requires : tie.Need-quotient-requires Inv-loop μ-loop
 quotient-requires c κs = search needs
 
--- src/matrix.rt:285:5
 loop-holds : tie.Need-loop-holds Inv-loop μ-loop
 loop-holds c =
     let start = c .before .before .before .before in
@@ -51,91 +44,72 @@ loop-holds c =
       scattered-none (at .p) (at .c) (now (at .columns)) (now (at .values)) (at .from) (length (now (at .out))) (now (at .out)) (start .pre .0 .5),
     )
 
--- src/matrix.rt:286:22
 mul-wide : tie.Need-mul-wide Inv-loop μ-loop
 mul-wide c = search needs
 
--- src/matrix.rt:286:22
 shared-slice-read-wide : tie.Need-shared-slice-read-wide Inv-loop μ-loop
 shared-slice-read-wide c = search needs
 
--- src/matrix.rt:286:13
 wide-requires : tie.Need-wide-requires Inv-loop μ-loop
 wide-requires c κs = search needs
 
--- src/matrix.rt:287:25
-mul-sum : tie.Need-mul-sum Inv-loop μ-loop
-mul-sum c = search needs
+mul-added : tie.Need-mul-added Inv-loop μ-loop
+mul-added c = search needs
 
--- src/matrix.rt:287:25
-slice-read-sum : tie.Need-slice-read-sum Inv-loop μ-loop
-slice-read-sum c = inside (c .before)
+shared-slice-read-added : tie.Need-shared-slice-read-added Inv-loop μ-loop
+shared-slice-read-added c = search needs
 
--- src/matrix.rt:287:49
-mul-scaled : tie.Need-mul-scaled Inv-loop μ-loop
-mul-scaled c = search needs
+mul-added-2 : tie.Need-mul-added-2 Inv-loop μ-loop
+mul-added-2 c = search needs
 
--- src/matrix.rt:287:49
-shared-slice-read-scaled : tie.Need-shared-slice-read-scaled Inv-loop μ-loop
-shared-slice-read-scaled c = search needs
+slice-read-added : tie.Need-slice-read-added Inv-loop μ-loop
+slice-read-added c = inside (c .before .before)
 
--- src/matrix.rt:287:33
-scaled-requires : tie.Need-scaled-requires Inv-loop μ-loop
-scaled-requires c κs = search needs
-
--- src/matrix.rt:287:18
-sum-requires : tie.Need-sum-requires Inv-loop μ-loop
-sum-requires c κs =
-    let start = c .before .before .before .before .before .before .before .before .before .before .before in
-    let pre = start .pre .0 in
-    let before = vector (c .before .before .before .before .before .before) in (
-      before .below (c .before .before .before .wide .result) (omega (arith, before .places, inside (c .before .before .before))),
-      rw (c .scaled .ensures) (times-lt (start .args .p) (start .args .c) (getD (now (start .args .values)) (c .before .before .before .before .before .before .loop .k) 0) (omega (arith, pre .0))),
+added-requires : tie.Need-added-requires Inv-loop μ-loop
+added-requires c κs =
+    let pre = c .before .before .before .before .before .before .before .before .before .before .pre .0 in
+    let before = vector (c .before .before .before .before .before) in (
+      pre .0,
       pre .1,
+      c .before .before .before .before .before .before .quotient .ensures,
+      before .below (c .before .before .wide .result) (omega (arith, before .places, inside (c .before .before))),
     )
 
--- src/matrix.rt:287:9
 mul-out : tie.Need-mul-out Inv-loop μ-loop
 mul-out c = search needs
 
--- src/matrix.rt:287:9
 slice-write-out : tie.Need-slice-write-out Inv-loop μ-loop
-slice-write-out c = inside (c .before .before .before .before)
+slice-write-out c = inside (c .before .before .before)
 
--- src/matrix.rt:288:9
 add-k : tie.Need-add-k Inv-loop μ-loop
 add-k c = search needs
 
--- src/matrix.rt:285:5
 loop-less : tie.Need-loop-less Inv-loop μ-loop
-loop-less c = omega (arith, c .before .before .before .before .before .before .loop-test .taken)
+loop-less c = omega (arith, c .before .before .before .before .before .loop-test .taken)
 
--- src/matrix.rt:285:5
 loop-again : tie.Need-loop-again Inv-loop μ-loop
 loop-again c =
-    let start = c .before .before .before .before .before .before .before .before .before .before .before .before in
+    let start = c .before .before .before .before .before .before .before .before .before .before .before in
     let at = start .args in
-    let loop = c .before .before .before .before .before .before .before .loop in
+    let loop = c .before .before .before .before .before .before .loop in
     let k = loop .k in
     let columns = now (at .columns) in
     let values = now (at .values) in
     let out = now (at .out) in
-    let j = c .before .before .before .before .wide .ensures .0 in
-    let test = c .before .before .before .before .before .before .loop-test .taken in
+    let j = c .before .before .before .wide .ensures .0 in
+    let test = c .before .before .before .before .before .loop-test .taken in
     let so-far = scattered (at .p) (at .c) (at .from) k columns values out in (
       omega (arith, loop .inv .0),
       omega (arith, test),
       ap₂ (λ i y. set (loop .out) i y) j
-          (c .sum .ensures ∙ ap₂ (plus (at .p)) (ap₂ (λ l i. getD l i 0) (loop .inv .2) j) (c .before .scaled .ensures))
+          (c .added .ensures ∙ ap₂ (λ l i. plus (at .p) (getD l i 0) (times (at .p) (at .c) (getD values k 0))) (loop .inv .2) j)
           ∙ ap (λ l. set l (getD columns k 0) (plus (at .p) (getD so-far (getD columns k 0) 0) (times (at .p) (at .c) (getD values k 0)))) (loop .inv .2)
           ∙ scattered-more (at .p) (at .c) columns values (at .from) k out (loop .inv .0) (start .pre .1 k (omega (arith, test, start .pre .0 .3))),
     )
 
--- src/matrix.rt:278:1
 same-length : tie.Need-same-length Inv-loop μ-loop
 same-length c = vector (c .before) .places
 
--- src/matrix.rt:278:1
 returns : tie.Need-returns Inv-loop μ-loop
 returns c =
     let at = c .before .before .before .before .before .before .args in
@@ -154,12 +128,11 @@ scatter-spec =
     mul-wide
     shared-slice-read-wide
     wide-requires
-    mul-sum
-    slice-read-sum
-    mul-scaled
-    shared-slice-read-scaled
-    scaled-requires
-    sum-requires
+    mul-added
+    shared-slice-read-added
+    mul-added-2
+    slice-read-added
+    added-requires
     mul-out
     slice-write-out
     add-k

@@ -1,3 +1,4 @@
+-- `wiedemann::matrix::step` meets its contract: the loop's invariant is Written: the rows passed are written. Assumes nothing.
 use mathlib.Core.Path.{_≡_, sym, ap, _∙_}
 use Prim.Native.Nat.{_+_, _-_, _%_, _≤_, _<_}
 use native.Mathlib.Omega.{arith}
@@ -11,19 +12,17 @@ use Rattle.wiedemann.specs.Horner.{stepAt, table-step}
 use borrow.Author.Needs.{needs}
 use Rattle.wiedemann.proofs.matrix.step.Statement.{statement}
 use Rattle.wiedemann.proofs.matrix.step.Tie as tie
-use Rattle.wiedemann.proofs.matrix.step.Reads as reads
-use Rattle.wiedemann.proofs.matrix.step.Lts as lts
-use Rattle.wiedemann.proofs.matrix.row.Reads as row-reads
-use Rattle.wiedemann.proofs.sums.times.Reads as times-reads
 
 abbrev Inv-loop : tie.InvT-loop
-Inv-loop p weight c x starts columns values v out₀ i₀ out i =
+Inv-loop p weight c x starts columns values v out₀ rows i₀ out i =
     (i ≤ length out₀) × Written out₀ 0 i (stepAt p (matrix starts columns values) c x v) out
 
 abbrev μ-loop : tie.MeasureT-loop
-μ-loop p weight c x starts columns values v out₀ i₀ out i = length out₀ - i
+μ-loop p weight c x starts columns values v out₀ rows i₀ out i = length out₀ - i
 
--- src/matrix.rt:109:5
+sub-rows : tie.Need-sub-rows Inv-loop μ-loop
+sub-rows c = omega (arith, c .before .before .before .before .before .before .pre .0 .one-more)
+
 loop-holds : tie.Need-loop-holds Inv-loop μ-loop
 loop-holds c =
     let at = c .before .before .before .before .before .before .args in (
@@ -33,43 +32,34 @@ loop-holds c =
     )
 
 bound : (c : tie.In-loop Inv-loop μ-loop) → c .before .loop .i < length (now (c .before .before .before .before .before .before .before .before .args .starts)) - 1
-bound c = omega (arith, c .loop-test .taken, c .before .loop .inv .1 .same-length, c .before .before .before .before .before .before .before .before .pre .1 .1)
+bound c = omega (arith, c .loop-test .taken, c .before .loop .inv .0, c .before .before .before .before .before .before .before .before .pre .1 .1)
 
--- src/matrix.rt:110:42
 mul-times : tie.Need-mul-times Inv-loop μ-loop
 mul-times c = omega (arith, bound c, c .before .before .before .before .before .before .before .before .pre .0 .sized)
 
--- src/matrix.rt:110:42
 shared-slice-read-times : tie.Need-shared-slice-read-times Inv-loop μ-loop
 shared-slice-read-times c = omega (arith, bound (c .before), c .before .before .before .before .before .before .before .before .before .pre .1 .2)
 
--- src/matrix.rt:110:33
 times-requires : tie.Need-times-requires Inv-loop μ-loop
 times-requires c κs = search needs
 
--- src/matrix.rt:110:18
 row-requires : tie.Need-row-requires Inv-loop μ-loop
 row-requires c κs =
     let pre = c .before .before .before .before .before .before .before .before .before .before .pre in
     (pre .0, (pre .1 .0, bound (c .before .before), pre .1 .3))
 
--- src/matrix.rt:110:9
 mul-out : tie.Need-mul-out Inv-loop μ-loop
 mul-out c = omega (arith, bound (c .before .before .before), c .before .before .before .before .before .before .before .before .before .before .before .pre .0 .sized)
 
--- src/matrix.rt:110:9
 slice-write-out : tie.Need-slice-write-out Inv-loop μ-loop
-slice-write-out c = search needs
+slice-write-out c = omega (arith, bound (c .before .before .before), c .before .before .before .before .before .before .before .before .before .before .before .pre .1 .1, c .before .before .before .before .loop .inv .1 .same-length)
 
--- src/matrix.rt:111:9
 add-i : tie.Need-add-i Inv-loop μ-loop
 add-i c = omega (arith, bound (c .before .before .before), c .before .before .before .before .before .before .before .before .before .before .before .pre .0 .sized)
 
--- src/matrix.rt:109:5
 loop-less : tie.Need-loop-less Inv-loop μ-loop
 loop-less c = omega (arith, bound (c .before .before .before), c .before .before .before .before .before .before .before .before .before .before .before .pre .1 .1)
 
--- src/matrix.rt:109:5
 loop-again : tie.Need-loop-again Inv-loop μ-loop
 loop-again c =
     let start = c .before .before .before .before .before .before .before .before .before .before .before in
@@ -83,11 +73,9 @@ loop-again c =
           ∙ ap (λ y. (y + rowProduct (matrix (now (at .starts)) (now (at .columns)) (now (at .values))) (now (at .v)) i) % at .p) (c .before .times .ensures)),
     )
 
--- src/matrix.rt:93:1
 same-length : tie.Need-same-length Inv-loop μ-loop
 same-length c = c .before .loop .inv .1 .same-length
 
--- src/matrix.rt:93:1
 returns : tie.Need-returns Inv-loop μ-loop
 returns c =
     let start = c .before .before .before .before .before .before .before .before in
@@ -105,6 +93,7 @@ step-spec =
     (tie.spec
     Inv-loop
     μ-loop
+    sub-rows
     loop-holds
     mul-times
     shared-slice-read-times

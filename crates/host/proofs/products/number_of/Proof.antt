@@ -1,0 +1,21 @@
+-- `host::products::number_of` meets its contract. Assumes nothing.
+use mathlib.Core.Path.{sym, subst}
+use Rattle.wiedemann.specs.Answers.{Writes}
+use borrow.Author.Needs.{needs}
+use Rattle.host.proofs.products.number_of.Statement.{statement}
+use Rattle.host.proofs.products.number_of.Tie as tie
+
+enum-told : tie.Need-enum-told
+enum-told c = search needs
+
+enum-known-writing : tie.Need-enum-known-writing
+enum-known-writing c = search needs
+
+returns : tie.Need-returns
+returns c number w = sym (subst (λ x. Writes x number) (c .enum-told .given .1) w)
+
+returns-2 : tie.Need-returns-2
+returns-2 c number w = sym (subst (λ x. Writes x number) (c .before .writing .given .1) w .0)
+
+pub number-of-spec : {M : Type 1} → statement M
+number-of-spec = tie.close (tie.spec enum-told enum-known-writing returns returns-2)

@@ -1,0 +1,40 @@
+-- `host::runs::filzeur_solve` meets its contract. Assumes nothing.
+use mathlib.Core.Path.{_≡_, sym, ap, _∙_}
+use Rattle.meaning.specs.Matrix.{matrix}
+use Rattle.meaning.specs.Solver.{solve}
+use Rattle.meaning.specs.Calls.{solverRefusal}
+use Rattle.host.specs.declared.runs.Verdict.{Verdict}
+use denote.Ref.{now}
+use borrow.Author.Needs.{needs}
+use Rattle.host.proofs.runs.filzeur_solve.Statement.{statement}
+use Rattle.host.proofs.runs.filzeur_solve.Tie as tie
+
+solve-requires : tie.Need-solve-requires
+solve-requires c κs = search needs
+
+numbers-of-requires : tie.Need-numbers-of-requires
+numbers-of-requires c κs = search needs
+
+same-length : tie.Need-same-length
+same-length c = search needs
+
+same-length-2 : tie.Need-same-length-2
+same-length-2 c = search needs
+
+same-length-3 : tie.Need-same-length-3
+same-length-3 c = search needs
+
+returns : tie.Need-returns
+returns c =
+    let at = c .before .before .before .before .before .before .before .before .before .before .before .before .before .before .before .before .before .before .before .args in
+    let A = matrix (now (at .starts)) (now (at .columns)) (now (at .values)) in
+    let number = solverRefusal (at .p) A (now (at .b)) (now (at .words)) (now (at .vector)) (now (at .polynomial)) (now (at .work)) in
+    let done = c .before .before .before .before .before .before .before .solve .ensures in
+    let e = c .numbers-of .ensures number (solve (at .p) A (now (at .b)) (now (at .words))) (done .says) in
+    let refusal : c .numbers-of .result .refusal ≡ number = ap (λ (v : Verdict). v .refusal) e in
+    (e, (done .vector-after, (done .polynomial-after, (λ q. done .kept (λ z. q (refusal ∙ z)), λ q. done .condition (sym refusal ∙ q)))))
+
+pub filzeur-solve-spec : {M : Type 1} → statement M
+filzeur-solve-spec =
+    tie.close
+    (tie.spec solve-requires numbers-of-requires same-length same-length-2 same-length-3 returns)

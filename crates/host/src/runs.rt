@@ -1,0 +1,84 @@
+// The solver.
+use field::Field;
+use wiedemann::solver::Counts;
+use wiedemann::solver::solve;
+ghost use mathlib.Core.Path.{_≡_};
+ghost use mathlib.Core.Logic.{_≢_};
+ghost use Prim.Native.Nat.{ℕ};
+ghost use Rattle.meaning.specs.Matrix.{matrix};
+ghost use Rattle.meaning.specs.Solver.{Outcome};
+ghost use Rattle.meaning.specs.Solver as meaning;
+ghost use Rattle.meaning.specs.ThirdCondition.{ThirdCondition};
+ghost use Rattle.meaning.specs.Calls.{solverRefusal, vectorAfter, polynomialAfter};
+ghost use Rattle.wiedemann.specs.Verdict.{Says};
+ghost use Rattle.host.specs.Answers.{verdictOf};
+
+#[repr(C)]
+pub struct Verdict {
+    pub refusal: u32,
+    // 1 solved, 2 singular
+    pub kind: u32,
+    pub degree: u64,
+    pub passes: u64,
+    pub applications: u64,
+}
+
+// What a run that was not refused answers.
+fn counted(kind: u32, c: Counts) -> Verdict
+    ensures { λ r. ⌜ r ≡ record { refusal = 0; kind = kind; degree = c .degree; passes = c .passes; applications = c .applications } ⌝ }
+{
+    Verdict {
+        refusal: 0,
+        kind,
+        degree: c.degree as u64,
+        passes: c.passes,
+        applications: c.applications,
+    }
+}
+
+fn numbers_of(verdict: wiedemann::solver::Verdict) -> Verdict
+    ensures { λ r. ⌜ ((number : ℕ) (o : Outcome) → Says verdict number o → r ≡ verdictOf number o) ⌝ }
+{
+    match verdict {
+        wiedemann::solver::Verdict::Solved(c) => counted(1, c),
+        wiedemann::solver::Verdict::Singular(c) => counted(2, c),
+        wiedemann::solver::Verdict::Refused(refusal) => Verdict {
+            refusal,
+            kind: 0,
+            degree: 0,
+            passes: 0,
+            applications: 0,
+        },
+    }
+}
+
+#[no_mangle]
+pub extern "C" fn filzeur_solve(
+    p: u32,
+    starts: &[u32],
+    columns: &[u32],
+    values: &[u32],
+    b: &[u32],
+    words: &[u32],
+    vector: &mut [u32],
+    polynomial: &mut [u32],
+    work: &mut [u32],
+) -> Verdict
+    ensures { λ r. ⌜ r ≡ verdictOf (solverRefusal p (matrix (now (starts .entry)) (now (columns .entry)) (now (values .entry))) (now (b .entry)) (now (words .entry)) (now (vector .entry)) (now (polynomial .entry)) (now (work .entry))) (meaning.solve p (matrix (now (starts .entry)) (now (columns .entry)) (now (values .entry))) (now (b .entry)) (now (words .entry))) ⌝ }
+    ensures { λ _. ⌜ now (vector .exit) ≡ vectorAfter p (matrix (now (starts .entry)) (now (columns .entry)) (now (values .entry))) (now (b .entry)) (now (words .entry)) (now (vector .entry)) (now (polynomial .entry)) (now (work .entry)) ⌝ }
+    ensures { λ _. ⌜ now (polynomial .exit) ≡ polynomialAfter p (matrix (now (starts .entry)) (now (columns .entry)) (now (values .entry))) (now (b .entry)) (now (words .entry)) (now (vector .entry)) (now (polynomial .entry)) (now (work .entry)) ⌝ }
+    ensures { λ r. ⌜ (r .refusal ≢ 0 → now (work .exit) ≡ now (work .entry)) ⌝ }
+    ensures { λ r. ⌜ (r .refusal ≡ 0 → ThirdCondition p (matrix (now (starts .entry)) (now (columns .entry)) (now (values .entry))) (now (b .entry)) (now (words .entry)) (meaning.solve p (matrix (now (starts .entry)) (now (columns .entry)) (now (values .entry))) (now (b .entry)) (now (words .entry)))) ⌝ }
+{
+    numbers_of(solve(
+        Field { p },
+        starts,
+        columns,
+        values,
+        b,
+        words,
+        vector,
+        polynomial,
+        work,
+    ))
+}

@@ -1,0 +1,187 @@
+#!/usr/bin/env python3
+"""Calls for system_text_test: writes stdin and stdout beside this file. What is to be printed comes from the reference in Python, which
+another hand wrote from the paper.
+
+  vectors.py FOLDER      FOLDER holds reference.py
+
+src/main.rt says what a call looks like."""
+import os
+import random
+import sys
+
+here = os.path.dirname(os.path.abspath(__file__))
+sys.path.insert(0, sys.argv[1])
+import reference as ref  # noqa: E402
+
+cases, lines = [], []
+ROOM = {'s': (20, 20, 20, 20), '0': (4, 2, 2, 3), '1': (3, 2, 2, 3), '2': (4, 1, 2, 3), '3': (4, 2, 1, 3), '4': (4, 2, 2, 2), 'l': (4097, 65536, 65536, 4096)}
+MARK, MARK_BYTE = 7777, 77
+
+
+def hashed(a):
+    h = 0
+    for x in a:
+        h = (h * 31 + x + 1) % 1000003
+    return h
+
+
+def three(k):
+    return bytes([k >> 16 & 255, k >> 8 & 255, k & 255])
+
+
+def record(letter, data, lengths, line, unit=0, to=0):
+    cases.append(letter + b''.join(three(k) for k in (len(data),) + lengths + (unit, to)) + data)
+    lines.append(' '.join(str(x) for x in line) + ' \n')
+
+
+def read(text, room='s', data=None, unit=0):
+    slices = [[MARK] * k for k in ROOM[room]]
+    got = ref.read_system(text, *slices)
+    if got[0] == 'refused':
+        answer = [got[1]]
+    else:
+        answer, slices = [0] + list(got[1:4]), list(got[4:8])
+    line = answer + [hashed(a) for a in slices]
+    if data is None:
+        record(b'r', text, ROOM[room] + (0,), line)
+    else:
+        record(b'r', data, ROOM[room] + (0,), line, unit, len(text) - 4)
+    return got
+
+
+def write(p, starts, columns, values, b, size, letter=b'w'):
+    numbers = [p] + (starts + columns + values + b if letter == b'w' else [])
+    data = b''.join(x.to_bytes(4, 'big') for x in numbers)
+    out = bytes([MARK_BYTE]) * size
+    got = ref.write_system(p, starts, columns, values, b, out)
+    if got[0] == 'refused':
+        answer = [got[1]]
+    else:
+        answer, out = [0, got[1]], got[2]
+    record(letter, data, (len(starts), len(columns), len(values), len(b), size), answer + [hashed(out)])
+    return got
+
+
+def text_of(p, n, k, a, b, end='end\n'):
+    rows = [('system', p, n, k)] + [('a',) + e for e in a] + [('b',) + e for e in b]
+    return (''.join('\t'.join(str(x) for x in r) + '\n' for r in rows) + end).encode()
+
+
+def system_cases():
+    good = text_of(7, 2, 3, [(1, 1, 2), (1, 2, 1), (2, 2, 3)], [(1, 1), (2, 1)])
+    small = text_of(11, 3, 2, [(1, 2, 10), (3, 3, 4)], [(2, 5)])
+    for t in (good, small, text_of(2, 1, 0, [], []), text_of(2147483647, 3, 1, [(2, 3, 2147483646)], [(3, 1)])):
+        read(t)
+    # each byte changed, dropped, doubled
+    for t in (small, good):
+        for i in range(len(t)):
+            read(t[:i] + t[i + 1:])
+            read(t[:i] + t[i:i + 1] + t[i:])
+            for c in b'\t\n 0159absex\x00\xff':
+                if c != t[i]:
+                    read(t[:i] + bytes([c]) + t[i + 1:])
+    for i in range(len(good)):
+        read(good[:i])
+    # forms
+    for t in (b'', b'\n', b'end\n', good + b'\n', good + b'end\n', good[:-1], good.replace(b'end\n', b''), good.replace(b'\n', b'\r\n'),
+              good.replace(b'\t', b' '), good.replace(b'a\t1\t1', b'a\t01\t1'), good.replace(b'a\t1\t1', b'a\t1\t00'), good.replace(b'a\t1\t1', b'a\t+1\t1'),
+              text_of(7, 2, 0, [], [(1, 0)]), text_of(7, 2, 0, [], [(1, '')]), text_of(4294967295, 2, 0, [], []), text_of(4294967296, 2, 0, [], []),
+              text_of(7, 4294967296, 0, [], []), text_of(7, 2, 4294967296, [], []), text_of(7, 42949672950, 0, [], []), text_of('00', 2, 0, [], []),
+              text_of(7, 2, 0, [], [], 'END\n'), text_of(7, 2, 0, [], [], 'end \n'), text_of(7, 2, 0, [], [], 'end\t1\n'), good + good):
+        read(t)
+    # b before a, two headers
+    read(b'system\t7\t2\t1\nb\t1\t1\na\t1\t1\t2\nend\n')
+    read(b'system\t7\t2\t1\nsystem\t7\t2\t1\na\t1\t1\t2\nend\n')
+    # each refusal, and the order where two apply
+    faults = {
+        2: lambda d: d.update(end='end'),
+        3: lambda d: d.update(p=8),
+        4: lambda d: d.update(n=4097),
+        5: lambda d: d.update(k=9),
+        6: lambda d: d.update(a=[(1, 2, 1), (1, 2, d['a'][1][2])]),
+        7: lambda d: d.update(a=[d['a'][0], (d['a'][1][0], d['a'][1][1], 7)]),
+    }
+    for i in faults:
+        for j in faults:
+            d = dict(p=7, n=3, k=2, a=[(1, 1, 1), (2, 3, 5)], b=[(1, 6)], end='end\n')
+            faults[i](d)
+            faults[j](d)
+            read(text_of(d['p'], d['n'], d['k'], d['a'], d['b'], d['end']))
+            read(text_of(d['p'], d['n'], d['k'], d['a'], d['b'], d['end']), '1')
+    for p in (0, 1, 2, 3, 4, 9, 2147483646, 2147483647, 2147483648, 4294967291):
+        read(text_of(p, 1, 0, [], []))
+    for n in (0, 1, 4096, 4097, 4294967295):
+        read(text_of(5, n, 0, [], []), 'l')
+    for a in ([(0, 1, 1)], [(4, 1, 1)], [(1, 0, 1)], [(1, 4, 1)], [(1, 1, 0)], [(1, 1, 5)], [(2, 1, 1), (1, 1, 1)], [(1, 2, 1), (1, 1, 1)],
+              [(1, 1, 1), (1, 1, 1)], [(1, 3, 1), (2, 1, 1)]):
+        read(text_of(5, 3, len(a), a, []))
+        read(text_of(5, 3, len(a) + 1, a, []))
+    for b in ([(0, 1)], [(4, 1)], [(1, 0)], [(1, 5)], [(2, 1), (1, 1)], [(1, 1), (1, 1)], [(1, 4), (3, 4)]):
+        read(text_of(5, 3, 0, [], b))
+    # the room
+    for room in ('s', '0', '1', '2', '3', '4'):
+        read(small, room)
+
+
+def random_systems(rng):
+    for p in (2, 3, 7, 65537, 2147483647):
+        for n in (1, 2, 5, 40):
+            density = rng.random()
+            a = [(i, j, rng.randrange(1, p)) for i in range(1, n + 1) for j in range(1, n + 1) if rng.random() < density][:1500]
+            b = [(i, rng.randrange(1, p)) for i in range(1, n + 1) if rng.random() < 0.7]
+            got = read(text_of(p, n, len(a), a, b), 'l')
+            k = got[3]
+            starts, columns, values, right = got[4][:n + 1], got[5][:k], got[6][:k], got[7][:n]
+            size = len(text_of(p, n, len(a), a, b))
+            for room in (size, size - 1, size + 5, 0):
+                write(p, starts, columns, values, right, room, b'b')
+
+
+def writer_cases():
+    good = (7, [0, 2, 3], [0, 1, 1], [2, 1, 3], [1, 0])
+    for room in (0, 40, 100):
+        write(*good, room)
+    bad = [
+        (8,) + good[1:], (7, [], [], [], []), (7, [0], [], [], []), (7, [0, 2, 1], [0], [1], [0, 0]), (7, [1, 2, 3]) + good[2:],
+        (7, [0, 2, 4]) + good[2:], (7, [0, 2, 3], [0, 1, 1], [2, 1], [1, 0]), (7, [0, 2, 3], [0, 2, 1], [2, 1, 3], [1, 0]),
+        (7, [0, 2, 3], [1, 1, 1], [2, 1, 3], [1, 0]), (7, [0, 2, 3], [0, 1, 1], [2, 0, 3], [1, 0]), (7, [0, 2, 3], [0, 1, 1], [2, 7, 3], [1, 0]),
+        good[:4] + ([1],), good[:4] + ([1, 0, 0],), good[:4] + ([1, 7],), (8, [0, 2, 1], [5], [0], [9]), (7, [0, 2, 1], [5], [0], [9]),
+        (7, [0, 1, 1], [5], [0], [9]), (7, [0, 1, 1], [1], [0], [9]), (7, [0, 1, 1], [1], [1], [9]), (7, [0, 1, 1], [1], [1], [9, 9]),
+    ]
+    for s in bad:
+        write(*s, 0)
+        write(*s, 200)
+
+
+def longest():
+    p = 7
+    a = [(i, j, 1 + (i * 5 + j) % 6) for i in range(1, 4097) for j in range(i % 9 + 1, i % 9 + 17)]
+    b = [(i, 1 + i % 6) for i in range(1, 4097)]
+    got = read(text_of(p, 4096, len(a), a, b), 'l')
+    assert got[0] == 'ok' and got[3] == 65536
+    write(p, got[4], got[5], got[6], got[7], len(text_of(p, 4096, len(a), a, b)), b'b')
+
+
+def repeated(first, unit, count, number):
+    """A text of a first line, a line many times and `end`."""
+    got = read(first + unit * count + b'end\n', 'l', first + unit, len(unit))
+    assert got == ('refused', number), got
+
+
+def limits():
+    # 65,536 entries are taken, one more gets 5, before the places (6) are looked at
+    repeated(b'system\t7\t1\t65536\n', b'a\t1\t1\t1\n', 65536, 6)
+    repeated(b'system\t7\t1\t65537\n', b'a\t1\t1\t1\n', 65537, 5)
+    # 2,097,152 bytes are read, one more gets 2
+    repeated(b'system\t7\t4096\t0\n', b'b\t1\t1\n', 349522, 6)
+    repeated(b'system\t11\t4096\t0\n', b'b\t1\t1\n', 349522, 2)
+
+
+system_cases()
+writer_cases()
+limits()
+random_systems(random.Random(8))
+longest()
+print(sum(len(c) for c in cases), 'bytes', len(cases), 'calls')
+open(os.path.join(here, 'stdin'), 'wb').write(b''.join(cases))
+open(os.path.join(here, 'stdout'), 'w').write(''.join(lines))
