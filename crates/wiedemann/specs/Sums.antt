@@ -1,7 +1,7 @@
 -- Sums of words in two words (src/sums.rt), and sums by ranges.
 --     number           the number that a total stands for
 --     add-number       a word added: the lower word's sum, and its carry in the higher
---     fold-number      the higher word taken at its weight 2⁶⁴ % p, twice
+--     fold-number      the higher word taken at a weight that is 2⁶⁴ modulo p, twice
 --     high-fits, fold-fits      each step of that fits a word
 --     sumFrom-empty, sumFrom-suc, sumFrom-next      sums over a range: nothing, and one more at its end
 --     sumFrom-split    a range as two
@@ -29,14 +29,15 @@ pub add-number : (low high x s r : ℕ) → s + r * 18446744073709551616 ≡ low
     → s + (high + r) * 18446744073709551616 ≡ low + high * 18446744073709551616 + x
 add-number low high x s r e = omega (arith, e)
 
-pub fold-number : (p low high weight s r : ℕ) → weight ≡ 18446744073709551616 % p → s + r * 18446744073709551616 ≡ low + high * weight
+pub fold-number : (p low high weight s r : ℕ) → weight % p ≡ 18446744073709551616 % p → s + r * 18446744073709551616 ≡ low + high * weight
     → (s + r * weight) % p ≡ (low + high * 18446744073709551616) % p
 fold-number p low high weight s r w e = down s r ∙ ap (λ x. x % p) e ∙ down low high
   where
     down : (a b : ℕ) → (a + b * weight) % p ≡ (a + b * 18446744073709551616) % p
     down a b =
-        ap (λ x. (a + b * x) % p) w ∙ sym (add-mod-mod a (b * (18446744073709551616 % p)) p)
-        ∙ ap (λ x. (a + x) % p) (mul-mod-mod b 18446744073709551616 p) ∙ add-mod-mod a (b * 18446744073709551616) p
+        sym (add-mod-mod a (b * weight) p)
+        ∙ ap (λ x. (a + x) % p) (sym (mul-mod-mod b weight p) ∙ ap (λ x. b * x % p) w ∙ mul-mod-mod b 18446744073709551616 p)
+        ∙ add-mod-mod a (b * 18446744073709551616) p
 
 pub high-fits : (high weight : ℕ) → high < 4294967296 → weight < 4294967296 → high * weight + weight < 18446744073709551616
 high-fits high weight b w =

@@ -6,7 +6,6 @@
 --     set-table        a table with one place stored anew
 --     scattered-none, scattered-more      no entry, and one entry more
 --     vector-scattered, vector-gathered      what is reduced is below p
---     wrapped-cases, wrapped-fits, wrapped-mod      a remainder without a branch: s − p wrapped, and p again by its top bit
 --     gathered         the transposed product of the first i rows
 --     gathered-none, gathered-more, gathered-all      no row, one row more, all of them
 use mathlib.Core.Path.{_≡_, refl, sym, ap, ap₂, _∙_, subst}
@@ -98,31 +97,6 @@ module _ (p c : ℕ) (columns values : List ℕ) where
             λ i k. rw (getD-table (length v) (scatteredAt p c a b columns values v) i 0 (omega (arith, e)))
             (mod-lt (at v i + sumFrom a b (hit columns values c i)) l);
       }
-
--- ---- a remainder without a branch
-
--- d is s − p, which wraps if s is below p: its top bit is then set
-pub wrapped-cases : (p s d : ℕ) → s < p + p → p ≤ 2147483647 → d < 4294967296 → (d + p) % 4294967296 ≡ s
-    → ((s < p) × (d / 2147483648 ≡ 1)) ⊎ ((d ≡ s - p) × (p ≤ s) × (d / 2147483648 ≡ 0))
-wrapped-cases p s d l h k e = go (decLt s p)
-  where
-    go : Dec (s < p) → ((s < p) × (d / 2147483648 ≡ 1)) ⊎ ((d ≡ s - p) × (p ≤ s) × (d / 2147483648 ≡ 0))
-    go (yes m) = inl (m, omega (arith, l, h, k, e, m))
-    go (no m) =
-        let same : d ≡ s - p = omega (arith, l, h, k, e, m) in
-        inr (same, omega arith, omega (arith, same, l, h))
-
-pub wrapped-fits : (p d : ℕ) → p ≤ 2147483647 → d < 4294967296 → d / 2147483648 * p ≤ 2147483647
-wrapped-fits p d h k =
-    let bit : d / 2147483648 ≤ 1 = omega (arith, k) in
-    omega (arith, mul-le-mul {n₁ = d / 2147483648} {m₁ = p} {n₂ = 1} {m₂ = 2147483647} bit h)
-
-pub wrapped-mod : (p s d : ℕ) → s < p + p → p ≤ 2147483647 → d < 4294967296 → (d + p) % 4294967296 ≡ s
-    → (d + d / 2147483648 * p) % 4294967296 ≡ s % p
-wrapped-mod p s d l h k e =
-    ⊎-elim (λ c. ap (λ x. (d + x * p) % 4294967296) (c .1) ∙ ap (λ x. (d + x) % 4294967296) (one-mul p) ∙ e ∙ sym (mod-eq-of-lt (c .0)))
-    (λ c. ap (λ x. (d + x * p) % 4294967296) (c .2) ∙ ap (λ x. (d + x) % 4294967296) (zero-mul p) ∙ ap (λ x. x % 4294967296) (add-zero d)
-    ∙ mod-eq-of-lt k ∙ c .0 ∙ sym (mod-eq-sub s p (c .1) l)) (wrapped-cases p s d l h k e)
 
 -- ---- row after row
 

@@ -14,17 +14,16 @@ ghost use Rattle.wiedemann.specs.Written.{Written};
 ghost use Rattle.wiedemann.specs.Region.{part, Regions};
 ghost use Rattle.wiedemann.specs.Transposed.{scattered};
 ghost use Rattle.wiedemann.specs.Answers.{Writes};
+use crate::scale::added;
 use crate::scale::quotient;
 use crate::scale::scaled;
 use crate::sums::Total;
+use crate::sums::reciprocal;
 use crate::sums::times;
-use crate::sums::weight;
 use checks::apply_refusal;
 use checks::product_refusal;
 use checks::wide;
 use field::Field;
-use std::num::wrapping_add_u32;
-use std::num::wrapping_sub_u32;
 
 // The product of entry k's value with the element of v at its column.
 fn entry(k: usize, columns: &[u32], values: &[u32], v: &[u32]) -> u64
@@ -81,7 +80,7 @@ fn ones(total: Total, from: usize, to: usize, columns: &[u32], values: &[u32], v
 // start plus the product of row i with v, modulo p: element i of Av if start is 0. One reduction for a row.
 pub(crate) fn row(
     p: u32,
-    weight: u64,
+    reciprocal: u64,
     start: u64,
     i: usize,
     starts: &[u32],
@@ -90,7 +89,7 @@ pub(crate) fn row(
     v: &[u32],
 ) -> u32
     requires { ⌜ Valid p (matrix (now starts) (now columns) (now values)) ⌝ }
-    requires { ⌜ (weight ≡ 18446744073709551616 % p) × (i < length (now starts) - 1) × Vector p (length (now starts) - 1) (now v) ⌝ }
+    requires { ⌜ (reciprocal ≡ 18446744073709551615 / p) × (i < length (now starts) - 1) × Vector p (length (now starts) - 1) (now v) ⌝ }
     ensures { λ r. ⌜ r ≡ (start + rowProduct (matrix (now (starts .entry)) (now (columns .entry)) (now (values .entry))) (now (v .entry)) i) % p ⌝ }
 {
     let from = wide(starts[i]);
@@ -101,13 +100,13 @@ pub(crate) fn row(
         high: 0,
     };
     let most = fours(total, from, middle, columns, values, v);
-    ones(most, middle, to, columns, values, v).residue(p, weight)
+    ones(most, middle, to, columns, values, v).residue(p, reciprocal)
 }
 
 // Horner's step: c × x plus the product with v, into out. It is the product if c is 0.
 pub(crate) fn step(
     p: u32,
-    weight: u64,
+    reciprocal: u64,
     c: u32,
     x: &[u32],
     starts: &[u32],
@@ -117,13 +116,13 @@ pub(crate) fn step(
     out: &mut [u32],
 )
     requires { ⌜ Valid p (matrix (now starts) (now columns) (now values)) ⌝ }
-    requires { ⌜ (weight ≡ 18446744073709551616 % p) × (length (now out) ≡ length (now starts) - 1) × (length (now x) ≡ length (now starts) - 1) × Vector p (length (now starts) - 1) (now v) ⌝ }
+    requires { ⌜ (reciprocal ≡ 18446744073709551615 / p) × (length (now out) ≡ length (now starts) - 1) × (length (now x) ≡ length (now starts) - 1) × Vector p (length (now starts) - 1) (now v) ⌝ }
     ensures { λ r. ⌜ now (out .exit) ≡ step p (matrix (now (starts .entry)) (now (columns .entry)) (now (values .entry))) c (now (x .entry)) (now (v .entry)) ⌝ }
 {
     let rows = starts.len() - 1;
     let mut i = 0;
     while i < rows {
-        out[i] = row(p, weight, times(c, x[i]), i, starts, columns, values, v);
+        out[i] = row(p, reciprocal, times(c, x[i]), i, starts, columns, values, v);
         i += 1;
     }
 }
@@ -131,7 +130,7 @@ pub(crate) fn step(
 // The row with the part of `work` from `source` on.
 fn row_within(
     p: u32,
-    weight: u64,
+    reciprocal: u64,
     start: u64,
     i: usize,
     starts: &[u32],
@@ -141,13 +140,13 @@ fn row_within(
     source: usize,
 ) -> u32
     requires { ⌜ Valid p (matrix (now starts) (now columns) (now values)) ⌝ }
-    requires { ⌜ (weight ≡ 18446744073709551616 % p) × (i < length (now starts) - 1) × (source + (length (now starts) - 1) ≤ length (now work)) × Vector p (length (now starts) - 1) (part source (length (now starts) - 1) (now work)) ⌝ }
+    requires { ⌜ (reciprocal ≡ 18446744073709551615 / p) × (i < length (now starts) - 1) × (source + (length (now starts) - 1) ≤ length (now work)) × Vector p (length (now starts) - 1) (part source (length (now starts) - 1) (now work)) ⌝ }
     ensures { λ r. ⌜ r ≡ (start + rowProduct (matrix (now (starts .entry)) (now (columns .entry)) (now (values .entry))) (part source (length (now (starts .entry)) - 1) (now (work .entry))) i) % p ⌝ }
 {
     let end = source + (starts.len() - 1);
     row(
         p,
-        weight,
+        reciprocal,
         start,
         i,
         starts,
@@ -160,7 +159,7 @@ fn row_within(
 // Horner's step within one slice: c × the part from `origin` on plus the product with the part from `source` on, into the part from `target` on.
 pub(crate) fn step_within(
     p: u32,
-    weight: u64,
+    reciprocal: u64,
     c: u32,
     starts: &[u32],
     columns: &[u32],
@@ -171,14 +170,24 @@ pub(crate) fn step_within(
     target: usize,
 )
     requires { ⌜ Valid p (matrix (now starts) (now columns) (now values)) ⌝ }
-    requires { ⌜ (weight ≡ 18446744073709551616 % p) × Regions p (length (now starts) - 1) origin source target (now work) ⌝ }
+    requires { ⌜ (reciprocal ≡ 18446744073709551615 / p) × Regions p (length (now starts) - 1) origin source target (now work) ⌝ }
     ensures { λ r. ⌜ Written (now (work .entry)) target (length (now (starts .entry)) - 1) (stepAt p (matrix (now (starts .entry)) (now (columns .entry)) (now (values .entry))) c (part origin (length (now (starts .entry)) - 1) (now (work .entry))) (part source (length (now (starts .entry)) - 1) (now (work .entry)))) (now (work .exit)) ⌝ }
 {
     let n = starts.len() - 1;
     let mut i = 0;
     while i < n {
         let start = times(c, work[origin + i]);
-        work[target + i] = row_within(p, weight, start, i, starts, columns, values, work, source);
+        work[target + i] = row_within(
+            p,
+            reciprocal,
+            start,
+            i,
+            starts,
+            columns,
+            values,
+            work,
+            source,
+        );
         i += 1;
     }
 }
@@ -211,7 +220,7 @@ fn copy_front(v: &[u32], work: &mut [u32])
 // The step from the front of work.
 fn step_from(
     p: u32,
-    weight: u64,
+    reciprocal: u64,
     c: u32,
     x: &[u32],
     starts: &[u32],
@@ -221,18 +230,28 @@ fn step_from(
     out: &mut [u32],
 )
     requires { ⌜ Valid p (matrix (now starts) (now columns) (now values)) ⌝ }
-    requires { ⌜ (weight ≡ 18446744073709551616 % p) × (length (now out) ≡ length (now starts) - 1) × (length (now x) ≡ length (now starts) - 1) × (length (now out) ≤ length (now work)) × Vector p (length (now starts) - 1) (part 0 (length (now starts) - 1) (now work)) ⌝ }
+    requires { ⌜ (reciprocal ≡ 18446744073709551615 / p) × (length (now out) ≡ length (now starts) - 1) × (length (now x) ≡ length (now starts) - 1) × (length (now out) ≤ length (now work)) × Vector p (length (now starts) - 1) (part 0 (length (now starts) - 1) (now work)) ⌝ }
     ensures { λ r. ⌜ now (out .exit) ≡ step p (matrix (now (starts .entry)) (now (columns .entry)) (now (values .entry))) c (now (x .entry)) (part 0 (length (now (starts .entry)) - 1) (now (work .entry))) ⌝ }
 {
     let z: usize = 0;
     let n = out.len();
-    step(p, weight, c, x, starts, columns, values, &work[z..n], out);
+    step(
+        p,
+        reciprocal,
+        c,
+        x,
+        starts,
+        columns,
+        values,
+        &work[z..n],
+        out,
+    );
 }
 
 // out becomes c × x plus the product with out.
 fn turn(
     p: u32,
-    weight: u64,
+    reciprocal: u64,
     c: u32,
     x: &[u32],
     starts: &[u32],
@@ -242,17 +261,17 @@ fn turn(
     work: &mut [u32],
 )
     requires { ⌜ Valid p (matrix (now starts) (now columns) (now values)) ⌝ }
-    requires { ⌜ (weight ≡ 18446744073709551616 % p) × (length (now x) ≡ length (now starts) - 1) × (length (now out) ≤ length (now work)) × Vector p (length (now starts) - 1) (now out) ⌝ }
+    requires { ⌜ (reciprocal ≡ 18446744073709551615 / p) × (length (now x) ≡ length (now starts) - 1) × (length (now out) ≤ length (now work)) × Vector p (length (now starts) - 1) (now out) ⌝ }
     ensures { λ r. ⌜ now (out .exit) ≡ step p (matrix (now (starts .entry)) (now (columns .entry)) (now (values .entry))) c (now (x .entry)) (now (out .entry)) ⌝ }
 {
     copy_front(out, work);
-    step_from(p, weight, c, x, starts, columns, values, work, out);
+    step_from(p, reciprocal, c, x, starts, columns, values, work, out);
 }
 
 // g(A)v into out by Horner's rule: k − 1 products for k coefficients.
 pub(crate) fn horner(
     p: u32,
-    weight: u64,
+    reciprocal: u64,
     starts: &[u32],
     columns: &[u32],
     values: &[u32],
@@ -262,14 +281,14 @@ pub(crate) fn horner(
     work: &mut [u32],
 )
     requires { ⌜ Valid p (matrix (now starts) (now columns) (now values)) ⌝ }
-    requires { ⌜ (weight ≡ 18446744073709551616 % p) × (length (now out) ≡ length (now starts) - 1) × (length (now out) ≤ length (now work)) × Vector p (length (now starts) - 1) (now v) × (0 < length (now g)) × Vector p (length (now g)) (now g) ⌝ }
+    requires { ⌜ (reciprocal ≡ 18446744073709551615 / p) × (length (now out) ≡ length (now starts) - 1) × (length (now out) ≤ length (now work)) × Vector p (length (now starts) - 1) (now v) × (0 < length (now g)) × Vector p (length (now g)) (now g) ⌝ }
     ensures { λ r. ⌜ now (out .exit) ≡ apply p (matrix (now (starts .entry)) (now (columns .entry)) (now (values .entry))) (now (g .entry)) (now (v .entry)) ⌝ }
 {
     let mut i = g.len() - 1;
     multiple(p, g[i], v, out);
     while 0 < i {
         i -= 1;
-        turn(p, weight, g[i], v, starts, columns, values, out, work);
+        turn(p, reciprocal, g[i], v, starts, columns, values, out, work);
     }
 }
 
@@ -282,33 +301,6 @@ fn clear(out: &mut [u32])
         out[i] = 0;
         i += 1;
     }
-}
-
-// s modulo p for s below 2p: the top bit of s − p, which wraps if s is below p, says whether p is added again. Arithmetic and no `if`, which would
-// be an unpredictable branch for each entry.
-fn folded(p: u32, s: u32) -> u32
-    requires { ⌜ (s < p + p) × (p ≤ 2147483647) ⌝ }
-    ensures { λ r. ⌜ r ≡ s % p ⌝ }
-{
-    let d = wrapping_sub_u32(s, p);
-    wrapping_add_u32(d, d / 2147483648 * p)
-}
-
-// c × x, with c's quotient w: below 2p, and right modulo p.
-fn near(p: u32, c: u32, w: u32, x: u32) -> u32
-    requires { ⌜ (c < p) × (p ≤ 2147483647) × (w ≡ c * 4294967296 / p) ⌝ }
-    ensures { λ r. ⌜ (r < p + p) × (r % p ≡ times p c x) ⌝ }
-{
-    let h = (w as u64) * (x as u64) / 4294967296;
-    ((c as u64) * (x as u64) - h * (p as u64)) as u32
-}
-
-// y + c × x modulo p, with c's quotient w.
-fn added(p: u32, c: u32, w: u32, x: u32, y: u32) -> u32
-    requires { ⌜ (c < p) × (p ≤ 2147483647) × (w ≡ c * 4294967296 / p) × (y < p) ⌝ }
-    ensures { λ r. ⌜ r ≡ plus p y (times p c x) ⌝ }
-{
-    folded(p, y + folded(p, near(p, c, w, x)))
 }
 
 // c × the value of each entry added to out at its column: the product with one element of a row, all of whose entries share c's quotient.
@@ -379,7 +371,7 @@ pub fn product(
     if number != 0 {
         return Writing::Refused(number);
     }
-    step(p, weight(p), 0, v, starts, columns, values, v, out);
+    step(p, reciprocal(p), 0, v, starts, columns, values, v, out);
     Writing::Done
 }
 
@@ -424,6 +416,6 @@ pub fn apply(
     if number != 0 {
         return Writing::Refused(number);
     }
-    horner(p, weight(p), starts, columns, values, g, v, out, work);
+    horner(p, reciprocal(p), starts, columns, values, g, v, out, work);
     Writing::Done
 }

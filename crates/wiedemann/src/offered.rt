@@ -1,11 +1,11 @@
 // Two checks of a vector that anyone offers: does A take x to b, and is w not zero and taken to zero. Neither needs the solver.
 use crate::matrix::row;
-use crate::sums::weight;
+use crate::sums::reciprocal;
 use checks::system_refusal;
 use checks::takes_refusal;
 use field::Field;
 ghost use mathlib.Core.Path.{_≡_};
-ghost use Prim.Native.Nat.{_-_, _%_, _<_};
+ghost use Prim.Native.Nat.{_-_, _/_, _%_, _<_};
 ghost use lib.Dec.{eqb};
 ghost use lib.ListN.{length};
 ghost use Rattle.meaning.specs.List.{at, all, isZero};
@@ -32,7 +32,7 @@ fn element(b: &[u32], i: usize) -> u32
 // Every element of Ax is that of b, which has zeros after its end.
 fn agrees(
     p: u32,
-    weight: u64,
+    reciprocal: u64,
     starts: &[u32],
     columns: &[u32],
     values: &[u32],
@@ -40,13 +40,13 @@ fn agrees(
     b: &[u32],
 ) -> bool
     requires { ⌜ Valid p (matrix (now starts) (now columns) (now values)) ⌝ }
-    requires { ⌜ (weight ≡ 18446744073709551616 % p) × Vector p (length (now starts) - 1) (now x) ⌝ }
+    requires { ⌜ (reciprocal ≡ 18446744073709551615 / p) × Vector p (length (now starts) - 1) (now x) ⌝ }
     ensures { λ r. ⌜ r ≡ all (length (now (starts .entry)) - 1) (λ i. eqb (at (product p (matrix (now (starts .entry)) (now (columns .entry)) (now (values .entry))) (now (x .entry))) i) (at (now (b .entry)) i)) ⌝ }
 {
     let n = starts.len() - 1;
     let mut i = 0;
     while i < n {
-        if row(p, weight, 0, i, starts, columns, values, x) != element(b, i) {
+        if row(p, reciprocal, 0, i, starts, columns, values, x) != element(b, i) {
             return false;
         }
         i += 1;
@@ -55,13 +55,20 @@ fn agrees(
 }
 
 // A takes w to zero.
-fn vanishes(p: u32, weight: u64, starts: &[u32], columns: &[u32], values: &[u32], w: &[u32]) -> bool
+fn vanishes(
+    p: u32,
+    reciprocal: u64,
+    starts: &[u32],
+    columns: &[u32],
+    values: &[u32],
+    w: &[u32],
+) -> bool
     requires { ⌜ Valid p (matrix (now starts) (now columns) (now values)) ⌝ }
-    requires { ⌜ (weight ≡ 18446744073709551616 % p) × Vector p (length (now starts) - 1) (now w) ⌝ }
+    requires { ⌜ (reciprocal ≡ 18446744073709551615 / p) × Vector p (length (now starts) - 1) (now w) ⌝ }
     ensures { λ r. ⌜ r ≡ isZero (product p (matrix (now (starts .entry)) (now (columns .entry)) (now (values .entry))) (now (w .entry))) ⌝ }
 {
     let n = w.len();
-    agrees(p, weight, starts, columns, values, w, &w[n..])
+    agrees(p, reciprocal, starts, columns, values, w, &w[n..])
 }
 
 fn is_zero(w: &[u32]) -> bool
@@ -93,7 +100,7 @@ pub fn takes(
     if number != 0 {
         return Verdict::Refused(number);
     }
-    if agrees(p, weight(p), starts, columns, values, x, b) {
+    if agrees(p, reciprocal(p), starts, columns, values, x, b) {
         Verdict::Yes
     } else {
         Verdict::No
@@ -112,7 +119,7 @@ pub fn is_null(field: Field, starts: &[u32], columns: &[u32], values: &[u32], w:
     if is_zero(w) {
         return Verdict::No;
     }
-    if vanishes(p, weight(p), starts, columns, values, w) {
+    if vanishes(p, reciprocal(p), starts, columns, values, w) {
         Verdict::Yes
     } else {
         Verdict::No

@@ -3,7 +3,7 @@ ghost use mathlib.Core.Path.{_≡_};
 ghost use mathlib.Core.Logic.{_⊎_};
 ghost use mathlib.Core.Bool.{true};
 ghost use mathlib.Core.List.{[]};
-ghost use Prim.Native.Nat.{_+_, _-_, _*_, _%_, _≤_, _<_};
+ghost use Prim.Native.Nat.{_+_, _-_, _*_, _/_, _%_, _≤_, _<_};
 ghost use lib.ListN.{length, getD, set};
 ghost use Rattle.meaning.specs.List.{at};
 ghost use Rattle.meaning.specs.Field.{isModulus};
@@ -33,7 +33,7 @@ fn other(n: usize, from: usize) -> usize
 // c × r plus the product with the vector at `from`, into the next region; the answer is where that begins.
 fn advance(
     p: u32,
-    weight: u64,
+    reciprocal: u64,
     c: u32,
     starts: &[u32],
     columns: &[u32],
@@ -42,20 +42,20 @@ fn advance(
     from: usize,
 ) -> usize
     requires { ⌜ Valid p (matrix (now starts) (now columns) (now values)) ⌝ }
-    requires { ⌜ (weight ≡ 18446744073709551616 % p) × Turning p (length (now starts) - 1) from (now area) ⌝ }
+    requires { ⌜ (reciprocal ≡ 18446744073709551615 / p) × Turning p (length (now starts) - 1) from (now area) ⌝ }
     ensures { λ to. ⌜ Advanced p (matrix (now (starts .entry)) (now (columns .entry)) (now (values .entry))) c (now (area .entry)) from (now (area .exit)) to ⌝ }
 {
     let n = starts.len() - 1;
     let to = other(n, from);
     let r: usize = 0;
-    step_within(p, weight, c, starts, columns, values, area, r, from, to);
+    step_within(p, reciprocal, c, starts, columns, values, area, r, from, to);
     to
 }
 
 // What projection j makes of the vector at `from`.
 fn seen(
     p: u32,
-    weight: u64,
+    reciprocal: u64,
     words: &[u32],
     vectors: usize,
     j: usize,
@@ -63,18 +63,18 @@ fn seen(
     area: &[u32],
     from: usize,
 ) -> u32
-    requires { ⌜ (weight ≡ 18446744073709551616 % p) × (0 < p) × (p ≤ 2147483647) × (j < vectors + n) × (n ≤ 4096) ⌝ }
+    requires { ⌜ (reciprocal ≡ 18446744073709551615 / p) × (0 < p) × (p ≤ 2147483647) × (j < vectors + n) × (n ≤ 4096) ⌝ }
     requires { ⌜ Words n vectors (now words) × (from + n ≤ length (now area)) × Vector p n (part from n (now area)) ⌝ }
     ensures { λ r. ⌜ r ≡ dot p (getD (projections p n (now (words .entry))) j []) (part from n (now (area .entry))) ⌝ }
 {
     let end = from + n;
-    projected(p, weight, words, vectors, j, &area[from..end])
+    projected(p, reciprocal, words, vectors, j, &area[from..end])
 }
 
 // It becomes a term.
 fn note(
     p: u32,
-    weight: u64,
+    reciprocal: u64,
     words: &[u32],
     vectors: usize,
     j: usize,
@@ -83,17 +83,17 @@ fn note(
     from: usize,
     place: usize,
 )
-    requires { ⌜ (weight ≡ 18446744073709551616 % p) × (0 < p) × (p ≤ 2147483647) × (j < vectors + n) × (n ≤ 4096) ⌝ }
+    requires { ⌜ (reciprocal ≡ 18446744073709551615 / p) × (0 < p) × (p ≤ 2147483647) × (j < vectors + n) × (n ≤ 4096) ⌝ }
     requires { ⌜ Words n vectors (now words) × (from + n ≤ length (now area)) × (place < length (now area)) × Vector p n (part from n (now area)) ⌝ }
     ensures { λ _. ⌜ now (area .exit) ≡ set (now (area .entry)) place (dot p (getD (projections p n (now (words .entry))) j []) (part from n (now (area .entry)))) ⌝ }
 {
-    area[place] = seen(p, weight, words, vectors, j, n, area, from);
+    area[place] = seen(p, reciprocal, words, vectors, j, n, area, from);
 }
 
 // The 2 × left terms u·r, u·Ar, u·A²r, .. after the three regions: 2 × left − 1 products.
 fn sequence(
     p: u32,
-    weight: u64,
+    reciprocal: u64,
     starts: &[u32],
     columns: &[u32],
     values: &[u32],
@@ -104,18 +104,18 @@ fn sequence(
     left: usize,
 )
     requires { ⌜ Valid p (matrix (now starts) (now columns) (now values)) ⌝ }
-    requires { ⌜ (weight ≡ 18446744073709551616 % p) × (j < vectors + (length (now starts) - 1)) × (0 < left) × (left ≤ 4096) × Words (length (now starts) - 1) vectors (now words) ⌝ }
+    requires { ⌜ (reciprocal ≡ 18446744073709551615 / p) × (j < vectors + (length (now starts) - 1)) × (0 < left) × (left ≤ 4096) × Words (length (now starts) - 1) vectors (now words) ⌝ }
     requires { ⌜ (3 * (length (now starts) - 1) + 2 * left ≤ length (now area)) × Vector p (length (now starts) - 1) (part 0 (length (now starts) - 1) (now area)) ⌝ }
     ensures { λ _. ⌜ Sequenced p (matrix (now (starts .entry)) (now (columns .entry)) (now (values .entry))) left (getD (projections p (length (now (starts .entry)) - 1) (now (words .entry))) j []) (now (area .entry)) (now (area .exit)) ⌝ }
 {
     let n = starts.len() - 1;
     let mut from = 0;
     let mut i = 0;
-    note(p, weight, words, vectors, j, n, area, from, 3 * n);
+    note(p, reciprocal, words, vectors, j, n, area, from, 3 * n);
     while i + 1 < 2 * left {
-        from = advance(p, weight, 0, starts, columns, values, area, from);
+        from = advance(p, reciprocal, 0, starts, columns, values, area, from);
         i += 1;
-        note(p, weight, words, vectors, j, n, area, from, 3 * n + i);
+        note(p, reciprocal, words, vectors, j, n, area, from, 3 * n + i);
     }
 }
 
@@ -131,7 +131,7 @@ fn generate(p: u32, area: &mut [u32], from: usize, count: usize) -> usize
 // f(A)r by Horner's rule, for the f of degree t at `f`: t products. The answer is the region that holds it.
 fn horner(
     p: u32,
-    weight: u64,
+    reciprocal: u64,
     starts: &[u32],
     columns: &[u32],
     values: &[u32],
@@ -140,14 +140,23 @@ fn horner(
     t: usize,
 ) -> usize
     requires { ⌜ Valid p (matrix (now starts) (now columns) (now values)) ⌝ }
-    requires { ⌜ (weight ≡ 18446744073709551616 % p) × Leading p (length (now starts) - 1) (now area) f t ⌝ }
+    requires { ⌜ (reciprocal ≡ 18446744073709551615 / p) × Leading p (length (now starts) - 1) (now area) f t ⌝ }
     ensures { λ from. ⌜ Applying p (matrix (now (starts .entry)) (now (columns .entry)) (now (values .entry))) (now (area .entry)) f t 0 from (now (area .exit)) ⌝ }
 {
     let mut from = 0;
     let mut i = t;
     while 0 < i {
         i -= 1;
-        from = advance(p, weight, area[f + i], starts, columns, values, area, from);
+        from = advance(
+            p,
+            reciprocal,
+            area[f + i],
+            starts,
+            columns,
+            values,
+            area,
+            from,
+        );
     }
     from
 }
@@ -167,7 +176,7 @@ pub(crate) fn copy(work: &mut [u32], from: usize, to: usize, size: usize)
 // r becomes f(A)r.
 pub(crate) fn applied(
     p: u32,
-    weight: u64,
+    reciprocal: u64,
     starts: &[u32],
     columns: &[u32],
     values: &[u32],
@@ -176,10 +185,10 @@ pub(crate) fn applied(
     t: usize,
 )
     requires { ⌜ Valid p (matrix (now starts) (now columns) (now values)) ⌝ }
-    requires { ⌜ (weight ≡ 18446744073709551616 % p) × Leading p (length (now starts) - 1) (now area) f t ⌝ }
+    requires { ⌜ (reciprocal ≡ 18446744073709551615 / p) × Leading p (length (now starts) - 1) (now area) f t ⌝ }
     ensures { λ _. ⌜ Applied p (matrix (now (starts .entry)) (now (columns .entry)) (now (values .entry))) (now (area .entry)) f t (now (area .exit)) ⌝ }
 {
-    let from = horner(p, weight, starts, columns, values, area, f, t);
+    let from = horner(p, reciprocal, starts, columns, values, area, f, t);
     let r: usize = 0;
     copy(area, from, r, starts.len() - 1);
 }
@@ -187,7 +196,7 @@ pub(crate) fn applied(
 // The terms with projection j, their shortest recurrence f, and f(A)r in r's place; the answer is f's degree, and f stands behind the terms.
 pub(crate) fn shorten(
     p: u32,
-    weight: u64,
+    reciprocal: u64,
     starts: &[u32],
     columns: &[u32],
     values: &[u32],
@@ -198,14 +207,14 @@ pub(crate) fn shorten(
     left: usize,
 ) -> usize
     requires { ⌜ Valid p (matrix (now starts) (now columns) (now values)) × (isModulus p ≡ true) ⌝ }
-    requires { ⌜ (weight ≡ 18446744073709551616 % p) × (j < vectors + (length (now starts) - 1)) × (0 < left) × (left ≤ 4096) × Words (length (now starts) - 1) vectors (now words) ⌝ }
+    requires { ⌜ (reciprocal ≡ 18446744073709551615 / p) × (j < vectors + (length (now starts) - 1)) × (0 < left) × (left ≤ 4096) × Words (length (now starts) - 1) vectors (now words) ⌝ }
     requires { ⌜ (3 * (length (now starts) - 1) + (8 * left + 8) ≤ length (now area)) × Vector p (length (now starts) - 1) (part 0 (length (now starts) - 1) (now area)) ⌝ }
     ensures { λ t. ⌜ Shortened p (matrix (now (starts .entry)) (now (columns .entry)) (now (values .entry))) left (getD (projections p (length (now (starts .entry)) - 1) (now (words .entry))) j []) (now (area .entry)) (now (area .exit)) t ⌝ }
 {
     let n = starts.len() - 1;
     sequence(
         p,
-        weight,
+        reciprocal,
         starts,
         columns,
         values,
@@ -218,7 +227,7 @@ pub(crate) fn shorten(
     let t = generate(p, area, 3 * n, 2 * left);
     applied(
         p,
-        weight,
+        reciprocal,
         starts,
         columns,
         values,
@@ -244,23 +253,23 @@ fn crossed(work: &[u32], f: usize, k: usize, from: usize, to: usize) -> Total
 }
 
 // Coefficient k of the product of F, of degree d, and f, of degree t: the sum over the places where both have a coefficient.
-fn coefficient(p: u32, weight: u64, work: &[u32], d: usize, f: usize, t: usize, k: usize) -> u32
-    requires { ⌜ (weight ≡ 18446744073709551616 % p) × (0 < p) × (d + t ≤ 8191) × (d + t < f) × (f + t < length (now work)) × (k ≤ d + t) ⌝ }
+fn coefficient(p: u32, reciprocal: u64, work: &[u32], d: usize, f: usize, t: usize, k: usize) -> u32
+    requires { ⌜ (reciprocal ≡ 18446744073709551615 / p) × (0 < p) × (d + t ≤ 8191) × (d + t < f) × (f + t < length (now work)) × (k ≤ d + t) ⌝ }
     ensures { λ r. ⌜ r ≡ productAt p (now (work .entry)) d f t k ⌝ }
 {
     let from = if k < t { 0 } else { k - t };
     let to = if k < d { k + 1 } else { d + 1 };
-    crossed(work, f, k, from, to).residue(p, weight)
+    crossed(work, f, k, from, to).residue(p, reciprocal)
 }
 
 // F becomes F × f, from the highest coefficient down: those that are still read stand below.
-pub(crate) fn multiply(p: u32, weight: u64, work: &mut [u32], d: usize, f: usize, t: usize)
-    requires { ⌜ (weight ≡ 18446744073709551616 % p) × (0 < p) × (d + t ≤ 8191) × (d + t < f) × (f + t < length (now work)) ⌝ }
+pub(crate) fn multiply(p: u32, reciprocal: u64, work: &mut [u32], d: usize, f: usize, t: usize)
+    requires { ⌜ (reciprocal ≡ 18446744073709551615 / p) × (0 < p) × (d + t ≤ 8191) × (d + t < f) × (f + t < length (now work)) ⌝ }
     ensures { λ _. ⌜ Multiplied p (now (work .entry)) d f t (now (work .exit)) ⌝ }
 {
     let mut k = d + t + 1;
     while 0 < k {
         k -= 1;
-        work[k] = coefficient(p, weight, work, d, f, t, k);
+        work[k] = coefficient(p, reciprocal, work, d, f, t, k);
     }
 }

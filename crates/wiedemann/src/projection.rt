@@ -68,32 +68,32 @@ pub(crate) fn is_zero(v: &[u32]) -> bool
 }
 
 // The dot product of the first words, each taken modulo p, with v.
-fn dot(p: u32, weight: u64, words: &[u32], v: &[u32]) -> u32
-    requires { ⌜ Raw (now words) (now v) × (0 < p) × (weight ≡ 18446744073709551616 % p) ⌝ }
+fn dot(p: u32, reciprocal: u64, words: &[u32], v: &[u32]) -> u32
+    requires { ⌜ Raw (now words) (now v) × (0 < p) × (reciprocal ≡ 18446744073709551615 / p) ⌝ }
     ensures { λ r. ⌜ r ≡ dot p (table (length (now (v .entry))) (λ i. at (now (words .entry)) i % p)) (now (v .entry)) ⌝ }
 {
     let n = v.len();
     let middle = n - n % 2;
     let most = twos(Total { low: 0, high: 0 }, middle, words, v);
-    last(most, middle, words, v).residue(p, weight)
+    last(most, middle, words, v).residue(p, reciprocal)
 }
 
 // What projection j makes of v: the first `vectors` projections are the words, the others the unit vectors.
 pub(crate) fn projected(
     p: u32,
-    weight: u64,
+    reciprocal: u64,
     words: &[u32],
     vectors: usize,
     j: usize,
     v: &[u32],
 ) -> u32
-    requires { ⌜ (weight ≡ 18446744073709551616 % p) × (0 < p) × (p ≤ 2147483647) × (j < vectors + length (now v)) ⌝ }
+    requires { ⌜ (reciprocal ≡ 18446744073709551615 / p) × (0 < p) × (p ≤ 2147483647) × (j < vectors + length (now v)) ⌝ }
     requires { ⌜ Words (length (now v)) vectors (now words) × Vector p (length (now v)) (now v) × (length (now v) ≤ 4096) ⌝ }
     ensures { λ r. ⌜ r ≡ dot p (getD (projections p (length (now (v .entry))) (now (words .entry))) j []) (now (v .entry)) ⌝ }
 {
     if j < vectors {
         let from = j * v.len();
-        dot(p, weight, &words[from..], v)
+        dot(p, reciprocal, &words[from..], v)
     } else {
         v[j - vectors]
     }

@@ -9,7 +9,7 @@ use crate::sums::Total;
 use checks::recurrence_refusal;
 use field::Field;
 ghost use mathlib.Core.Path.{_≡_};
-ghost use Prim.Native.Nat.{ℕ, _+_, _-_, _*_, _%_, _≤_, _<_};
+ghost use Prim.Native.Nat.{ℕ, _+_, _-_, _*_, _/_, _%_, _≤_, _<_};
 ghost use lib.ListN.{length};
 ghost use Rattle.meaning.specs.List.{at, sum, sumFrom};
 ghost use Rattle.meaning.specs.Field.{minus, times};
@@ -137,14 +137,14 @@ fn ones(total: Total, work: &[u32], q: usize, last: usize, from: usize, to: usiz
 }
 
 // The sum of q[i] × s[last − i] over i = 0 to `length`, modulo p.
-fn discrepancy(p: u32, weight: u64, work: &[u32], q: usize, last: usize, length: usize) -> u32
-    requires { ⌜ Pairs (now work) q last × (length ≤ last) × (0 < p) × (weight ≡ 18446744073709551616 % p) ⌝ }
+fn discrepancy(p: u32, reciprocal: u64, work: &[u32], q: usize, last: usize, length: usize) -> u32
+    requires { ⌜ Pairs (now work) q last × (length ≤ last) × (0 < p) × (reciprocal ≡ 18446744073709551615 / p) ⌝ }
     ensures { λ d. ⌜ d ≡ sum (length + 1) (paired (now (work .entry)) q last) % p ⌝ }
 {
     let to = length + 1;
     let middle = to - to % 4;
     let most = fours(work, q, last, middle);
-    ones(most, work, q, last, middle, to).residue(p, weight)
+    ones(most, work, q, last, middle, to).residue(p, reciprocal)
 }
 
 // a × b modulo p.
@@ -235,16 +235,16 @@ pub(crate) fn start(p: u32, count: usize, work: &mut [u32]) -> Register
 // What is done for r: the discrepancy, the update, the length.
 pub(crate) fn step(
     p: u32,
-    weight: u64,
+    reciprocal: u64,
     count: usize,
     work: &mut [u32],
     r: usize,
     c: Register,
 ) -> Register
-    requires { ⌜ Turn p count r (now work) c × (weight ≡ 18446744073709551616 % p) ⌝ }
+    requires { ⌜ Turn p count r (now work) c × (reciprocal ≡ 18446744073709551615 / p) ⌝ }
     ensures { λ next. ⌜ Stepped p count r (now (work .entry)) (now (work .exit)) next ⌝ }
 {
-    let d = discrepancy(p, weight, work, count + 2, r - 1, c.length);
+    let d = discrepancy(p, reciprocal, work, count + 2, r - 1, c.length);
     if d == 0 {
         return moved(c);
     }
@@ -263,12 +263,12 @@ pub(crate) fn shortest(p: u32, count: usize, work: &mut [u32]) -> usize
     requires { ⌜ Ready p count (now work) ⌝ }
     ensures { λ L. ⌜ Found p count (now (work .entry)) (now (work .exit)) L ⌝ }
 {
-    let weight = sums::weight(p);
+    let reciprocal = sums::reciprocal(p);
     let mut c = start(p, count, work);
     let mut r = 0;
     while r < count {
         r += 1;
-        c = step(p, weight, count, work, r, c);
+        c = step(p, reciprocal, count, work, r, c);
     }
     reverse(work, count + 2, c.length);
     c.length

@@ -2,7 +2,7 @@
 // recurrence's part. The vector and polynomial slices are written at the very end.
 ghost use mathlib.Core.Path.{_≡_};
 ghost use mathlib.Core.List.{[]};
-ghost use Prim.Native.Nat.{_+_, _-_, _*_, _%_, _≤_, _<_};
+ghost use Prim.Native.Nat.{_+_, _-_, _*_, _/_, _%_, _≤_, _<_};
 ghost use lib.ListN.{length, getD};
 ghost use Rattle.meaning.specs.List.{at, table, zeros, padded, isZero};
 ghost use mathlib.Core.Bool.{true};
@@ -25,7 +25,7 @@ use crate::projection::is_zero;
 use crate::scale::difference;
 use crate::scale::quotient;
 use crate::scale::scaled;
-use crate::sums::weight;
+use crate::sums::reciprocal;
 use checks::solver_refusal;
 use field::Field;
 use field::inverse_modulo;
@@ -48,7 +48,7 @@ pub enum Verdict {
 // Terms, recurrence and f(A)r: the part from r on is lent. The answer is f's degree.
 fn narrow(
     p: u32,
-    weight: u64,
+    reciprocal: u64,
     starts: &[u32],
     columns: &[u32],
     values: &[u32],
@@ -59,14 +59,14 @@ fn narrow(
     left: usize,
 ) -> usize
     requires { ⌜ Valid p (matrix (now starts) (now columns) (now values)) × (isModulus p ≡ true) ⌝ }
-    requires { ⌜ (weight ≡ 18446744073709551616 % p) × (j < vectors + (length (now starts) - 1)) × (0 < left) × (left ≤ length (now starts) - 1) × Words (length (now starts) - 1) vectors (now words) ⌝ }
+    requires { ⌜ (reciprocal ≡ 18446744073709551615 / p) × (j < vectors + (length (now starts) - 1)) × (0 < left) × (left ≤ length (now starts) - 1) × Words (length (now starts) - 1) vectors (now words) ⌝ }
     requires { ⌜ (16 * (length (now starts) - 1) + 16 ≤ length (now work)) × Vector p (length (now starts) - 1) (part (length (now starts) - 1 + 1) (length (now starts) - 1) (now work)) ⌝ }
     ensures { λ t. ⌜ Narrowed p (matrix (now (starts .entry)) (now (columns .entry)) (now (values .entry))) left (getD (projections p (length (now (starts .entry)) - 1) (now (words .entry))) j []) (now (work .entry)) (now (work .exit)) t ⌝ }
 {
     let first = starts.len() - 1 + 1;
     shorten(
         p,
-        weight,
+        reciprocal,
         starts,
         columns,
         values,
@@ -79,13 +79,13 @@ fn narrow(
 }
 
 // F becomes F × f: the part with F and f is lent.
-fn enlarge(p: u32, weight: u64, work: &mut [u32], d: usize, f: usize, t: usize)
-    requires { ⌜ (weight ≡ 18446744073709551616 % p) × (0 < p) × (d + t ≤ 8191) × (d + t < f) × (f + t < length (now work)) ⌝ }
+fn enlarge(p: u32, reciprocal: u64, work: &mut [u32], d: usize, f: usize, t: usize)
+    requires { ⌜ (reciprocal ≡ 18446744073709551615 / p) × (0 < p) × (d + t ≤ 8191) × (d + t < f) × (f + t < length (now work)) ⌝ }
     ensures { λ _. ⌜ Multiplied p (now (work .entry)) d f t (now (work .exit)) ⌝ }
 {
     let front: usize = 0;
     let end = f + t + 1;
-    multiply(p, weight, &mut work[front..end], d, f, t);
+    multiply(p, reciprocal, &mut work[front..end], d, f, t);
 }
 
 // The counts after a pass of degree t.
@@ -103,7 +103,7 @@ fn count(c: Counts, left: usize, t: usize) -> Counts
 // A pass with projection j: r becomes f(A)r, F becomes F × f.
 fn pass(
     p: u32,
-    weight: u64,
+    reciprocal: u64,
     starts: &[u32],
     columns: &[u32],
     values: &[u32],
@@ -114,7 +114,7 @@ fn pass(
     c: Counts,
 ) -> Counts
     requires { ⌜ Valid p (matrix (now starts) (now columns) (now values)) × (isModulus p ≡ true) ⌝ }
-    requires { ⌜ (weight ≡ 18446744073709551616 % p) × (j < vectors + (length (now starts) - 1)) × Words (length (now starts) - 1) vectors (now words) ⌝ }
+    requires { ⌜ (reciprocal ≡ 18446744073709551615 / p) × (j < vectors + (length (now starts) - 1)) × Words (length (now starts) - 1) vectors (now words) ⌝ }
     requires { ⌜ Passing p (matrix (now starts) (now columns) (now values)) (getD (projections p (length (now starts) - 1) (now words)) j []) (now work) c ⌝ }
     ensures { λ r. ⌜ Passed p (matrix (now (starts .entry)) (now (columns .entry)) (now (values .entry))) (getD (projections p (length (now (starts .entry)) - 1) (now (words .entry))) j []) (now (work .entry)) c (now (work .exit)) r ⌝ }
 {
@@ -123,7 +123,7 @@ fn pass(
     let left = n - d;
     let t = narrow(
         p,
-        weight,
+        reciprocal,
         starts,
         columns,
         values,
@@ -133,7 +133,7 @@ fn pass(
         work,
         left,
     );
-    enlarge(p, weight, work, d, n + 1 + (3 * n + (2 * left + 2)), t);
+    enlarge(p, reciprocal, work, d, n + 1 + (3 * n + (2 * left + 2)), t);
     count(c, left, t)
 }
 
@@ -176,7 +176,7 @@ fn is_settled(n: usize, work: &[u32]) -> bool
 // While r is not zero, a pass with the next projection.
 fn run(
     p: u32,
-    weight: u64,
+    reciprocal: u64,
     starts: &[u32],
     columns: &[u32],
     values: &[u32],
@@ -186,7 +186,7 @@ fn run(
     work: &mut [u32],
 ) -> Counts
     requires { ⌜ System p (matrix (now starts) (now columns) (now values)) (now b) ⌝ }
-    requires { ⌜ (weight ≡ 18446744073709551616 % p) × Words (length (now starts) - 1) vectors (now words) × (16 * (length (now starts) - 1) + 16 ≤ length (now work)) ⌝ }
+    requires { ⌜ (reciprocal ≡ 18446744073709551615 / p) × Words (length (now starts) - 1) vectors (now words) × (16 * (length (now starts) - 1) + 16 ≤ length (now work)) ⌝ }
     ensures { λ c. ⌜ Finished p (matrix (now (starts .entry)) (now (columns .entry)) (now (values .entry))) (now (b .entry)) (now (words .entry)) (now (work .exit)) c ⌝ }
 {
     let n = starts.len() - 1;
@@ -195,7 +195,7 @@ fn run(
     while !is_settled(n, work) {
         c = pass(
             p,
-            weight,
+            reciprocal,
             starts,
             columns,
             values,
@@ -213,7 +213,7 @@ fn run(
 // In the part from r on: b into r's place, and G(A)b for the d coefficients of G behind the three regions.
 fn image_within(
     p: u32,
-    weight: u64,
+    reciprocal: u64,
     starts: &[u32],
     columns: &[u32],
     values: &[u32],
@@ -222,14 +222,14 @@ fn image_within(
     d: usize,
 )
     requires { ⌜ Valid p (matrix (now starts) (now columns) (now values)) × Vector p (length (now starts) - 1) (now b) ⌝ }
-    requires { ⌜ (weight ≡ 18446744073709551616 % p) × (0 < d) × (3 * (length (now starts) - 1) + d ≤ length (now area)) × (at (now area) (3 * (length (now starts) - 1) + (d - 1)) ≡ 1) ⌝ }
+    requires { ⌜ (reciprocal ≡ 18446744073709551615 / p) × (0 < d) × (3 * (length (now starts) - 1) + d ≤ length (now area)) × (at (now area) (3 * (length (now starts) - 1) + (d - 1)) ≡ 1) ⌝ }
     ensures { λ _. ⌜ Inner p (matrix (now (starts .entry)) (now (columns .entry)) (now (values .entry))) (now (b .entry)) (now (area .entry)) d (now (area .exit)) ⌝ }
 {
     let r: usize = 0;
     load(b, area, r);
     applied(
         p,
-        weight,
+        reciprocal,
         starts,
         columns,
         values,
@@ -242,7 +242,7 @@ fn image_within(
 // The part from r on is lent to that.
 fn image_lent(
     p: u32,
-    weight: u64,
+    reciprocal: u64,
     starts: &[u32],
     columns: &[u32],
     values: &[u32],
@@ -251,17 +251,26 @@ fn image_lent(
     d: usize,
 )
     requires { ⌜ Valid p (matrix (now starts) (now columns) (now values)) × Vector p (length (now starts) - 1) (now b) ⌝ }
-    requires { ⌜ (weight ≡ 18446744073709551616 % p) × (0 < d) × (d ≤ length (now starts) - 1) × (16 * (length (now starts) - 1) + 16 ≤ length (now work)) × (at (part (length (now starts) - 1 + 1) (length (now work) - (length (now starts) - 1 + 1)) (now work)) (3 * (length (now starts) - 1) + (d - 1)) ≡ 1) ⌝ }
+    requires { ⌜ (reciprocal ≡ 18446744073709551615 / p) × (0 < d) × (d ≤ length (now starts) - 1) × (16 * (length (now starts) - 1) + 16 ≤ length (now work)) × (at (part (length (now starts) - 1 + 1) (length (now work) - (length (now starts) - 1 + 1)) (now work)) (3 * (length (now starts) - 1) + (d - 1)) ≡ 1) ⌝ }
     ensures { λ _. ⌜ Lent (matrix (now (starts .entry)) (now (columns .entry)) (now (values .entry))) p (now (b .entry)) (now (work .entry)) d (now (work .exit)) ⌝ }
 {
     let first = starts.len() - 1 + 1;
-    image_within(p, weight, starts, columns, values, b, &mut work[first..], d);
+    image_within(
+        p,
+        reciprocal,
+        starts,
+        columns,
+        values,
+        b,
+        &mut work[first..],
+        d,
+    );
 }
 
 // G(A)b in r's place, for G = (F − F[0]) / z: d − 1 products.
 fn image(
     p: u32,
-    weight: u64,
+    reciprocal: u64,
     starts: &[u32],
     columns: &[u32],
     values: &[u32],
@@ -270,13 +279,13 @@ fn image(
     d: usize,
 )
     requires { ⌜ Valid p (matrix (now starts) (now columns) (now values)) × Vector p (length (now starts) - 1) (now b) ⌝ }
-    requires { ⌜ (weight ≡ 18446744073709551616 % p) × (0 < d) × (d ≤ length (now starts) - 1) × (16 * (length (now starts) - 1) + 16 ≤ length (now work)) × (at (now work) d ≡ 1) ⌝ }
+    requires { ⌜ (reciprocal ≡ 18446744073709551615 / p) × (0 < d) × (d ≤ length (now starts) - 1) × (16 * (length (now starts) - 1) + 16 ≤ length (now work)) × (at (now work) d ≡ 1) ⌝ }
     ensures { λ _. ⌜ Imaged p (matrix (now (starts .entry)) (now (columns .entry)) (now (values .entry))) (now (b .entry)) (now (work .entry)) d (now (work .exit)) ⌝ }
 {
     let n = starts.len() - 1;
     let one: usize = 1;
     copy(work, one, n + 1 + 3 * n, d);
-    image_lent(p, weight, starts, columns, values, b, work, d);
+    image_lent(p, reciprocal, starts, columns, values, b, work, d);
 }
 
 // Coefficient i of the first `size`, 0 after them.
@@ -341,7 +350,7 @@ fn closed(c: Counts) -> Counts
 // When r is zero: what F makes of b.
 fn finish(
     p: u32,
-    weight: u64,
+    reciprocal: u64,
     starts: &[u32],
     columns: &[u32],
     values: &[u32],
@@ -351,7 +360,7 @@ fn finish(
     vector: &mut [u32],
     polynomial: &mut [u32],
 ) -> Verdict
-    requires { ⌜ System p (matrix (now starts) (now columns) (now values)) (now b) × (weight ≡ 18446744073709551616 % p) ⌝ }
+    requires { ⌜ System p (matrix (now starts) (now columns) (now values)) (now b) × (reciprocal ≡ 18446744073709551615 / p) ⌝ }
     requires { ⌜ Closable p (matrix (now starts) (now columns) (now values)) (now work) c × (length (now vector) ≡ length (now starts) - 1) × (length (now polynomial) ≡ length (now starts) - 1 + 1) ⌝ }
     ensures { λ r. ⌜ Closed p (matrix (now (starts .entry)) (now (columns .entry)) (now (values .entry))) (now (b .entry)) (now (work .entry)) c r (now (vector .exit)) (now (polynomial .exit)) ⌝ }
 {
@@ -363,7 +372,7 @@ fn finish(
         return Verdict::Solved(closed(c));
     }
     let constant = work[0];
-    image(p, weight, starts, columns, values, b, work, d);
+    image(p, reciprocal, starts, columns, values, b, work, d);
     if constant == 0 {
         deliver(work, first, vector);
         return Verdict::Singular(closed(c));
@@ -387,12 +396,22 @@ fn solve_accepted(
     requires { ⌜ solverRefusal p (matrix (now starts) (now columns) (now values)) (now b) (now words) (now vector) (now polynomial) (now work) ≡ 0 ⌝ }
     ensures { λ r. ⌜ Found p (matrix (now (starts .entry)) (now (columns .entry)) (now (values .entry))) (now (b .entry)) (now (words .entry)) r (now (vector .exit)) (now (polynomial .exit)) ⌝ }
 {
-    let weight = weight(p);
+    let reciprocal = reciprocal(p);
     let vectors = words.len() / (starts.len() - 1);
-    let c = run(p, weight, starts, columns, values, b, words, vectors, work);
+    let c = run(
+        p,
+        reciprocal,
+        starts,
+        columns,
+        values,
+        b,
+        words,
+        vectors,
+        work,
+    );
     finish(
         p,
-        weight,
+        reciprocal,
         starts,
         columns,
         values,

@@ -12,7 +12,7 @@ use Rattle.wiedemann.proofs.matrix.apply.Reads as reads
 use Rattle.wiedemann.proofs.matrix.apply.Lts as lts
 use Rattle.wiedemann.proofs.matrix.horner.Reads as horner-reads
 use Rattle.checks.proofs.apply_refusal.Reads as apply-refusal-reads
-use Rattle.wiedemann.proofs.sums.weight.Reads as weight-reads
+use Rattle.wiedemann.proofs.sums.reciprocal.Reads as reciprocal-reads
 
 none : (c : tie.Else1)
     → let at = c .before .before .before .before .before .before .before .before .before .before .before .args in
@@ -53,14 +53,14 @@ returns c =
     )
 
 -- src/matrix.rt:404:15
-weight-requires : tie.Need-weight-requires
-weight-requires c κs = accepted c .valid .positive
+reciprocal-requires : tie.Need-reciprocal-requires
+reciprocal-requires c κs = accepted c .valid .positive
 
 -- src/matrix.rt:404:5
 horner-requires : tie.Need-horner-requires
 horner-requires c κs =
     let known = accepted (c .before .before .before) in
-    (known .valid, (c .before .before .weight .ensures, known .places, omega (arith, known .places, known .room), known .vector, known .some, known .coefficients))
+    (known .valid, (c .before .before .reciprocal .ensures, known .places, omega (arith, known .places, known .room), known .vector, known .some, known .coefficients))
 
 -- src/matrix.rt:386:1
 same-length-3 : tie.Need-same-length-3
@@ -93,7 +93,7 @@ apply-spec =
     same-length
     same-length-2
     returns
-    weight-requires
+    reciprocal-requires
     horner-requires
     same-length-3
     same-length-4

@@ -15,11 +15,11 @@ use Rattle.wiedemann.proofs.matrix.multiple.Reads as multiple-reads
 use Rattle.wiedemann.proofs.matrix.turn.Reads as turn-reads
 
 abbrev Inv-loop : tie.InvT-loop
-Inv-loop p weight starts columns values g v out₀ work₀ i₀ out work i =
+Inv-loop p reciprocal starts columns values g v out₀ work₀ i₀ out work i =
     (i < length g) × (length work ≡ length work₀) × (out ≡ apply p (matrix starts columns values) (drop i g) v)
 
 abbrev μ-loop : tie.MeasureT-loop
-μ-loop p weight starts columns values g v out₀ work₀ i₀ out work i = i
+μ-loop p reciprocal starts columns values g v out₀ work₀ i₀ out work i = i
 
 vector : (c : tie.At-loop Inv-loop μ-loop)
     → Vector (c .before .before .before .before .before .before .before .before .before .before .before .before .before .args .p) (length (now (c .before .before .before .before .before .before .before .before .before .before .before .before .before .args .starts)) - 1) (c .loop .out)

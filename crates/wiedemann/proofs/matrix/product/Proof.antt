@@ -14,7 +14,7 @@ use Rattle.wiedemann.proofs.matrix.product.Reads as reads
 use Rattle.wiedemann.proofs.matrix.product.Lts as lts
 use Rattle.wiedemann.proofs.matrix.step.Reads as step-reads
 use Rattle.checks.proofs.product_refusal.Reads as product-refusal-reads
-use Rattle.wiedemann.proofs.sums.weight.Reads as weight-reads
+use Rattle.wiedemann.proofs.sums.reciprocal.Reads as reciprocal-reads
 
 none : (c : tie.Else1) → productRefusal (c .before .before .before .before .before .before .before .before .args .field .p) (matrix (now (c .before .before .before .before .before .before .before .before .args .starts)) (now (c .before .before .before .before .before .before .before .before .args .columns)) (now (c .before .before .before .before .before .before .before .before .args .values))) (now (c .before .before .before .before .before .before .before .before .args .v)) (now (c .before .before .before .before .before .before .before .before .args .out)) ≡ 0
 none c = sym (c .before .product-refusal .ensures) ∙ c .if1 .left
@@ -43,14 +43,14 @@ returns c =
     )
 
 -- src/matrix.rt:360:13
-weight-requires : tie.Need-weight-requires
-weight-requires c κs = accepted c .0 .valid .positive
+reciprocal-requires : tie.Need-reciprocal-requires
+reciprocal-requires c κs = accepted c .0 .valid .positive
 
 -- src/matrix.rt:360:5
 step-requires : tie.Need-step-requires
 step-requires c κs =
     let known = accepted (c .before .before) in
-    (known .0 .valid, (c .before .weight .ensures, known .1, known .0 .vector .places, known .0 .vector))
+    (known .0 .valid, (c .before .reciprocal .ensures, known .1, known .0 .vector .places, known .0 .vector))
 
 -- src/matrix.rt:344:1
 same-length-2 : tie.Need-same-length-2
@@ -75,7 +75,7 @@ product-spec =
     product-refusal-requires
     same-length
     returns
-    weight-requires
+    reciprocal-requires
     step-requires
     same-length-2
     returns-2)

@@ -14,11 +14,11 @@ use Rattle.wiedemann.proofs.matrix.step.Statement.{statement}
 use Rattle.wiedemann.proofs.matrix.step.Tie as tie
 
 abbrev Inv-loop : tie.InvT-loop
-Inv-loop p weight c x starts columns values v out₀ rows i₀ out i =
+Inv-loop p reciprocal c x starts columns values v out₀ rows i₀ out i =
     (i ≤ length out₀) × Written out₀ 0 i (stepAt p (matrix starts columns values) c x v) out
 
 abbrev μ-loop : tie.MeasureT-loop
-μ-loop p weight c x starts columns values v out₀ rows i₀ out i = length out₀ - i
+μ-loop p reciprocal c x starts columns values v out₀ rows i₀ out i = length out₀ - i
 
 sub-rows : tie.Need-sub-rows Inv-loop μ-loop
 sub-rows c = omega (arith, c .before .before .before .before .before .before .pre .0 .one-more)

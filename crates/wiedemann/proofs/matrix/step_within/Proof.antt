@@ -17,12 +17,12 @@ use Rattle.wiedemann.proofs.matrix.row_within.Reads as row-within-reads
 use Rattle.wiedemann.proofs.sums.times.Reads as times-reads
 
 abbrev Inv-loop : tie.InvT-loop
-Inv-loop p weight c starts columns values work₀ origin source target n i₀ work i =
+Inv-loop p reciprocal c starts columns values work₀ origin source target n i₀ work i =
     (i ≤ n)
     × Written work₀ target i (stepAt p (matrix starts columns values) c (part origin n work₀) (part source n work₀)) work
 
 abbrev μ-loop : tie.MeasureT-loop
-μ-loop p weight c starts columns values work₀ origin source target n i₀ work i = n - i
+μ-loop p reciprocal c starts columns values work₀ origin source target n i₀ work i = n - i
 
 -- src/matrix.rt:154:13
 sub-n : tie.Need-sub-n Inv-loop μ-loop

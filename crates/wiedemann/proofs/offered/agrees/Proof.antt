@@ -26,10 +26,10 @@ abbrev agreement : ℕ → Matrix → List ℕ → List ℕ → ℕ → Bool
 agreement p A x b i = eqb (getD (product p A x) i 0) (getD b i 0)
 
 abbrev Inv-loop : tie.InvT-loop
-Inv-loop p weight starts columns values x b n i₀ i = (i ≤ n) × (all i (agreement p (matrix starts columns values) x b) ≡ true)
+Inv-loop p reciprocal starts columns values x b n i₀ i = (i ≤ n) × (all i (agreement p (matrix starts columns values) x b) ≡ true)
 
 abbrev μ-loop : tie.MeasureT-loop
-μ-loop p weight starts columns values x b n i₀ i = n - i
+μ-loop p reciprocal starts columns values x b n i₀ i = n - i
 
 -- the test of row i
 here : (c : tie.After-element Inv-loop μ-loop)

@@ -15,7 +15,7 @@ use Rattle.wiedemann.proofs.offered.is_null.Lts as lts
 use Rattle.wiedemann.proofs.offered.is_zero.Reads as is-zero-reads
 use Rattle.wiedemann.proofs.offered.vanishes.Reads as vanishes-reads
 use Rattle.checks.proofs.system_refusal.Reads as system-refusal-reads
-use Rattle.wiedemann.proofs.sums.weight.Reads as weight-reads
+use Rattle.wiedemann.proofs.sums.reciprocal.Reads as reciprocal-reads
 
 none : (c : tie.Else1) → isNullRefusal (c .before .before .before .before .before .before .args .field .p) (matrix (now (c .before .before .before .before .before .before .args .starts)) (now (c .before .before .before .before .before .before .args .columns)) (now (c .before .before .before .before .before .before .args .values))) (now (c .before .before .before .before .before .before .args .w)) ≡ 0
 unfolding isNullRefusal
@@ -68,14 +68,14 @@ returns-2 c =
     )
 
 -- src/offered.rt:108:20
-weight-requires : tie.Need-weight-requires
-weight-requires c κs = accepted (c .before .before) .valid .positive
+reciprocal-requires : tie.Need-reciprocal-requires
+reciprocal-requires c κs = accepted (c .before .before) .valid .positive
 
 -- src/offered.rt:108:8
 vanishes-requires : tie.Need-vanishes-requires
 vanishes-requires c κs =
     let known = accepted (c .before .before .before) in
-    (known .valid, (c .weight .ensures, known .vector))
+    (known .valid, (c .reciprocal .ensures, known .vector))
 
 -- src/offered.rt:97:1
 returns-3 : tie.Need-returns-3
@@ -93,7 +93,7 @@ is-null-spec =
     returns
     is-zero-requires
     returns-2
-    weight-requires
+    reciprocal-requires
     vanishes-requires
     returns-3
     returns-4)

@@ -16,7 +16,7 @@ use Rattle.wiedemann.proofs.offered.takes.Reads as reads
 use Rattle.wiedemann.proofs.offered.takes.Lts as lts
 use Rattle.wiedemann.proofs.offered.agrees.Reads as agrees-reads
 use Rattle.checks.proofs.takes_refusal.Reads as takes-refusal-reads
-use Rattle.wiedemann.proofs.sums.weight.Reads as weight-reads
+use Rattle.wiedemann.proofs.sums.reciprocal.Reads as reciprocal-reads
 
 none : (c : tie.Else1) → takesRefusal (c .before .before .before .before .before .before .before .args .field .p) (matrix (now (c .before .before .before .before .before .before .before .args .starts)) (now (c .before .before .before .before .before .before .before .args .columns)) (now (c .before .before .before .before .before .before .before .args .values))) (now (c .before .before .before .before .before .before .before .args .x)) (now (c .before .before .before .before .before .before .before .args .b)) ≡ 0
 none c = sym (c .before .takes-refusal .ensures) ∙ c .if1 .left
@@ -51,14 +51,14 @@ returns c =
     )
 
 -- src/offered.rt:89:18
-weight-requires : tie.Need-weight-requires
-weight-requires c κs = accepted c .0 .valid .positive
+reciprocal-requires : tie.Need-reciprocal-requires
+reciprocal-requires c κs = accepted c .0 .valid .positive
 
 -- src/offered.rt:89:8
 agrees-requires : tie.Need-agrees-requires
 agrees-requires c κs =
     let known = accepted (c .before) .0 in
-    (known .valid, (c .weight .ensures, known .vector))
+    (known .valid, (c .reciprocal .ensures, known .vector))
 
 -- src/offered.rt:74:1
 returns-2 : tie.Need-returns-2
@@ -71,4 +71,4 @@ returns-3 c = (none (c .before .before .before), answer (c .before) ∙ c .if2 .
 pub takes-spec : {M : Type 1} → statement M
 takes-spec =
     tie.close
-    (tie.spec takes-refusal-requires returns weight-requires agrees-requires returns-2 returns-3)
+    (tie.spec takes-refusal-requires returns reciprocal-requires agrees-requires returns-2 returns-3)

@@ -16,10 +16,10 @@ use Rattle.wiedemann.proofs.pass.horner.Lts as lts
 use Rattle.wiedemann.proofs.pass.advance.Reads as advance-reads
 
 abbrev Inv-loop : tie.InvT-loop
-Inv-loop p weight starts columns values area₀ f t from₀ i₀ area from i = (i ≤ t) × Applying p (matrix starts columns values) area₀ f t i from area
+Inv-loop p reciprocal starts columns values area₀ f t from₀ i₀ area from i = (i ≤ t) × Applying p (matrix starts columns values) area₀ f t i from area
 
 abbrev μ-loop : tie.MeasureT-loop
-μ-loop p weight starts columns values area₀ f t from₀ i₀ area from i = i
+μ-loop p reciprocal starts columns values area₀ f t from₀ i₀ area from i = i
 
 -- src/pass.rt:152:5
 loop-holds : tie.Need-loop-holds Inv-loop μ-loop

@@ -12,10 +12,10 @@ use Rattle.wiedemann.proofs.pass.multiply.Lts as lts
 use Rattle.wiedemann.proofs.pass.coefficient.Reads as coefficient-reads
 
 abbrev Inv-loop : tie.InvT-loop
-Inv-loop p weight work₀ d f t k₀ work k = (k ≤ d + t + 1) × Descending p work₀ d f t k work
+Inv-loop p reciprocal work₀ d f t k₀ work k = (k ≤ d + t + 1) × Descending p work₀ d f t k work
 
 abbrev μ-loop : tie.MeasureT-loop
-μ-loop p weight work₀ d f t k₀ work k = k
+μ-loop p reciprocal work₀ d f t k₀ work k = k
 
 -- src/pass.rt:245:17
 add-k : tie.Need-add-k Inv-loop μ-loop

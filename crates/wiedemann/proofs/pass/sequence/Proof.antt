@@ -19,12 +19,12 @@ use Rattle.wiedemann.proofs.pass.advance.Reads as advance-reads
 use Rattle.wiedemann.proofs.pass.note.Reads as note-reads
 
 abbrev Inv-loop : tie.InvT-loop
-Inv-loop p weight starts columns values words vectors j area₀ left n from₀ i₀ area from i =
+Inv-loop p reciprocal starts columns values words vectors j area₀ left n from₀ i₀ area from i =
     (i + 1 ≤ 2 * left) × (3 * n + 2 * left ≤ length area₀) × Vector p n (part 0 n area₀)
     × Iterated p (matrix starts columns values) (getD (projections p n words) j []) area₀ i from area
 
 abbrev μ-loop : tie.MeasureT-loop
-μ-loop p weight starts columns values words vectors j area₀ left n from₀ i₀ area from i = 2 * left - i
+μ-loop p reciprocal starts columns values words vectors j area₀ left n from₀ i₀ area from i = 2 * left - i
 
 -- src/pass.rt:115:13
 sub-n : tie.Need-sub-n Inv-loop μ-loop

@@ -11,13 +11,13 @@ use Rattle.wiedemann.proofs.recurrence.shortest.Statement.{statement}
 use Rattle.wiedemann.proofs.recurrence.shortest.Tie as tie
 
 abbrev Inv-loop : tie.InvT-loop
-Inv-loop p count work₀ weight c₀ r₀ work c r = (r ≤ count) × Stepped p count r work₀ work c
+Inv-loop p count work₀ reciprocal c₀ r₀ work c r = (r ≤ count) × Stepped p count r work₀ work c
 
 abbrev μ-loop : tie.MeasureT-loop
-μ-loop p count work₀ weight c₀ r₀ work c r = count - r
+μ-loop p count work₀ reciprocal c₀ r₀ work c r = count - r
 
-weight-requires : tie.Need-weight-requires Inv-loop μ-loop
-weight-requires c κs = omega (arith, isModulus-Prime (c .before .args .p) (c .before .pre .modulus) .two-le)
+reciprocal-requires : tie.Need-reciprocal-requires Inv-loop μ-loop
+reciprocal-requires c κs = omega (arith, isModulus-Prime (c .before .args .p) (c .before .pre .modulus) .two-le)
 
 start-requires : tie.Need-start-requires Inv-loop μ-loop
 start-requires c κs = search needs
@@ -33,7 +33,7 @@ step-requires c κs =
     let loop = c .before .before in
     let begun = loop .before .before .before in
     let start = begun .before .before .before .before in
-    (stepped-turn (start .pre) (stepped-on (begun .start .ensures) (loop .loop .inv .1)) (c .before .loop-test .taken), begun .before .before .weight .ensures)
+    (stepped-turn (start .pre) (stepped-on (begun .start .ensures) (loop .loop .inv .1)) (c .before .loop-test .taken), begun .before .before .reciprocal .ensures)
 
 loop-less : tie.Need-loop-less Inv-loop μ-loop
 loop-less c = search needs
@@ -64,7 +64,7 @@ shortest-spec =
     (tie.spec
     Inv-loop
     μ-loop
-    weight-requires
+    reciprocal-requires
     start-requires
     loop-holds
     add-r

@@ -24,10 +24,10 @@ use Rattle.wiedemann.proofs.solver.is_settled.Reads as is-settled-reads
 use Rattle.wiedemann.proofs.solver.pass.Reads as pass-reads
 
 abbrev Inv-loop : tie.InvT-loop
-Inv-loop p weight starts columns values b words vectors work₀ n c₀ j₀ work c j = Midway p (matrix starts columns values) b words work j c × (length work ≡ length work₀)
+Inv-loop p reciprocal starts columns values b words vectors work₀ n c₀ j₀ work c j = Midway p (matrix starts columns values) b words work j c × (length work ≡ length work₀)
 
 abbrev μ-loop : tie.MeasureT-loop
-μ-loop p weight starts columns values b words vectors work₀ n c₀ j₀ work c j = length (projections p (length starts - 1) words) - j
+μ-loop p reciprocal starts columns values b words vectors work₀ n c₀ j₀ work c j = length (projections p (length starts - 1) words) - j
 
 -- "R from 0 to 64", and n at most 4,096
 most : (p n vectors : ℕ) (words : List ℕ) → Words n vectors words → n ≤ 4096 → length (projections p n words) ≤ 8192

@@ -14,15 +14,15 @@ use Rattle.wiedemann.proofs.solver.solve_accepted.Reads as reads
 use Rattle.wiedemann.proofs.solver.solve_accepted.Lts as lts
 use Rattle.wiedemann.proofs.solver.finish.Reads as finish-reads
 use Rattle.wiedemann.proofs.solver.run.Reads as run-reads
-use Rattle.wiedemann.proofs.sums.weight.Reads as weight-reads
+use Rattle.wiedemann.proofs.sums.reciprocal.Reads as reciprocal-reads
 
 -- nothing was refused
 fine : (c : tie.Start) → Taken (c .args .p) (matrix (now (c .args .starts)) (now (c .args .columns)) (now (c .args .values))) (now (c .args .b)) (now (c .args .words)) (now (c .args .vector)) (now (c .args .polynomial)) (now (c .args .work))
 fine c = taken-of (c .args .p) (matrix (now (c .args .starts)) (now (c .args .columns)) (now (c .args .values))) (now (c .args .b)) (now (c .args .words)) (now (c .args .vector)) (now (c .args .polynomial)) (now (c .args .work)) (c .pre)
 
 -- src/solver.rt:374:9
-weight-requires : tie.Need-weight-requires
-weight-requires c κs = fine (c .before .before .before .before .before .before .before .before) .system .valid .positive
+reciprocal-requires : tie.Need-reciprocal-requires
+reciprocal-requires c κs = fine (c .before .before .before .before .before .before .before .before) .system .valid .positive
 
 -- src/solver.rt:375:34
 sub-vectors : tie.Need-sub-vectors
@@ -40,13 +40,13 @@ div-vectors c =
 run-requires : tie.Need-run-requires
 run-requires c κs =
     let t = fine (c .before .before .before .before .before .before .before .before .before .before) in
-    (t .system, (c .before .weight .ensures, t .words-taken, t .room))
+    (t .system, (c .before .reciprocal .ensures, t .words-taken, t .room))
 
 -- src/solver.rt:377:5
 finish-requires : tie.Need-finish-requires
 finish-requires c κs =
     let t = fine (c .before .before .before .before .before .before .before .before .before .before .before .before .before .before .before .before) in
-    ((t .system, c .before .before .before .before .before .before .before .weight .ensures), (closable (t .system) (c .before .before .before .before .before .run .ensures), t .vector-size, t .polynomial-size))
+    ((t .system, c .before .before .before .before .before .before .before .reciprocal .ensures), (closable (t .system) (c .before .before .before .before .before .run .ensures), t .vector-size, t .polynomial-size))
 
 -- src/solver.rt:360:1
 same-length : tie.Need-same-length
@@ -68,7 +68,7 @@ pub solve-accepted-spec : {M : Type 1} → statement M
 solve-accepted-spec =
     tie.close
     (tie.spec
-    weight-requires
+    reciprocal-requires
     sub-vectors
     div-vectors
     run-requires

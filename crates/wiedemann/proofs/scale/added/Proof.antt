@@ -1,12 +1,12 @@
--- `wiedemann::matrix::added` meets its contract: two sums below 2p, each folded. Assumes nothing.
+-- `wiedemann::scale::added` meets its contract: two sums below 2p, each folded. Assumes nothing.
 use mathlib.Core.Path.{ap, _∙_}
 use Prim.Native.Nat.{_+_, _%_, _<_}
 use native.Mathlib.Nat.{mod-lt}
 use native.Mathlib.Omega.{arith}
 use Rattle.meaning.specs.Field.{plus}
 use borrow.Author.Needs.{needs}
-use Rattle.wiedemann.proofs.matrix.added.Statement.{statement}
-use Rattle.wiedemann.proofs.matrix.added.Tie as tie
+use Rattle.wiedemann.proofs.scale.added.Statement.{statement}
+use Rattle.wiedemann.proofs.scale.added.Tie as tie
 
 below : (c : tie.After-folded) → c .folded .result < c .before .before .args .p
 below c = rw (c .folded .ensures) (mod-lt (c .before .near .result) (omega (arith, c .before .before .pre .0)))
@@ -14,14 +14,20 @@ below c = rw (c .folded .ensures) (mod-lt (c .before .near .result) (omega (arit
 near-requires : tie.Need-near-requires
 near-requires c κs = search needs
 
+cast-folded : tie.Need-cast-folded
+cast-folded c = search needs
+
 folded-requires : tie.Need-folded-requires
 folded-requires c κs = search needs
 
 add-folded : tie.Need-add-folded
 add-folded c = omega (arith, c .before .before .pre .1, c .before .before .pre .3, below c)
 
+cast-folded-2 : tie.Need-cast-folded-2
+cast-folded-2 c = search needs
+
 folded-requires-2 : tie.Need-folded-requires-2
-folded-requires-2 c κs = (omega (arith, c .before .before .pre .3, below c), c .before .before .pre .1)
+folded-requires-2 c κs = omega (arith, c .before .before .pre .3, below c)
 
 returns : tie.Need-returns
 unfolding plus
@@ -31,4 +37,12 @@ returns c =
 
 pub added-spec : {M : Type 1} → statement M
 added-spec =
-    tie.close (tie.spec near-requires folded-requires add-folded folded-requires-2 returns)
+    tie.close
+    (tie.spec
+    near-requires
+    cast-folded
+    folded-requires
+    add-folded
+    cast-folded-2
+    folded-requires-2
+    returns)

@@ -1,12 +1,12 @@
--- `wiedemann::matrix::near` meets its contract: Shoup's law at B = 2³². Assumes nothing.
+-- `wiedemann::scale::near` meets its contract: Shoup's law at B = 2³². Assumes nothing.
 use Prim.Native.Nat.{ℕ, _+_, _*_, _-_, _/_, _≤_, _<_}
 use native.Mathlib.Nat.{mul-le-mul}
 use native.Mathlib.Omega.{arith}
 use Rattle.meaning.specs.Field.{times}
 use Rattle.wiedemann.proofs.Shoup.{shoup-le, shoup-lt, shoup-mod}
 use borrow.Author.Needs.{needs}
-use Rattle.wiedemann.proofs.matrix.near.Statement.{statement}
-use Rattle.wiedemann.proofs.matrix.near.Tie as tie
+use Rattle.wiedemann.proofs.scale.near.Statement.{statement}
+use Rattle.wiedemann.proofs.scale.near.Tie as tie
 
 module _ (c : tie.Start) where
   abbrev whole : ℕ
