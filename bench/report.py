@@ -40,6 +40,7 @@ Key = collections.namedtuple('Key', 'what n k p')
 class Times:
     def __init__(self, path):
         self.seconds = collections.defaultdict(dict)  # Key -> name -> seconds
+        self.turns = collections.defaultdict(dict)  # Key -> name -> rounds that it took part in
         self.wrong = set()  # (Key, name) whose solve gave no right answer
         self.lent, self.memory = {}, collections.defaultdict(dict)
         self.says = collections.defaultdict(lambda: collections.defaultdict(collections.Counter))
@@ -61,8 +62,19 @@ class Times:
         else:
             key = Key(what, n, k, p)
             self.seconds[key][fields[4]] = float(fields[5])
+            self.turns[key][fields[4]] = int(fields[6])
             if what in ('solve', 'growth') and fields[8] not in ('Ax = b', 'Aw = 0'):
                 self.wrong.add((key, fields[4]))
+
+    def rounds(self):
+        return max(turns for row in self.turns.values() for turns in row.values())
+
+    def remark(self, key, name):
+        """What the reader of a time is to know: that it is of fewer rounds, that the answer was wrong."""
+        turns = self.turns[key].get(name, 0)
+        fewer = ['%d round%s' % (turns, 's' * (turns > 1))] if 0 < turns < self.rounds() else []
+        wrong = ['no right answer'] if (key, name) in self.wrong else []
+        return ' (%s)' % ', '.join(fewer + wrong) if fewer or wrong else ''
 
     def names(self):
         present = {name for row in self.seconds.values() for name in row}
@@ -102,8 +114,7 @@ def operation_table(times, what, scale, digits):
         row = ['%s × %d, %s' % (count(key.n), key.k, count(key.p))]
         for name in names:
             seconds = times.seconds[key].get(name)
-            mark = ' (no right answer)' if (key, name) in times.wrong else ''
-            row.append('' if seconds is None else show(scale(key, seconds), digits) + mark)
+            row.append('' if seconds is None else show(scale(key, seconds), digits) + times.remark(key, name))
         row += [show(ratio(times, key, name)) for name in others]
         table.append(row)
     return rows_of(table)
@@ -130,7 +141,8 @@ def growth_table(times):
         if None in taken:
             continue
         exponent = math.log(taken[-1] / taken[0]) / math.log(keys[-1].n / keys[0].n)
-        table.append([name] + [show(1e3 * seconds, 1) for seconds in taken] + [show(exponent)])
+        cells = [show(1e3 * seconds, 1) + times.remark(key, name) for key, seconds in zip(keys, taken)]
+        table.append([name] + cells + [show(exponent)])
     return rows_of(table)
 
 
@@ -176,8 +188,9 @@ def machine():
 def page(times, picture):
     """All sections, in Markdown."""
     return '\n\n'.join([
-        '%s. %s. Each time is the least of several rounds in one process, in which the programs took turns. '
-        '"To X" is our time divided by that of X.' % (datetime.date.today().isoformat(), machine()),
+        '%s. %s. Each time is the least of %d rounds in one process, in which the programs took turns; where a program '
+        'sat out some rounds, its number of rounds stands beside it. "To X" is our time divided by that of X.'
+        % (datetime.date.today().isoformat(), machine(), times.rounds()),
         '![Times beside LinBox](%s)' % picture,
         '## What was to be reached', goal_table(times),
         '## Whole solve, milliseconds', operation_table(times, 'solve', lambda key, t: 1e3 * t, 1),

@@ -5,7 +5,7 @@
 --     neg-*, mul-*     laws of signs and zeros that follow
 --     sub-zero-eq      a ⊕ ⊖ b ≡ 𝟎 only for a ≡ b
 --     mul-cancel       in a field a ⊗ b ≡ 𝟎 and a ≢ 𝟎 only for b ≡ 𝟎
-use mathlib.Core.Path.{_≡_, refl, sym, ap, _∙_}
+use mathlib.Core.Path.{_≡_, sym, ap, _∙_}
 use mathlib.Core.Logic.{_≢_}
 
 pub record Ring : Type 1 where

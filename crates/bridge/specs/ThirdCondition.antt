@@ -19,8 +19,8 @@
 --     everyTwoRuns         every two runs on one system give the same kind, vector and polynomial, whatever their words
 use mathlib.Core.Path.{_≡_, refl, sym, ap, ap₂, fun-ext, subst, _∙_}
 use mathlib.Core.Logic.{_≢_, _⊎_, inl, inr, _↔_}
-use mathlib.Core.Bool.{Bool, true, false, not, cond, _&&_}
-use mathlib.Core.List.{List, _∷_}
+use mathlib.Core.Bool.{true, false, not, cond, _&&_}
+use mathlib.Core.List.{List}
 use Prim.Native.Nat.{ℕ, zero, suc, _+_, _-_, _*_, _/_, _%_, _≤_, _<_}
 use native.Mathlib.Numerals.{add-one}
 use native.Mathlib.Decide.{ℕ-discrete}
@@ -35,7 +35,7 @@ use Rattle.meaning.specs.Matrix.{Matrix, size, product, power, apply}
 use Rattle.meaning.specs.Recurrence.{isMonic}
 use Rattle.meaning.specs.Solver.{vectors, units, projections, Run, begin, run, Kind, solved, singular, verdict, close, solve}
 use Rattle.meaning.specs.ThirdCondition.{inSpan, termCost, ThirdCondition, SameAnswer}
-use Rattle.meaning.specs.Refusal.{Check, check, first, elements, sizeTaken, startsTaken, columnsTaken, valueTaken, matrixChecks}
+use Rattle.meaning.specs.Refusal.{first, elements, sizeTaken, startsTaken, columnsTaken, valueTaken, matrixChecks}
 use Rattle.meaning.specs.Calls.{systemChecks, runChecks, EveryRun, EveryTwoRuns}
 use Rattle.laws.specs.Bool.{and-left, and-right, test-cases, never}
 use Rattle.laws.specs.List.{length-table}

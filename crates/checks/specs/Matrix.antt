@@ -4,26 +4,24 @@
 --     all-next, allFrom-none, allFrom-next, allFrom-not      tests along a loop
 --     size-range, length-sizeTaken, rows-columnsTaken, all-elements      each check by what the code asks
 --     Ordered          starts that rise and stay within the entries
-use mathlib.Core.Path.{_≡_, refl, sym, ap, ap₂, _∙_, subst}
-use mathlib.Core.Bool.{Bool, true, false, cond, _&&_, _||_, not}
-use mathlib.Core.Logic.{_≢_}
+use mathlib.Core.Path.{_≡_, refl, sym, ap, _∙_, subst}
+use mathlib.Core.Bool.{Bool, true, false, _&&_, _||_, not}
 use mathlib.Core.List.{List, [], _∷_, _++_, append-assoc}
 use Prim.Native.Nat.{ℕ, zero, suc, _+_, _-_, _*_, _%_, _≤_, _<_}
 use native.Mathlib.Nat.{add-zero, sub-self, add-sub-of-le, le-refl, le-trans}
-use native.Mathlib.Decide.{decLt, ℕ-discrete}
+use native.Mathlib.Decide.{decLt}
 use native.Mathlib.Numerals.{add-one}
 use native.Mathlib.Omega.{arith}
 use lib.Dec.{eqb, ltb, leb}
 use lib.ListN.{length}
-use lib.Seq.{ext-getD}
-use borrow.Author.Tests.{ltb-true, leb-true, eqb-true, eqb-false, not-true, not-false, le-leb, eq-eqb, ne-eqb}
-use Rattle.meaning.specs.List.{at, all, allFrom, every, equal, isZero}
+use borrow.Author.Tests.{ltb-true, leb-true, eqb-true, not-false, le-leb, ne-eqb}
+use Rattle.meaning.specs.List.{at, all, allFrom, every}
 use Rattle.meaning.specs.Field.{isPrime, isModulus}
-use Rattle.meaning.specs.Matrix.{Matrix, matrix, size, product}
-use Rattle.meaning.specs.Refusal.{Check, check, first, unlessRefused, within, sizeTaken, startsTaken, columnsTaken, valueTaken, elements, matrixChecks}
+use Rattle.meaning.specs.Matrix.{Matrix, matrix, size}
+use Rattle.meaning.specs.Refusal.{Check, check, first, within, sizeTaken, startsTaken, columnsTaken, valueTaken, elements, matrixChecks}
 use Rattle.meaning.specs.Calls.{systemChecks, productRefusal, applyRefusal, takesRefusal}
 use Rattle.laws.specs.Bool.{and-left, and-right, and-both, same-test}
-use Rattle.laws.specs.List.{all-zero, all-suc, all-at, all-of, all-not, equal→≡, equal-refl, every-cons, every-at, every-all}
+use Rattle.laws.specs.List.{all-zero, all-suc, all-at, all-not, every-at, every-all}
 use Rattle.laws.specs.Refusal.{first-none, Numbered, first-append-zero}
 use Rattle.checks.specs.Valid.{Valid, Vector}
 

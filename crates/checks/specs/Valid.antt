@@ -5,7 +5,7 @@
 --     rowProduct       their sum over row i
 --     Entries          what the sum of a row needs to know: entries and elements below 2³¹ − 1, columns within v
 --     valid-entries    a valid matrix with a vector
-use mathlib.Core.Path.{_≡_, sym}
+use mathlib.Core.Path.{_≡_}
 use mathlib.Core.List.{List}
 use Prim.Native.Nat.{ℕ, _+_, _*_, _≤_, _<_}
 use native.Mathlib.Omega.{arith}

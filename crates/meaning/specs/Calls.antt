@@ -12,14 +12,14 @@
 use mathlib.Core.Path.{_≡_}
 use mathlib.Core.Bool.{Bool, false, not, _&&_}
 use mathlib.Core.List.{List, [], _∷_, _++_}
-use Prim.Native.Nat.{ℕ, _+_, _-_, _*_}
+use Prim.Native.Nat.{ℕ, _+_, _*_}
 use lib.Dec.{eqb, ltb, leb}
 use lib.ListN.{length}
 use Rattle.meaning.specs.List.{padded, overwrite}
-use Rattle.meaning.specs.Field.{isModulus, plus, minus, times, inverse}
-use Rattle.meaning.specs.Matrix.{Matrix, matrix, size, product, transposed, apply}
+use Rattle.meaning.specs.Field.{isModulus, inverse}
+use Rattle.meaning.specs.Matrix.{Matrix, matrix, size, apply}
 use Rattle.meaning.specs.Recurrence.{degree, generator}
-use Rattle.meaning.specs.Solver.{Outcome, solve, takes, isNull}
+use Rattle.meaning.specs.Solver.{solve, takes, isNull}
 use Rattle.meaning.specs.ThirdCondition.{ThirdCondition, SameAnswer}
 use Rattle.meaning.specs.Text.{Document, document, inForm, System, system, write}
 use Rattle.meaning.specs.Answer.{answerText, refusedText}

@@ -13,7 +13,7 @@ use lib.ListN.{length}
 use Rattle.meaning.specs.List.{at, sum, table, zeros, isZero}
 use Rattle.meaning.specs.Matrix.{Matrix, size, product, power, apply}
 use Rattle.meaning.specs.Recurrence.{isMonic}
-use Rattle.meaning.specs.Solver.{Outcome, Kind, solved, singular, passes}
+use Rattle.meaning.specs.Solver.{Outcome, solved, singular, passes}
 
 -- n coefficients c with b = c[0] × Ab + .. + c[n − 1] × Aⁿb
 abbrev pub inSpan : ℕ → Matrix → List ℕ → Type 0

@@ -4,30 +4,29 @@
 --     EntriesFilled                    after k `a` lines; entry-is, entry-line-more, entries-done: its turn and its end
 use mathlib.Core.Path.{_≡_, refl, sym, ap, ap₂, _∙_, subst}
 use mathlib.Core.Logic.{_⊎_, inl, inr}
-use mathlib.Core.Bool.{Bool, true, false, not, cond, _&&_, _||_}
-use mathlib.Core.List.{List, [], _∷_, _++_, map, append-nil, append-assoc}
+use mathlib.Core.Bool.{Bool, true, false, not, _&&_, _||_}
+use mathlib.Core.List.{List, [], _∷_, _++_, append-nil}
 use Prim.Native.Nat.{ℕ, zero, suc, _+_, _-_, _≤_, _<_}
 use native.Mathlib.Omega.{arith}
 use native.Mathlib.Nat.{add-zero}
 use native.Mathlib.Numerals.{add-one}
-use native.Mathlib.Decide.{ℕ-discrete}
 use lib.Dec.{eqb, ltb, leb}
 use lib.ListN.{getD, length, take, drop, set, replicate, length-append, length-drop, length-set, length-map, take-append-drop, drop-of-length-le, List·getD-map}
-use lib.Seq.{sets, drop-cons, take-suc, take-all, take-length, length-take-le, set-at, append-snoc, drop-drop, set-append-left, getD-set-same, getD-set-other}
-use borrow.Author.Tests.{leb-true, le-leb, lt-leb, ltb-true, eqb-true, eq-eqb, ne-eqb, not-true}
+use lib.Seq.{sets, drop-cons, take-suc, take-length, length-take-le, set-at, append-snoc, drop-drop}
+use borrow.Author.Tests.{leb-true, le-leb, lt-leb, ltb-true, eqb-true, not-true}
 use Rattle.meaning.specs.List.{at, table, every, select, overwrite}
 use Rattle.meaning.specs.Text as text
 use Rattle.meaning.specs.Text.{lines, row}
 use Rattle.meaning.specs.Refusal.{within}
-use Rattle.laws.specs.Bool.{and-left, and-right, and-both, test-cases, never}
-use Rattle.laws.specs.List.{table-suc, table-zero, length-table, getD-table, table-of, every-nil, every-cons}
-use Rattle.text_laws.specs.Lists.{select-nil, select-yes, select-no, select-append, select-all, every-join, every-one, every-head, every-tail, every-more, every-weaken}
-use Rattle.system_text.specs.Order.{body, rightSide, closing, right-none, closing-element, body-entry, right-element}
+use Rattle.laws.specs.Bool.{and-left, and-right, test-cases}
+use Rattle.laws.specs.List.{table-suc, table-zero, length-table, every-nil}
+use Rattle.text_laws.specs.Lists.{select-nil, select-no, select-append, select-all, every-join, every-one, every-head, every-tail, every-more, every-weaken}
+use Rattle.system_text.specs.Order.{body, right-none, body-entry}
 use Rattle.system_text.specs.Lines.{Here, said, Says}
-use Rattle.system_text.specs.Places.{entryTaken, elementTaken, entriesTaken, elementsTaken, entriesTaken-cons, elementsTaken-cons, entriesOf, elementsOf, saying-here, not-entry, not-element}
-use Rattle.system_text.specs.Fill.{startsOf, columnsOf, valuesOf, rightOf, EntriesAhead, ElementsAhead}
+use Rattle.system_text.specs.Places.{entryTaken, elementTaken, entriesTaken, entriesTaken-cons, entriesOf, saying-here, not-entry}
+use Rattle.system_text.specs.Fill.{startsOf, columnsOf, valuesOf, EntriesAhead}
 use Rattle.system_text.specs.declared.line.Line.{Line}
-use Rattle.system_text.specs.declared.line.Line.the-variants.{Header, Entry, Element, Ending, Broken}
+use Rattle.system_text.specs.declared.line.Line.the-variants.{Entry}
 
 -- ---- a list laid over another
 

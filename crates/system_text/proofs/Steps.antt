@@ -1,16 +1,15 @@
 -- One turn of the loops over a text, at a place `at` of it.
 --     run-turn, run-stop   a byte that extends a numeral, and one that does not
 --     word-turn, word-stop, word-past, word-done      a byte that a word shares, and the ways out
-use mathlib.Core.Path.{_≡_, refl, sym, ap, ap₂, _∙_, subst}
-use mathlib.Core.Bool.{Bool, true, false}
-use mathlib.Core.List.{List, [], _∷_, _++_}
-use Prim.Native.Nat.{ℕ, zero, suc, _+_, _-_, _*_, _≤_, _<_}
+use mathlib.Core.Path.{_≡_, sym, ap, ap₂, _∙_}
+use mathlib.Core.Bool.{true, false}
+use mathlib.Core.List.{List, _∷_}
+use Prim.Native.Nat.{ℕ, _+_, _-_, _*_, _≤_, _<_}
 use native.Mathlib.Omega.{arith}
-use native.Mathlib.Numerals.{add-one}
-use lib.Dec.{eqb, ltb, leb}
-use lib.ListN.{getD, length, take, drop, drop-of-length-le}
-use borrow.Author.Tests.{lt-ltb, le-ltb}
-use Rattle.system_text.specs.Scan.{drop-here, common, common-none, common-all, common-yes, common-no, extendsBy, run, runValue, run-nil, run-yes, run-no, runValue-nil, runValue-yes, runValue-no}
+use lib.Dec.{ltb}
+use lib.ListN.{getD, length, drop, drop-of-length-le}
+use borrow.Author.Tests.{lt-ltb}
+use Rattle.system_text.specs.Scan.{drop-here, common, common-none, common-all, common-yes, common-no, extendsBy, run, runValue, run-yes, run-no, runValue-yes, runValue-no}
 
 module _ (text : List ℕ) (from i v : ℕ) (h : from ≤ i) (l : i < length text) where
   pub run-turn : extendsBy (ltb from i) v (getD text i 0) ≡ true

@@ -1,14 +1,14 @@
 -- Where a line was not of the form that was asked for: its tag is one of the others.
-use mathlib.Core.Path.{_≡_, sym, ap, subst}
-use mathlib.Core.Logic.{_⊎_, inl, inr}
-use mathlib.Core.List.{List, [], _∷_}
+use mathlib.Core.Path.{_≡_, ap}
+use mathlib.Core.Logic.{inl, inr}
+use mathlib.Core.List.{[], _∷_}
 use Prim.Native.Nat.{ℕ}
 use native.Mathlib.Omega.{arith}
 use denote.Enum.Declared.{tagOf}
 use types.Run.{OneOf}
 use Rattle.system_text.proofs.line.Line.{the-type}
 use Rattle.system_text.specs.declared.line.Line.{Line}
-use Rattle.system_text.specs.declared.line.Line.the-variants.{Header, Entry, Element, Ending, Broken}
+use Rattle.system_text.specs.declared.line.Line.the-variants.{Header, Entry, Element, Ending}
 
 none-of : (k : ℕ) → OneOf (0 ∷ 2 ∷ 3 ∷ 4 ∷ []) k → k ≡ 1 → ⊥
 none-of k (inl a) e = omega arith

@@ -1,14 +1,14 @@
 -- What the second pass fills in: the parts of the meaning's system, and what it may take for granted.
 --     startsOf, columnsOf, valuesOf, rightOf       of the entries and elements that a text says
 --     EntriesAhead, ElementsAhead                  the lines from a place on are in form, and their places are taken
-use mathlib.Core.Path.{_≡_, refl, sym, ap, ap₂, _∙_, subst}
-use mathlib.Core.Bool.{Bool, true, false}
-use mathlib.Core.List.{List, [], _∷_, map}
-use Prim.Native.Nat.{ℕ, zero, suc, _+_, _-_, _≤_, _<_}
-use lib.Dec.{eqb, ltb, leb}
+use mathlib.Core.Path.{_≡_}
+use mathlib.Core.Bool.{true}
+use mathlib.Core.List.{List, [], map}
+use Prim.Native.Nat.{ℕ, _+_, _-_, _≤_}
+use lib.Dec.{eqb, leb}
 use lib.ListN.{getD, length, drop}
 use Rattle.meaning.specs.List.{at, table, select}
-use Rattle.meaning.specs.Text.{lines, row, Document, System, system}
+use Rattle.meaning.specs.Text.{lines, row}
 use Rattle.system_text.specs.Order.{body, rightSide}
 use Rattle.system_text.specs.Places.{entriesOf, elementsOf, entriesTaken, elementsTaken}
 

@@ -3,18 +3,18 @@
 --     closing, rightSide, body, whole      `end` and nothing after it; `b` lines before that; `a` lines before that; the `system` line before that
 --     Unformed ls                  no form begins with these lines
 -- Laws: whole-form : inForm text ≡ whole (lines text); what each step leaves; no `a` line stands in a right side, and so on.
-use mathlib.Core.Path.{_≡_, refl, sym, ap, ap₂, _∙_, subst}
+use mathlib.Core.Path.{_≡_, refl, sym, ap, ap₂, _∙_}
 use mathlib.Core.Logic.{_⊎_, inl, inr}
-use mathlib.Core.Bool.{Bool, true, false, not, cond, _&&_, _||_}
+use mathlib.Core.Bool.{Bool, true, false, not, cond, _&&_}
 use mathlib.Core.List.{List, [], _∷_, _++_, map, append-assoc}
-use Prim.Native.Nat.{ℕ, zero, suc, _+_, _-_, _*_, _≤_, _<_}
+use Prim.Native.Nat.{ℕ, zero, suc, _+_, _-_, _≤_, _<_}
 use native.Mathlib.Omega.{arith}
-use lib.Dec.{eqb, ltb, leb}
-use lib.ListN.{getD, length, take, drop, replicate}
-use borrow.Author.Tests.{eqb-true, eqb-false, eq-eqb, ne-eqb, not-true}
-use Rattle.meaning.specs.List.{at, every, equal, select}
-use Rattle.meaning.specs.Text.{Form, header, entry, element, ending, nothing, broken, rank, isOf, Line, lineOf, lines, saying, inForm}
-use Rattle.laws.specs.Bool.{and-left, and-right, and-both, and-false-left, and-false-right, test-cases, never, same-test}
+use lib.Dec.{eqb}
+use lib.ListN.{length, replicate}
+use borrow.Author.Tests.{eqb-true, ne-eqb, not-true}
+use Rattle.meaning.specs.List.{every, equal}
+use Rattle.meaning.specs.Text.{Form, header, entry, element, rank, isOf, Line, lines, saying, inForm}
+use Rattle.laws.specs.Bool.{and-left, and-right, and-false-left, and-false-right, test-cases}
 use Rattle.laws.specs.List.{equal→≡, every-nil, every-cons}
 use Rattle.text_laws.specs.Lists.{select-nil, select-yes, select-no}
 

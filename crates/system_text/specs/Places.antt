@@ -5,23 +5,23 @@
 --     EntriesPassed, ElementsPassed    what is known of the lines that were read
 --     EntriesRead, ElementsRead        what is known where they end
 -- Laws: entries-places, elements-places: all places are taken exactly if check 6 takes them; what a line more or another line gives.
-use mathlib.Core.Path.{_≡_, refl, sym, ap, ap₂, _∙_, subst}
+use mathlib.Core.Path.{_≡_, refl, sym, ap, ap₂, _∙_}
 use mathlib.Core.Logic.{_⊎_, inl, inr}
-use mathlib.Core.Bool.{Bool, true, false, not, cond, _&&_, _||_}
-use mathlib.Core.List.{List, [], _∷_, _++_, map}
-use Prim.Native.Nat.{ℕ, zero, suc, _+_, _-_, _≤_, _<_}
+use mathlib.Core.Bool.{Bool, true, false, _&&_, _||_}
+use mathlib.Core.List.{List, [], _∷_}
+use Prim.Native.Nat.{ℕ, _+_, _-_, _≤_}
 use native.Mathlib.Omega.{arith}
 use native.Mathlib.Nat.{add-zero}
 use lib.Dec.{eqb, ltb, leb}
-use lib.ListN.{getD, length, take, drop}
+use lib.ListN.{length, drop}
 use borrow.Author.Tests.{lt-ltb, leb-true, eq-eqb}
 use Rattle.meaning.specs.List.{at, every, chain, chainFrom}
 use Rattle.meaning.specs.Text as text
 use Rattle.meaning.specs.Text.{lines, saying, row}
 use Rattle.meaning.specs.Refusal.{within, before, valueTaken}
-use Rattle.laws.specs.Bool.{and-left, and-right, and-both, test-cases}
+use Rattle.laws.specs.Bool.{and-left, test-cases}
 use Rattle.laws.specs.List.{every-nil, every-cons}
-use Rattle.system_text.specs.Order.{rightSide, body, closing, Unformed, saying-yes, saying-no, body-entry, body-other, right-element, right-other, right-none, closing-element}
+use Rattle.system_text.specs.Order.{rightSide, body, closing, saying-yes, saying-no, body-entry, body-other, right-element, right-other, right-none, closing-element}
 use Rattle.system_text.specs.Lines.{Here, said, Says}
 use Rattle.system_text.specs.declared.line.Line.{Line}
 use Rattle.system_text.specs.declared.line.Line.the-variants.{Header, Entry, Element, Ending, Broken}

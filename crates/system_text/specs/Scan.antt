@@ -10,18 +10,18 @@ use mathlib.Core.Path.{_≡_, refl, sym, ap, ap₂, _∙_, subst}
 use mathlib.Core.Logic.{_⊎_, inl, inr}
 use mathlib.Core.Bool.{Bool, true, false, not, cond, _&&_, _||_}
 use mathlib.Core.List.{List, [], _∷_, _++_, map}
-use Prim.Native.Nat.{ℕ, zero, suc, _+_, _-_, _*_, _≤_, _<_}
+use Prim.Native.Nat.{ℕ, suc, _+_, _-_, _*_, _≤_, _<_}
 use native.Mathlib.Omega.{arith}
 use native.Mathlib.Numerals.{add-one}
-use lib.Dec.{eqb, ltb, leb, eqb·suc-suc}
-use lib.ListN.{getD, length, take, drop}
+use lib.Dec.{eqb, leb, eqb·suc-suc}
+use lib.ListN.{getD, length, drop}
 use lib.Seq.{drop-cons}
-use borrow.Author.Tests.{eqb-true, eqb-false, eq-eqb, ne-eqb, leb-true, leb-false, le-leb, lt-leb, not-true, not-false}
-use Rattle.meaning.specs.List.{at, every, equal}
-use Rattle.meaning.specs.Text.{isDigit, isNumeral, valueAfter, valueOf, onFirst, parts, Line, lineOf, lines, hasForm}
+use borrow.Author.Tests.{eqb-true, eqb-false, eq-eqb, ne-eqb, leb-true, le-leb, not-true}
+use Rattle.meaning.specs.List.{every, equal}
+use Rattle.meaning.specs.Text.{isDigit, isNumeral, valueAfter, valueOf, onFirst, parts, lineOf, lines}
 use Rattle.laws.specs.Bool.{and-left, and-right, and-both, and-false-left, and-false-right, test-cases, never, same-test}
 use Rattle.laws.specs.List.{every-nil, every-cons}
-use Rattle.text_laws.specs.Numeral.{value-nil, value-cons, digit-low, digit-high, numeral-some, numeral-digits, numeral-lead, numeral-bounded, numeral-of}
+use Rattle.text_laws.specs.Numeral.{value-nil, value-cons, digit-low, digit-high, numeral-digits, numeral-lead, numeral-bounded, numeral-of}
 use Rattle.text_laws.specs.Line.{parts-nil, parts-cut, parts-other, parts-some, onFirst-cons}
 
 -- what follows a place: its byte, and what follows that

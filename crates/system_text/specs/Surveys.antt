@@ -5,9 +5,9 @@
 -- Laws: whole-surveyed, not-header; reader-refusal: surveyRefusal is readerRefusal.
 use mathlib.Core.Path.{_≡_, refl, sym, ap, ap₂, _∙_, subst}
 use mathlib.Core.Logic.{_⊎_, inl, inr}
-use mathlib.Core.Bool.{Bool, true, false, not, cond, _&&_, _||_}
+use mathlib.Core.Bool.{Bool, true, false, not, cond, _&&_}
 use mathlib.Core.List.{List, [], _∷_, _++_}
-use Prim.Native.Nat.{ℕ, zero, suc, _+_, _-_, _≤_, _<_}
+use Prim.Native.Nat.{ℕ, suc, _+_, _-_, _≤_, _<_}
 use native.Mathlib.Omega.{arith}
 use lib.Dec.{eqb, ltb, leb}
 use lib.ListN.{getD, length, drop}
@@ -15,7 +15,7 @@ use Rattle.meaning.specs.List.{at, every, chain}
 use Rattle.meaning.specs.Field.{isModulus}
 use Rattle.meaning.specs.Text as text
 use Rattle.meaning.specs.Text.{lines, saying, row, inForm, Document, document, system}
-use Rattle.meaning.specs.Refusal.{Check, check, first, unlessRefused, within, before, valueTaken, countTaken, placesTaken, documentChecks}
+use Rattle.meaning.specs.Refusal.{Check, check, first, unlessRefused, within, before, countTaken, placesTaken, documentChecks}
 use Rattle.meaning.specs.Calls.{textChecks, readerRefusal}
 use borrow.Author.Tests.{le-leb, lt-leb, leb-true, eqb-true, eq-eqb, ne-eqb, not-false}
 use Rattle.laws.specs.Bool.{and-left, and-right, and-false-left, and-false-right, test-cases, never}

@@ -9,7 +9,6 @@ ghost use mathlib.Core.Path.{_≡_};
 ghost use mathlib.Core.Bool.{_&&_};
 ghost use Prim.Native.Nat.{_+_};
 ghost use lib.Dec.{eqb, leb};
-ghost use lib.ListN.{length};
 ghost use Rattle.meaning.specs.Refusal.{within};
 ghost use Rattle.meaning.specs.Calls.{readerRefusal, readerAnswer, readerAfter};
 ghost use Rattle.system_text.specs.Surveys.{surveyRefusal};

@@ -1,9 +1,8 @@
 // The first pass over a text: whether it is in form (2), and all that the later checks want to know of it.
 ghost use mathlib.Core.Path.{_≡_};
 ghost use mathlib.Core.Bool.{false, _&&_};
-ghost use mathlib.Core.List.{[], _∷_};
 ghost use Prim.Native.Nat.{_≤_};
-ghost use lib.ListN.{length, drop};
+ghost use lib.ListN.{drop};
 ghost use Rattle.meaning.specs.Refusal.{valueTaken};
 ghost use Rattle.meaning.specs.Text.{lines};
 ghost use Rattle.system_text.specs.Order.{closing};

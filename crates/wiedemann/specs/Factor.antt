@@ -9,13 +9,13 @@
 use mathlib.Core.Path.{_≡_, refl, sym, ap, ap₂, _∙_}
 use mathlib.Core.Logic.{_⊎_, inl, inr}
 use mathlib.Core.List.{List}
-use Prim.Native.Nat.{ℕ, suc, _+_, _-_, _*_, _%_, _≤_, _<_}
+use Prim.Native.Nat.{ℕ, _+_, _-_, _*_, _%_, _≤_, _<_}
 use native.Mathlib.Nat.{zero-add, add-zero, zero-mul, mul-zero, eq-or-lt-of-le}
 use native.Mathlib.Decide.{decLt}
 use native.Mathlib.Omega.{arith}
 use lib.ListN.{length, drop, set, length-set, List·getD-eq-default}
 use lib.Seq.{getD-set-same, getD-set-other}
-use Rattle.meaning.specs.List.{at, sum, sumFrom, table}
+use Rattle.meaning.specs.List.{at, sum, sumFrom}
 use Rattle.meaning.specs.Solver.{multiply}
 use Rattle.laws.specs.List.{sum-ext, sum-zeros, table-of}
 use Rattle.wiedemann.specs.declared.sums.Total.{Total}

@@ -12,12 +12,12 @@
 --     vector-table, vector-step, vector-product, vector-apply      what is reduced has elements below p
 use mathlib.Core.Path.{_≡_, refl, sym, ap, ap₂, _∙_}
 use mathlib.Core.List.{List, [], _∷_}
-use Prim.Native.Nat.{ℕ, zero, suc, _+_, _*_, _-_, _%_, _≤_, _<_}
+use Prim.Native.Nat.{ℕ, zero, suc, _+_, _*_, _-_, _%_, _<_}
 use native.Mathlib.Nat.{zero-add, add-zero, zero-mul, mul-zero, mul-add, mul-left-comm, mod-lt, add-mod-mod}
 use native.Mathlib.Omega.{arith}
 use lib.ListN.{length, drop}
 use lib.Seq.{drop-cons, drop-length}
-use Rattle.meaning.specs.List.{at, sum, sumFrom, table}
+use Rattle.meaning.specs.List.{at, sum, table}
 use Rattle.meaning.specs.Field.{times}
 use Rattle.meaning.specs.Matrix.{Matrix, size, product, power, apply}
 use Rattle.laws.specs.List.{sum-zero, sum-suc, sum-ext, sum-zeros, sum-add, sum-mod, length-table, getD-table, table-ext}

@@ -12,17 +12,15 @@
 --     written-take, written-drop      what a write leaves before it and after it
 --     take-padded            a list out of zeros after it
 use mathlib.Core.Path.{_≡_, refl, sym, ap, ap₂, _∙_}
-use mathlib.Core.List.{List, [], _∷_, _++_}
+use mathlib.Core.List.{List, _∷_, _++_}
 use Prim.Native.Nat.{ℕ, suc, _+_, _-_, _≤_, _<_}
-use native.Mathlib.Nat.{zero-add, add-assoc, add-suc}
-use native.Mathlib.Numerals.{add-one}
 use native.Mathlib.Omega.{arith}
-use lib.ListN.{length, take, drop, getD, length-append, length-drop, List·getD-append}
-use lib.Seq.{ext-getD, getD-take, getD-drop, length-take-le, take-take, drop-drop, take-at, drop-at, getD-append-add, drop-cons, take-append-le, drop-append-add}
+use lib.ListN.{length, take, drop, length-append, length-drop}
+use lib.Seq.{ext-getD, getD-take, getD-drop, length-take-le, drop-drop, take-at, drop-at, drop-cons}
 use Rattle.meaning.specs.List.{at, padded}
 use Rattle.laws.specs.List.{length-table, getD-table}
 use Rattle.wiedemann.specs.Written.{Written}
-use Rattle.wiedemann.specs.Region.{part, length-part, at-part, part-ext}
+use Rattle.wiedemann.specs.Region.{part, part-ext}
 
 abbrev pub lent : List ℕ → ℕ → ℕ → List ℕ → List ℕ
 lent W a n Y = take a W ++ (Y ++ drop n (drop a W))

@@ -20,7 +20,7 @@ use lib.Seq.{getD-append-add}
 use borrow.Author.Tests.{eq-eqb, ne-eqb}
 use Rattle.meaning.specs.List.{at, sum, sumFrom, table}
 use Rattle.meaning.specs.Solver.{vectors, units, projections, dot}
-use Rattle.laws.specs.List.{sum-zero, sum-suc, sum-ext, sum-zeros, length-table, getD-table}
+use Rattle.laws.specs.List.{sum-suc, sum-ext, sum-zeros, length-table, getD-table}
 use Rattle.residue.specs.Numbers.{mod-mul-mod}
 use Rattle.wiedemann.specs.Horner.{sum-mod-ext}
 

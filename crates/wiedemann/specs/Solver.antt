@@ -15,25 +15,24 @@ use mathlib.Core.Path.{_≡_, refl, sym, ap, ap₂, _∙_, subst}
 use mathlib.Core.Logic.{_⊎_, inl, inr}
 use mathlib.Core.Bool.{true, false}
 use mathlib.Core.List.{List, [], _∷_, _++_}
-use Prim.Native.Nat.{ℕ, zero, suc, _+_, _-_, _*_, _≤_, _<_}
+use Prim.Native.Nat.{ℕ, _+_, _-_, _*_, _≤_, _<_}
 use native.Mathlib.Nat.{add-zero, zero-add, eq-or-lt-of-le}
 use native.Mathlib.Decide.{decLt}
 use native.Mathlib.Numerals.{add-one}
 use native.Mathlib.Omega.{arith}
-use lib.ListN.{length, take, drop, getD, length-append, length-drop, length-take, take-append-drop}
-use lib.Seq.{take-suc, take-all, getD-drop, length-take-le}
-use Rattle.meaning.specs.List.{at, table, isZero}
+use lib.ListN.{length, take, drop, getD, length-append, length-drop, take-append-drop}
+use lib.Seq.{take-suc, take-all, getD-drop}
+use Rattle.meaning.specs.List.{at, isZero}
 use Rattle.meaning.specs.Field.{isModulus}
 use Rattle.meaning.specs.Matrix.{Matrix, size, apply}
-use Rattle.meaning.specs.Recurrence.{isMonic, degree, generator}
+use Rattle.meaning.specs.Recurrence.{degree, generator}
 use Rattle.meaning.specs.Solver.{projections, terms, multiply, Run, begin, passTerms, pass, run}
 use Rattle.laws.specs.Bool.{test-cases, never}
 use Rattle.laws.specs.List.{table-of}
-use Rattle.algebra.specs.Ring.{Ring, Field}
+use Rattle.algebra.specs.Ring.{Field}
 use Rattle.residue.specs.Prime.{Prime}
 use Rattle.residue.specs.Residue.{residues}
 use Rattle.residue.specs.Lists.{coef, coef-below}
-use Rattle.krylov.specs.Operator.{null}
 use Rattle.krylov.specs.Run.{kept, kept-full}
 use Rattle.bridge.specs.Operator.{operator, operator-linear, null-isZero}
 use Rattle.bridge.specs.Run.{Stands, run-begun, run-nil, run-stop, run-pass, run-rest, run-found}

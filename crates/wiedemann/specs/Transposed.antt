@@ -8,13 +8,13 @@
 --     vector-scattered, vector-gathered      what is reduced is below p
 --     gathered         the transposed product of the first i rows
 --     gathered-none, gathered-more, gathered-all      no row, one row more, all of them
-use mathlib.Core.Path.{_≡_, refl, sym, ap, ap₂, _∙_, subst}
-use mathlib.Core.Logic.{_≢_, _⊎_, inl, inr, ⊎-elim}
-use mathlib.Core.Bool.{Bool, true, false, cond}
+use mathlib.Core.Path.{_≡_, refl, sym, ap, _∙_}
+use mathlib.Core.Logic.{_≢_}
+use mathlib.Core.Bool.{cond}
 use mathlib.Core.List.{List}
-use Prim.Native.Nat.{ℕ, suc, _+_, _*_, _-_, _/_, _%_, _≤_, _<_}
-use native.Mathlib.Nat.{add-zero, sub-zero, zero-mul, one-mul, mul-le-mul, mod-lt, mod-eq-of-lt, mod-add-mod, add-mod-mod, mul-comm, add-assoc, zero-mod}
-use native.Mathlib.Decide.{ℕ-discrete, decLt}
+use Prim.Native.Nat.{ℕ, suc, _+_, _*_, _-_, _%_, _≤_, _<_}
+use native.Mathlib.Nat.{add-zero, mod-lt, mod-eq-of-lt, mod-add-mod, add-mod-mod, mul-comm, add-assoc, zero-mod}
+use native.Mathlib.Decide.{ℕ-discrete}
 use native.Mathlib.Omega.{arith}
 use lib.Dec.{eqb}
 use lib.ListN.{length, set, length-set}
@@ -24,7 +24,6 @@ use Rattle.meaning.specs.List.{at, sum, sumFrom, table, zeros}
 use Rattle.meaning.specs.Field.{plus, times}
 use Rattle.meaning.specs.Matrix.{Matrix, size, rowSum, transposed}
 use Rattle.laws.specs.List.{sum-zero, sum-suc, length-table, getD-table, table-ext, table-of}
-use Rattle.residue.specs.Numbers.{mod-eq-sub}
 use Rattle.wiedemann.specs.Sums.{sumFrom-empty, sumFrom-next}
 use Rattle.checks.specs.Valid.{Vector}
 use Rattle.wiedemann.specs.Horner.{vector-table}

@@ -11,19 +11,19 @@
 --     Shortened              terms, recurrence, and r replaced by f(A)r: shortened
 --     monic-leading          the leading coefficient of a monic polynomial
 --     vector-power, vector-terms, apply-unit      Aⁱv and the terms have elements below p; 1(A)v is v
-use mathlib.Core.Path.{_≡_, refl, sym, ap, ap₂, _∙_, subst}
+use mathlib.Core.Path.{_≡_, refl, sym, ap, ap₂, _∙_}
 use mathlib.Core.Logic.{_⊎_, inl, inr}
 use mathlib.Core.Bool.{true, _&&_}
 use mathlib.Core.List.{List, [], _∷_}
 use Prim.Native.Nat.{ℕ, zero, suc, _+_, _-_, _*_, _%_, _≤_, _<_}
-use native.Mathlib.Nat.{zero-add, add-zero, add-assoc, one-mul, mod-eq-of-lt, eq-or-lt-of-le}
+use native.Mathlib.Nat.{add-zero, one-mul, mod-eq-of-lt, eq-or-lt-of-le}
 use native.Mathlib.Numerals.{add-one}
 use native.Mathlib.Omega.{arith}
-use lib.ListN.{length, take, drop, set, length-set, length-drop}
+use lib.ListN.{length, take, drop, set, length-set}
 use lib.Seq.{getD-set-same, getD-set-other, getD-drop, take-set-le, take-take}
 use lib.Dec.{eqb, ltb}
 use borrow.Author.Tests.{eqb-true}
-use Rattle.meaning.specs.List.{at, sum, table, every, padded}
+use Rattle.meaning.specs.List.{at, sum, every, padded}
 use Rattle.meaning.specs.Field.{times, isModulus}
 use Rattle.meaning.specs.Matrix.{Matrix, size, product, power, apply}
 use Rattle.meaning.specs.Recurrence.{isMonic, degree, generator}
@@ -34,9 +34,9 @@ use Rattle.residue.specs.Prime.{Prime, isModulus-Prime}
 use Rattle.bridge.specs.Recurrence.{steps-within, length-generator, isShortest}
 use Rattle.checks.specs.Valid.{Valid, Vector}
 use Rattle.wiedemann.specs.Written.{Written}
-use Rattle.wiedemann.specs.Region.{part, Apart, Regions, length-part, at-part, part-ext, vector-part, written-part}
+use Rattle.wiedemann.specs.Region.{part, Apart, Regions, length-part, at-part, part-ext, written-part}
 use Rattle.wiedemann.specs.Region as region
-use Rattle.wiedemann.specs.Horner.{step, stepAt, table-step, step-product, power-zero, power-suc, apply-one, apply-cons, vector-table, vector-product, vector-apply}
+use Rattle.wiedemann.specs.Horner.{step, stepAt, table-step, step-product, power-zero, power-suc, apply-one, apply-cons, vector-table, vector-product}
 use Rattle.wiedemann.specs.Recurrence.{Found}
 use Rattle.wiedemann.specs.Lent.{part-at, part-cons, lent, length-lent, take-lent, inner-lent, same-take, same-drop, written-take, written-drop, take-padded}
 

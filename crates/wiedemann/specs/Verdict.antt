@@ -10,9 +10,8 @@
 use mathlib.Core.Path.{_≡_, refl, sym, ap, _∙_, subst}
 use mathlib.Core.Logic.{_≢_}
 use mathlib.Core.Bool.{true, false, not, cond, _&&_}
-use mathlib.Core.List.{List, [], _∷_, _++_}
+use mathlib.Core.List.{List, [], _∷_}
 use Prim.Native.Nat.{ℕ, _+_, _-_, _*_}
-use native.Mathlib.Omega.{arith}
 use lib.Dec.{eqb, leb}
 use lib.ListN.{length}
 use borrow.Author.Tests.{eq-eqb, ne-eqb}
@@ -20,7 +19,7 @@ use Rattle.meaning.specs.List.{every, padded}
 use Rattle.meaning.specs.Matrix.{Matrix, size}
 use Rattle.meaning.specs.Solver.{Run, Kind, solved, singular, Outcome, passes, verdict, close, solve}
 use Rattle.meaning.specs.ThirdCondition.{ThirdCondition, SameAnswer}
-use Rattle.meaning.specs.Refusal.{Check, check, first, matrixChecks}
+use Rattle.meaning.specs.Refusal.{check, first, matrixChecks}
 use Rattle.meaning.specs.Calls.{systemChecks, runChecks, solverRefusal, vectorAfter, polynomialAfter}
 use Rattle.bridge.specs.ThirdCondition.{everyRun, everyTwoRuns}
 use Rattle.wiedemann.specs.declared.solver.Counts.{Counts}

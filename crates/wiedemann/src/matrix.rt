@@ -1,10 +1,10 @@
 // Sparse matrices: the product of a row, and what is made of it.
 ghost use mathlib.Core.Path.{_≡_};
 ghost use mathlib.Core.Logic.{_≢_};
-ghost use Prim.Native.Nat.{ℕ, _+_, _-_, _*_, _/_, _%_, _≤_, _<_};
+ghost use Prim.Native.Nat.{ℕ, _+_, _-_, _/_, _%_, _≤_, _<_};
 ghost use lib.ListN.{length};
 ghost use Rattle.meaning.specs.List.{at, sumFrom, table, zeros};
-ghost use Rattle.meaning.specs.Field.{plus, times};
+ghost use Rattle.meaning.specs.Field.{times};
 ghost use Rattle.wiedemann.specs.Sums.{Summed};
 ghost use Rattle.meaning.specs.Matrix.{matrix, product, apply, transposed};
 ghost use Rattle.meaning.specs.Calls.{productRefusal, productAfter, applyRefusal, applyAfter};

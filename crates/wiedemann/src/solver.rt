@@ -2,9 +2,9 @@
 // recurrence's part. The vector and polynomial slices are written at the very end.
 ghost use mathlib.Core.Path.{_≡_};
 ghost use mathlib.Core.List.{[]};
-ghost use Prim.Native.Nat.{_+_, _-_, _*_, _/_, _%_, _≤_, _<_};
+ghost use Prim.Native.Nat.{_+_, _-_, _*_, _/_, _≤_, _<_};
 ghost use lib.ListN.{length, getD};
-ghost use Rattle.meaning.specs.List.{at, table, zeros, padded, isZero};
+ghost use Rattle.meaning.specs.List.{at, table, padded, isZero};
 ghost use mathlib.Core.Bool.{true};
 ghost use Rattle.meaning.specs.Field.{isModulus, minus, times};
 ghost use Rattle.meaning.specs.Matrix.{matrix};
@@ -15,7 +15,7 @@ ghost use Rattle.wiedemann.specs.Written.{Written};
 ghost use Rattle.wiedemann.specs.Region.{part};
 ghost use Rattle.wiedemann.specs.Projection.{Words};
 ghost use Rattle.wiedemann.specs.Factor.{Multiplied};
-ghost use Rattle.wiedemann.specs.Solver.{System, Narrowed, Passing, Passed, Midway, Finished, Closable, Inner, Lent, Imaged, none, counted};
+ghost use Rattle.wiedemann.specs.Solver.{System, Narrowed, Passing, Passed, Finished, Closable, Inner, Lent, Imaged, none, counted};
 ghost use Rattle.wiedemann.specs.Verdict.{Closed, Solves, Found, closing};
 use crate::pass::applied;
 use crate::pass::copy;

@@ -13,11 +13,6 @@ use Rattle.laws.specs.Refusal.{first-append-none, first-append-some}
 use borrow.Author.Needs.{needs}
 use Rattle.checks.proofs.apply_refusal.Statement.{statement}
 use Rattle.checks.proofs.apply_refusal.Tie as tie
-use Rattle.checks.proofs.apply_refusal.Reads as reads
-use Rattle.checks.proofs.apply_refusal.Lts as lts
-use Rattle.checks.proofs.are_elements.Reads as are-elements-reads
-use Rattle.checks.proofs.matrix_refusal.Reads as matrix-refusal-reads
-use Rattle.checks.proofs.polynomial_taken.Reads as polynomial-taken-reads
 
 valid : (c : tie.Else1) → Valid (c .before .before .before .before .before .before .before .before .before .args .p) (matrix (now (c .before .before .before .before .before .before .before .before .before .args .starts)) (now (c .before .before .before .before .before .before .before .before .before .args .columns)) (now (c .before .before .before .before .before .before .before .before .before .args .values)))
 valid c = matrix-valid (c .before .before .before .before .before .before .before .before .before .args .p) (matrix (now (c .before .before .before .before .before .before .before .before .before .args .starts)) (now (c .before .before .before .before .before .before .before .before .before .args .columns)) (now (c .before .before .before .before .before .before .before .before .before .args .values))) (sym (c .before .matrix-refusal .ensures) ∙ c .if1 .left)
@@ -35,11 +30,9 @@ past c =
     ∙ first-append-none (matrixChecks (at .p) A) (applyChecks (at .p) A (now (at .g)) (now (at .v)) (now (at .out)) (now (at .work)))
     (numbered-matrix (at .p) A) (sym (c .before .matrix-refusal .ensures) ∙ c .if1 .left)
 
--- src/refusal.rt:207:9
 matrix-refusal-requires : tie.Need-matrix-refusal-requires
 matrix-refusal-requires c κs = search needs
 
--- src/refusal.rt:209:9
 returns : tie.Need-returns
 returns c =
     let at = c .before .before .before .before .before .before .before .before .before .args in
@@ -51,15 +44,12 @@ returns c =
     ∙ first-append-some (matrixChecks (at .p) A) (applyChecks (at .p) A (now (at .g)) (now (at .v)) (now (at .out)) (now (at .work)))
     (λ e. c .if1 .taken (number ∙ e)))
 
--- src/refusal.rt:211:13
 sub-n : tie.Need-sub-n
 sub-n c = omega (arith, valid c .one-more)
 
--- src/refusal.rt:212:9
 polynomial-taken-requires : tie.Need-polynomial-taken-requires
 polynomial-taken-requires c κs = valid c .sized
 
--- src/refusal.rt:213:9
 returns-2 : tie.Need-returns-2
 unfolding first
 returns-2 c =
@@ -69,7 +59,6 @@ returns-2 c =
     (past (c .before .before)
     ∙ rw (sym (c .before .polynomial-taken .ensures) ∙ not-true (c .before .polynomial-taken .result) (c .if2 .taken)))
 
--- src/refusal.rt:216:9
 returns-3 : tie.Need-returns-3
 unfolding first
 returns-3 c =
@@ -82,11 +71,9 @@ returns-3 c =
       ne-eqb (length (now (at .v))) n (c .if3 .taken),
     ))
 
--- src/refusal.rt:218:9
 are-elements-requires : tie.Need-are-elements-requires
 are-elements-requires c κs = search needs
 
--- src/refusal.rt:219:9
 returns-4 : tie.Need-returns-4
 unfolding first
 returns-4 c =
@@ -100,11 +87,9 @@ returns-4 c =
       sym (c .before .are-elements .ensures) ∙ not-true (c .before .are-elements .result) (c .if4 .taken),
     ))
 
--- src/refusal.rt:221:9
 are-elements-requires-2 : tie.Need-are-elements-requires-2
 are-elements-requires-2 c κs = search needs
 
--- src/refusal.rt:222:9
 returns-5 : tie.Need-returns-5
 unfolding first
 returns-5 c =
@@ -119,7 +104,6 @@ returns-5 c =
       sym (c .before .are-elements2 .ensures) ∙ not-true (c .before .are-elements2 .result) (c .if5 .taken),
     ))
 
--- src/refusal.rt:225:9
 returns-6 : tie.Need-returns-6
 unfolding first
 returns-6 c =
@@ -135,11 +119,9 @@ returns-6 c =
       ne-eqb (length (now (at .out))) n (c .if6 .taken),
     ))
 
--- src/refusal.rt:227:21
 mul-if7 : tie.Need-mul-if7
 mul-if7 c = search needs
 
--- src/refusal.rt:228:9
 returns-7 : tie.Need-returns-7
 unfolding first
 returns-7 c =
@@ -156,7 +138,6 @@ returns-7 c =
       lt-leb (2 * n) (length (now (at .work))) (c .if7 .taken),
     ))
 
--- src/refusal.rt:195:1
 returns-8 : tie.Need-returns-8
 unfolding first
 returns-8 c =

@@ -12,8 +12,6 @@ use Rattle.checks.specs.Matrix.{all-next, all-elements}
 use borrow.Author.Needs.{needs}
 use Rattle.checks.proofs.are_elements.Statement.{statement}
 use Rattle.checks.proofs.are_elements.Tie as tie
-use Rattle.checks.proofs.are_elements.Reads as reads
-use Rattle.checks.proofs.are_elements.Lts as lts
 
 abbrev Inv-loop : tie.InvT-loop
 Inv-loop p v i₀ i = (i ≤ length v) × (all i (λ k. ltb (getD v k 0) p) ≡ true)
@@ -21,19 +19,15 @@ Inv-loop p v i₀ i = (i ≤ length v) × (all i (λ k. ltb (getD v k 0) p) ≡ 
 abbrev μ-loop : tie.MeasureT-loop
 μ-loop p v i₀ i = length v - i
 
--- src/refusal.rt:109:5
 loop-holds : tie.Need-loop-holds Inv-loop μ-loop
 loop-holds c = (omega arith, all-zero (λ k. ltb (getD (now (c .args .v)) k 0) (c .args .p)))
 
--- src/refusal.rt:110:12
 mul-if1 : tie.Need-mul-if1 Inv-loop μ-loop
 mul-if1 c = search needs
 
--- src/refusal.rt:110:12
 shared-slice-read-if1 : tie.Need-shared-slice-read-if1 Inv-loop μ-loop
 shared-slice-read-if1 c = search needs
 
--- src/refusal.rt:111:13
 returns : tie.Need-returns Inv-loop μ-loop
 returns c =
     let at = c .before .before .before .before .args in
@@ -42,15 +36,12 @@ returns c =
     ∙ all-not (length (now (at .v))) (λ k. ltb (getD (now (at .v)) k 0) (at .p)) (c .before .before .before .loop .i) (c .before .before .loop-test .taken)
     (le-ltb (getD (now (at .v)) (c .before .before .before .loop .i) 0) (at .p) (c .if1 .taken)))
 
--- src/refusal.rt:113:9
 add-i : tie.Need-add-i Inv-loop μ-loop
 add-i c = search needs
 
--- src/refusal.rt:109:5
 loop-less : tie.Need-loop-less Inv-loop μ-loop
 loop-less c = omega (arith, c .before .before .loop-test .taken)
 
--- src/refusal.rt:109:5
 loop-again : tie.Need-loop-again Inv-loop μ-loop
 loop-again c =
     let at = c .before .before .before .before .args in (
@@ -58,7 +49,6 @@ loop-again c =
       all-next (c .before .before .before .loop .i) (λ k. ltb (getD (now (at .v)) k 0) (at .p)) (c .before .before .before .loop .inv .1) (lt-ltb (getD (now (at .v)) (c .before .before .before .loop .i) 0) (at .p) (c .if1 .left)),
     )
 
--- src/refusal.rt:105:1
 returns-2 : tie.Need-returns-2 Inv-loop μ-loop
 returns-2 c =
     let at = c .before .before .args in

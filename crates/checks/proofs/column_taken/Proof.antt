@@ -6,61 +6,46 @@ use borrow.Author.Tests.{lt-ltb, le-ltb, le-leb, lt-leb}
 use borrow.Author.Needs.{needs}
 use Rattle.checks.proofs.column_taken.Statement.{statement}
 use Rattle.checks.proofs.column_taken.Tie as tie
-use Rattle.checks.proofs.column_taken.Reads as reads
-use Rattle.checks.proofs.column_taken.Lts as lts
-use Rattle.checks.proofs.wide.Reads as wide-reads
 
--- src/refusal.rt:54:10
 mul-wide : tie.Need-mul-wide
 mul-wide c = search needs
 
--- src/refusal.rt:54:10
 shared-slice-read-wide : tie.Need-shared-slice-read-wide
 shared-slice-read-wide c = search needs
 
--- src/refusal.rt:54:5
 wide-requires : tie.Need-wide-requires
 wide-requires c κs = search needs
 
--- src/refusal.rt:54:37
 add-if2 : tie.Need-add-if2
 add-if2 c = search needs
 
--- src/refusal.rt:54:46
 mul-result : tie.Need-mul-result
 mul-result c = search needs
 
--- src/refusal.rt:54:46
 shared-slice-read-result : tie.Need-shared-slice-read-result
 shared-slice-read-result c = search needs
 
--- src/refusal.rt:54:67
 add-result : tie.Need-add-result
 add-result c = search needs
 
--- src/refusal.rt:54:59
 mul-result-2 : tie.Need-mul-result-2
 mul-result-2 c = search needs
 
--- src/refusal.rt:54:59
 shared-slice-read-result-2 : tie.Need-shared-slice-read-result-2
 shared-slice-read-result-2 c = search needs
 
--- src/refusal.rt:50:1
 returns : tie.Need-returns
 returns c =
     let at = c .before .before .before .before .before .args in
     let column = c .before .before .wide .ensures .0 in
     rw (lt-ltb (getD (now (at .columns)) (at .k) 0) (at .n) (omega (arith, column, c .before .if1 .taken)), le-leb (at .end) (at .k + 1) (c .if2 .taken))
 
--- src/refusal.rt:50:1
 returns-2 : tie.Need-returns-2
 returns-2 c =
     let at = c .before .before .before .before .before .before .before .args in
     let column = c .before .before .before .before .wide .ensures .0 in
     rw (lt-ltb (getD (now (at .columns)) (at .k) 0) (at .n) (omega (arith, column, c .before .before .before .if1 .taken)), lt-leb (at .end) (at .k + 1) (c .before .before .if2 .left))
 
--- src/refusal.rt:50:1
 returns-3 : tie.Need-returns-3
 returns-3 c =
     let at = c .before .before .before .before .args in

@@ -12,10 +12,6 @@ use Rattle.checks.specs.Matrix.{columnTaken, rowTaken, rows-columnsTaken
 use borrow.Author.Needs.{needs}
 use Rattle.checks.proofs.columns_taken.Statement.{statement}
 use Rattle.checks.proofs.columns_taken.Tie as tie
-use Rattle.checks.proofs.columns_taken.Reads as reads
-use Rattle.checks.proofs.columns_taken.Lts as lts
-use Rattle.checks.proofs.row_taken.Reads as row-taken-reads
-use Rattle.checks.proofs.wide.Reads as wide-reads
 
 abbrev Inv-loop : tie.InvT-loop
 Inv-loop starts columns n i₀ i = (i ≤ n) × (all i (rowTaken starts columns) ≡ true)
@@ -31,43 +27,33 @@ row c =
     (c .row-taken .ensures
     ∙ ap₂ (λ a e. allFrom a e (columnTaken (length (now (at .starts)) - 1) e (now (at .columns)))) (c .before .before .before .wide .ensures .0) (c .before .wide2 .ensures .0))
 
--- src/refusal.rt:76:13
 sub-n : tie.Need-sub-n Inv-loop μ-loop
 sub-n c = search needs
 
--- src/refusal.rt:78:5
 loop-holds : tie.Need-loop-holds Inv-loop μ-loop
 loop-holds c = (omega arith, all-zero (rowTaken (now (c .before .before .args .starts)) (now (c .before .before .args .columns))))
 
--- src/refusal.rt:79:31
 mul-wide : tie.Need-mul-wide Inv-loop μ-loop
 mul-wide c = search needs
 
--- src/refusal.rt:79:31
 shared-slice-read-wide : tie.Need-shared-slice-read-wide Inv-loop μ-loop
 shared-slice-read-wide c = search needs
 
--- src/refusal.rt:79:26
 wide-requires : tie.Need-wide-requires Inv-loop μ-loop
 wide-requires c κs = search needs
 
--- src/refusal.rt:79:55
 add-wide : tie.Need-add-wide Inv-loop μ-loop
 add-wide c = search needs
 
--- src/refusal.rt:79:48
 mul-wide-2 : tie.Need-mul-wide-2 Inv-loop μ-loop
 mul-wide-2 c = search needs
 
--- src/refusal.rt:79:48
 shared-slice-read-wide-2 : tie.Need-shared-slice-read-wide-2 Inv-loop μ-loop
 shared-slice-read-wide-2 c = search needs
 
--- src/refusal.rt:79:43
 wide-requires-2 : tie.Need-wide-requires-2 Inv-loop μ-loop
 wide-requires-2 c κs = search needs
 
--- src/refusal.rt:79:13
 row-taken-requires : tie.Need-row-taken-requires Inv-loop μ-loop
 row-taken-requires c κs =
     let known = c .before .before .before .before .before .before .before .before .pre in
@@ -77,7 +63,6 @@ row-taken-requires c κs =
     let to = c .wide2 .ensures .0 in
     (omega (arith, from, to, known .rise i test), omega (arith, to, known .within i test))
 
--- src/refusal.rt:80:13
 returns : tie.Need-returns Inv-loop μ-loop
 returns c =
     let at = c .before .before .before .before .before .before .before .before .before .before .args in
@@ -86,15 +71,12 @@ returns c =
     ∙ all-not (length (now (at .starts)) - 1) (rowTaken (now (at .starts)) (now (at .columns))) (c .before .before .before .before .before .before .before .loop .i) (c .before .before .before .before .before .before .loop-test .taken)
     (row (c .before) ∙ not-true (c .before .row-taken .result) (c .if1 .taken)))
 
--- src/refusal.rt:82:9
 add-i : tie.Need-add-i Inv-loop μ-loop
 add-i c = search needs
 
--- src/refusal.rt:78:5
 loop-less : tie.Need-loop-less Inv-loop μ-loop
 loop-less c = omega (arith, c .before .before .before .before .before .before .loop-test .taken)
 
--- src/refusal.rt:78:5
 loop-again : tie.Need-loop-again Inv-loop μ-loop
 loop-again c =
     let at = c .before .before .before .before .before .before .before .before .before .before .args in
@@ -104,7 +86,6 @@ loop-again c =
           (row (c .before) ∙ not-false (c .before .row-taken .result) (c .if1 .left)),
     )
 
--- src/refusal.rt:72:1
 returns-2 : tie.Need-returns-2 Inv-loop μ-loop
 returns-2 c =
     let at = c .before .before .before .before .args in

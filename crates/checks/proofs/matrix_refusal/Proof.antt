@@ -10,13 +10,6 @@ use Rattle.checks.specs.Matrix.{starts-sizeTaken, entries-columnsTaken, 
 use borrow.Author.Needs.{needs}
 use Rattle.checks.proofs.matrix_refusal.Statement.{statement}
 use Rattle.checks.proofs.matrix_refusal.Tie as tie
-use Rattle.checks.proofs.matrix_refusal.Reads as reads
-use Rattle.checks.proofs.matrix_refusal.Lts as lts
-use Rattle.field.proofs.is_modulus.Reads as is-modulus-reads
-use Rattle.checks.proofs.columns_taken.Reads as columns-taken-reads
-use Rattle.checks.proofs.size_taken.Reads as size-taken-reads
-use Rattle.checks.proofs.starts_taken.Reads as starts-taken-reads
-use Rattle.checks.proofs.values_taken.Reads as values-taken-reads
 
 -- each check by what its function answered, and past it
 past-modulus : (c : tie.Else1) → isModulus (c .before .before .before .before .before .args .p) ≡ true
@@ -39,30 +32,24 @@ columns c =
 past-columns : (c : tie.Else4) → columnsTaken (matrix (now (c .before .before .before .before .before .before .before .before .before .before .before .args .starts)) (now (c .before .before .before .before .before .before .before .before .before .before .before .args .columns)) (now (c .before .before .before .before .before .before .before .before .before .before .before .args .values))) ≡ true
 past-columns c = columns (c .before) ∙ not-false (c .before .columns-taken .result) (c .if4 .left)
 
--- src/refusal.rt:130:9
 is-modulus-requires : tie.Need-is-modulus-requires
 is-modulus-requires c κs = search needs
 
--- src/refusal.rt:131:9
 returns : tie.Need-returns
 unfolding first matrixChecks
 returns c = rw (sym (c .before .is-modulus .ensures) ∙ not-true (c .before .is-modulus .result) (c .if1 .taken))
 
--- src/refusal.rt:133:9
 size-taken-requires : tie.Need-size-taken-requires
 size-taken-requires c κs = search needs
 
--- src/refusal.rt:134:9
 returns-2 : tie.Need-returns-2
 unfolding first matrixChecks
 returns-2 c = rw (past-modulus (c .before .before), size (c .before) ∙ not-true (c .before .size-taken .result) (c .if2 .taken))
 
--- src/refusal.rt:136:9
 starts-taken-requires : tie.Need-starts-taken-requires
 starts-taken-requires c κs =
     omega (arith, size-known (matrix (now (c .before .before .before .before .before .before .before .args .starts)) (now (c .before .before .before .before .before .before .before .args .columns)) (now (c .before .before .before .before .before .before .before .args .values))) (past-size c) .0)
 
--- src/refusal.rt:137:9
 returns-3 : tie.Need-returns-3
 unfolding first matrixChecks
 returns-3 c =
@@ -72,13 +59,11 @@ returns-3 c =
       sym (c .before .starts-taken .ensures) ∙ not-true (c .before .starts-taken .result) (c .if3 .taken),
     )
 
--- src/refusal.rt:139:9
 columns-taken-requires : tie.Need-columns-taken-requires
 columns-taken-requires c κs =
     let A = (matrix (now (c .before .before .before .before .before .before .before .before .before .args .starts)) (now (c .before .before .before .before .before .before .before .before .before .args .columns)) (now (c .before .before .before .before .before .before .before .before .before .args .values))) in
     ordered A (starts-known A (past-starts c)) (omega (arith, size-known A (past-size (c .before .before)) .0))
 
--- src/refusal.rt:140:9
 returns-4 : tie.Need-returns-4
 unfolding first matrixChecks
 returns-4 c =
@@ -89,11 +74,9 @@ returns-4 c =
       columns (c .before) ∙ not-true (c .before .columns-taken .result) (c .if4 .taken),
     )
 
--- src/refusal.rt:142:9
 values-taken-requires : tie.Need-values-taken-requires
 values-taken-requires c κs = search needs
 
--- src/refusal.rt:143:9
 returns-5 : tie.Need-returns-5
 unfolding first matrixChecks
 returns-5 c =
@@ -105,7 +88,6 @@ returns-5 c =
       sym (c .before .values-taken .ensures) ∙ not-true (c .before .values-taken .result) (c .if5 .taken),
     )
 
--- src/refusal.rt:127:1
 returns-6 : tie.Need-returns-6
 unfolding first matrixChecks
 returns-6 c =

@@ -14,9 +14,6 @@ use Rattle.laws.specs.Refusal.{first-append-none, first-append-some}
 use borrow.Author.Needs.{needs}
 use Rattle.checks.proofs.product_refusal.Statement.{statement}
 use Rattle.checks.proofs.product_refusal.Tie as tie
-use Rattle.checks.proofs.product_refusal.Reads as reads
-use Rattle.checks.proofs.product_refusal.Lts as lts
-use Rattle.checks.proofs.system_refusal.Reads as system-refusal-reads
 
 accepted : (c : tie.Else1) → Accepted (c .before .before .before .before .before .before .before .args .p) (matrix (now (c .before .before .before .before .before .before .before .args .starts)) (now (c .before .before .before .before .before .before .before .args .columns)) (now (c .before .before .before .before .before .before .before .args .values))) (now (c .before .before .before .before .before .before .before .args .v))
 accepted c =
@@ -33,11 +30,9 @@ past c =
     ∙ first-append-none (systemChecks (at .p) A (now (at .v))) (check 11 (not (eqb (length (now (at .out))) (length (now (at .starts)) - 1))) ∷ [])
     (numbered-system (at .p) A (now (at .v))) (sym (c .before .system-refusal .ensures) ∙ c .if1 .left)
 
--- src/refusal.rt:176:9
 system-refusal-requires : tie.Need-system-refusal-requires
 system-refusal-requires c κs = search needs
 
--- src/refusal.rt:178:9
 returns : tie.Need-returns
 returns c =
     let at = c .before .before .before .before .before .before .before .args in
@@ -49,7 +44,6 @@ returns c =
     ∙ first-append-some (systemChecks (at .p) A (now (at .v))) (check 11 (not (eqb (length (now (at .out))) (length (now (at .starts)) - 1))) ∷ [])
     (λ e. c .if1 .taken (number ∙ e)))
 
--- src/refusal.rt:181:9
 returns-2 : tie.Need-returns-2
 unfolding first
 returns-2 c =
@@ -57,7 +51,6 @@ returns-2 c =
     let vector = accepted (c .before) .vector in
     sym (past (c .before) ∙ rw (ne-eqb (length (now (at .out))) (length (now (at .starts)) - 1) (λ e. c .if2 .taken (e ∙ sym (vector .places)))))
 
--- src/refusal.rt:166:1
 returns-3 : tie.Need-returns-3
 unfolding first
 returns-3 c =

@@ -12,8 +12,6 @@ use Rattle.checks.specs.Matrix.{all-next}
 use borrow.Author.Needs.{needs}
 use Rattle.checks.proofs.rising.Statement.{statement}
 use Rattle.checks.proofs.rising.Tie as tie
-use Rattle.checks.proofs.rising.Reads as reads
-use Rattle.checks.proofs.rising.Lts as lts
 
 abbrev Inv-loop : tie.InvT-loop
 Inv-loop starts i₀ i =
@@ -22,35 +20,27 @@ Inv-loop starts i₀ i =
 abbrev μ-loop : tie.MeasureT-loop
 μ-loop starts i₀ i = length starts - i
 
--- src/refusal.rt:28:5
 loop-holds : tie.Need-loop-holds Inv-loop μ-loop
 loop-holds c = (omega arith, all-zero (λ j. leb (getD (now (c .args .starts)) j 0) (getD (now (c .args .starts)) (j + 1) 0)))
 
--- src/refusal.rt:28:11
 add-loop : tie.Need-add-loop Inv-loop μ-loop
 add-loop c = omega (arith, c .loop .inv .0, c .before .good)
 
--- src/refusal.rt:29:19
 add-if1 : tie.Need-add-if1 Inv-loop μ-loop
 add-if1 c = search needs
 
--- src/refusal.rt:29:12
 mul-if1 : tie.Need-mul-if1 Inv-loop μ-loop
 mul-if1 c = search needs
 
--- src/refusal.rt:29:12
 shared-slice-read-if1 : tie.Need-shared-slice-read-if1 Inv-loop μ-loop
 shared-slice-read-if1 c = search needs
 
--- src/refusal.rt:29:28
 mul-if1-2 : tie.Need-mul-if1-2 Inv-loop μ-loop
 mul-if1-2 c = search needs
 
--- src/refusal.rt:29:28
 shared-slice-read-if1-2 : tie.Need-shared-slice-read-if1-2 Inv-loop μ-loop
 shared-slice-read-if1-2 c = search needs
 
--- src/refusal.rt:30:13
 returns : tie.Need-returns Inv-loop μ-loop
 returns c =
     let starts = now (c .before .before .before .before .before .args .starts) in
@@ -59,15 +49,12 @@ returns c =
     (all-not (length starts - 1) (λ j. leb (getD starts j 0) (getD starts (j + 1) 0)) i (omega (arith, c .before .before .before .loop-test .taken))
     (lt-leb (getD starts i 0) (getD starts (i + 1) 0) (c .if1 .taken)))
 
--- src/refusal.rt:32:9
 add-i : tie.Need-add-i Inv-loop μ-loop
 add-i c = search needs
 
--- src/refusal.rt:28:5
 loop-less : tie.Need-loop-less Inv-loop μ-loop
 loop-less c = omega (arith, c .before .before .before .loop-test .taken)
 
--- src/refusal.rt:28:5
 loop-again : tie.Need-loop-again Inv-loop μ-loop
 loop-again c =
     let starts = now (c .before .before .before .before .before .args .starts) in
@@ -76,7 +63,6 @@ loop-again c =
       all-next i (λ j. leb (getD starts j 0) (getD starts (j + 1) 0)) (c .before .before .before .before .loop .inv .1) (le-leb (getD starts i 0) (getD starts (i + 1) 0) (c .if1 .left)),
     )
 
--- src/refusal.rt:24:1
 returns-2 : tie.Need-returns-2 Inv-loop μ-loop
 returns-2 c =
     let starts = now (c .before .before .args .starts) in

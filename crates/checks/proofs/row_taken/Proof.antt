@@ -9,9 +9,6 @@ use Rattle.checks.specs.Matrix.{columnTaken, allFrom-none, allFrom-next,
 use borrow.Author.Needs.{needs}
 use Rattle.checks.proofs.row_taken.Statement.{statement}
 use Rattle.checks.proofs.row_taken.Tie as tie
-use Rattle.checks.proofs.row_taken.Reads as reads
-use Rattle.checks.proofs.row_taken.Lts as lts
-use Rattle.checks.proofs.column_taken.Reads as column-taken-reads
 
 abbrev Inv-loop : tie.InvT-loop
 Inv-loop n from end columns k₀ k =
@@ -20,18 +17,15 @@ Inv-loop n from end columns k₀ k =
 abbrev μ-loop : tie.MeasureT-loop
 μ-loop n from end columns k₀ k = end - k
 
--- src/refusal.rt:62:5
 loop-holds : tie.Need-loop-holds Inv-loop μ-loop
 loop-holds c =
     let start = c .before in
     let at = start .args in
     (omega arith, start .pre .0, allFrom-none (at .from) (columnTaken (at .n) (at .end) (now (at .columns))))
 
--- src/refusal.rt:63:13
 column-taken-requires : tie.Need-column-taken-requires Inv-loop μ-loop
 column-taken-requires c κs = search needs
 
--- src/refusal.rt:64:13
 returns : tie.Need-returns Inv-loop μ-loop
 returns c =
     let at = c .before .before .before .before .before .args in
@@ -40,15 +34,12 @@ returns c =
     (allFrom-not (at .from) (columnTaken (at .n) (at .end) (now (at .columns))) (at .end) (loop .k) (loop .inv .0) (c .before .before .loop-test .taken)
     (sym (c .before .column-taken .ensures) ∙ not-true (c .before .column-taken .result) (c .if1 .taken)))
 
--- src/refusal.rt:66:9
 add-k : tie.Need-add-k Inv-loop μ-loop
 add-k c = search needs
 
--- src/refusal.rt:62:5
 loop-less : tie.Need-loop-less Inv-loop μ-loop
 loop-less c = omega (arith, c .before .before .loop-test .taken)
 
--- src/refusal.rt:62:5
 loop-again : tie.Need-loop-again Inv-loop μ-loop
 loop-again c =
     let at = c .before .before .before .before .before .args in
@@ -59,7 +50,6 @@ loop-again c =
           (sym (c .before .column-taken .ensures) ∙ not-false (c .before .column-taken .result) (c .if1 .left)),
     )
 
--- src/refusal.rt:57:1
 returns-2 : tie.Need-returns-2 Inv-loop μ-loop
 returns-2 c =
     let at = c .before .before .before .args in

@@ -4,19 +4,14 @@ use lib.ListN.{length}
 use denote.Ref.{now}
 use borrow.Author.Tests.{le-leb, lt-leb}
 use Rattle.checks.specs.Matrix.{length-sizeTaken}
-use borrow.Author.Needs.{needs}
 use Rattle.checks.proofs.size_taken.Statement.{statement}
 use Rattle.checks.proofs.size_taken.Tie as tie
-use Rattle.checks.proofs.size_taken.Reads as reads
-use Rattle.checks.proofs.size_taken.Lts as lts
 
--- src/refusal.rt:17:1
 returns : tie.Need-returns
 returns c =
     let starts = now (c .before .args .starts) in
     sym (length-sizeTaken starts [] [] ∙ rw (le-leb 2 (length starts) (c .if1 .taken)))
 
--- src/refusal.rt:17:1
 returns-2 : tie.Need-returns-2
 returns-2 c =
     let starts = now (c .before .args .starts) in

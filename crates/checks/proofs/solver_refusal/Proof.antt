@@ -2,19 +2,15 @@ use Rattle.checks.specs.Solver.{refusal-system, refusal-words, refusal-s
 use Rattle.checks.specs.Matrix.{system-accepted}
 use Rattle.meaning.specs.Calls.{systemChecks}
 use Rattle.meaning.specs.Refusal.{first}
-use Rattle.meaning.specs.Matrix.{matrix, size}
+use Rattle.meaning.specs.Matrix.{matrix}
 use denote.Ref.{now}
-use mathlib.Core.List.{List, []}
-use lib.ListN.{length, getD, take, drop, set, length-set, length-drop, List·getD-eq-default}
+use lib.ListN.{length}
 use native.Mathlib.Omega.{arith}
-use Prim.Native.Nat.{ℕ, suc, _+_, _-_, _*_, _/_, _%_, _≤_, _<_}
-use mathlib.Core.Path.{_≡_, refl, sym, ap, ap₂, _∙_, subst}
+use Prim.Native.Nat.{_-_, _≤_}
+use mathlib.Core.Path.{_≡_, sym, _∙_}
 use borrow.Author.Needs.{needs}
 use Rattle.checks.proofs.solver_refusal.Statement.{statement}
 use Rattle.checks.proofs.solver_refusal.Tie as tie
-use Rattle.checks.proofs.solver_refusal.Reads as reads
-use Rattle.checks.proofs.solver_refusal.Lts as lts
-use Rattle.checks.proofs.system_refusal.Reads as system-refusal-reads
 
 -- nothing is wrong with the system
 fine : (c : tie.Else1) → first (systemChecks (c .before .before .before .before .before .before .before .before .before .before .args .p) (matrix (now (c .before .before .before .before .before .before .before .before .before .before .args .starts)) (now (c .before .before .before .before .before .before .before .before .before .before .args .columns)) (now (c .before .before .before .before .before .before .before .before .before .before .args .values))) (now (c .before .before .before .before .before .before .before .before .before .before .args .b))) ≡ 0

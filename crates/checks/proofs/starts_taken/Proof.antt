@@ -7,47 +7,34 @@ use Rattle.meaning.specs.Refusal.{startsTaken}
 use borrow.Author.Needs.{needs}
 use Rattle.checks.proofs.starts_taken.Statement.{statement}
 use Rattle.checks.proofs.starts_taken.Tie as tie
-use Rattle.checks.proofs.starts_taken.Reads as reads
-use Rattle.checks.proofs.starts_taken.Lts as lts
-use Rattle.checks.proofs.rising.Reads as rising-reads
-use Rattle.checks.proofs.wide.Reads as wide-reads
 
--- src/refusal.rt:42:8
 shared-slice-read-if1 : tie.Need-shared-slice-read-if1
 shared-slice-read-if1 c = search needs
 
--- src/refusal.rt:43:9
 returns : tie.Need-returns
 unfolding startsTaken
 returns c = rw (ne-eqb (getD (now (c .before .before .before .before .before .args .starts)) 0 0) 0 (c .if1 .taken))
 
--- src/refusal.rt:45:9
 rising-requires : tie.Need-rising-requires
 rising-requires c κs = search needs
 
--- src/refusal.rt:46:9
 returns-2 : tie.Need-returns-2
 unfolding startsTaken
 returns-2 c =
     rw (eq-eqb (getD (now (c .before .before .before .before .before .before .before .args .starts)) 0 0) 0 (c .before .before .if1 .left), sym (c .before .rising .ensures) ∙ not-true (c .before .rising .result) (c .if2 .taken))
 
--- src/refusal.rt:48:20
 sub-wide : tie.Need-sub-wide
 sub-wide c = search needs
 
--- src/refusal.rt:48:13
 mul-wide : tie.Need-mul-wide
 mul-wide c = search needs
 
--- src/refusal.rt:48:13
 shared-slice-read-wide : tie.Need-shared-slice-read-wide
 shared-slice-read-wide c = search needs
 
--- src/refusal.rt:48:8
 wide-requires : tie.Need-wide-requires
 wide-requires c κs = search needs
 
--- src/refusal.rt:49:9
 returns-3 : tie.Need-returns-3
 unfolding startsTaken
 returns-3 c =
@@ -59,7 +46,6 @@ returns-3 c =
       ne-eqb (getD (now (at .starts)) n 0) (length (now (at .columns))) (λ e. c .if3 .taken (c .before .wide .ensures .0 ∙ e)),
     )
 
--- src/refusal.rt:52:9
 returns-4 : tie.Need-returns-4
 unfolding startsTaken
 returns-4 c =
@@ -72,7 +58,6 @@ returns-4 c =
       ne-eqb (length (now (at .columns))) (length (now (at .values))) (c .if4 .taken),
     )
 
--- src/refusal.rt:38:1
 returns-5 : tie.Need-returns-5
 unfolding startsTaken
 returns-5 c =

@@ -12,10 +12,6 @@ use Rattle.laws.specs.Refusal.{first-append-none, first-append-some}
 use borrow.Author.Needs.{needs}
 use Rattle.checks.proofs.system_refusal.Statement.{statement}
 use Rattle.checks.proofs.system_refusal.Tie as tie
-use Rattle.checks.proofs.system_refusal.Reads as reads
-use Rattle.checks.proofs.system_refusal.Lts as lts
-use Rattle.checks.proofs.are_elements.Reads as are-elements-reads
-use Rattle.checks.proofs.matrix_refusal.Reads as matrix-refusal-reads
 
 -- past the matrix's checks
 past : (c : tie.Else1)
@@ -28,11 +24,9 @@ past c =
     ∙ first-append-none (matrixChecks (at .p) A) (vectorChecks (at .p) A (now (at .b))) (numbered-matrix (at .p) A)
     (sym (c .before .matrix-refusal .ensures) ∙ c .if1 .left)
 
--- src/refusal.rt:152:9
 matrix-refusal-requires : tie.Need-matrix-refusal-requires
 matrix-refusal-requires c κs = search needs
 
--- src/refusal.rt:154:9
 returns : tie.Need-returns
 returns c =
     let at = c .before .before .before .before .before .before .args in
@@ -43,23 +37,19 @@ returns c =
     (ap first (systemChecks-parts (at .p) A (now (at .b)))
     ∙ first-append-some (matrixChecks (at .p) A) (vectorChecks (at .p) A (now (at .b))) (λ e. c .if1 .taken (number ∙ e)))
 
--- src/refusal.rt:156:19
 sub-if2 : tie.Need-sub-if2
 sub-if2 c =
     omega (arith, matrix-valid (c .before .before .before .before .before .before .args .p) (matrix (now (c .before .before .before .before .before .before .args .starts)) (now (c .before .before .before .before .before .before .args .columns)) (now (c .before .before .before .before .before .before .args .values))) (sym (c .before .matrix-refusal .ensures) ∙ c .if1 .left) .one-more)
 
--- src/refusal.rt:157:9
 returns-2 : tie.Need-returns-2
 unfolding first
 returns-2 c =
     let at = c .before .before .before .before .before .before .before .args in
     sym (past (c .before) ∙ rw (ne-eqb (length (now (at .b))) (length (now (at .starts)) - 1) (c .if2 .taken)))
 
--- src/refusal.rt:159:9
 are-elements-requires : tie.Need-are-elements-requires
 are-elements-requires c κs = search needs
 
--- src/refusal.rt:160:9
 returns-3 : tie.Need-returns-3
 unfolding first
 returns-3 c =
@@ -71,7 +61,6 @@ returns-3 c =
       sym (c .before .are-elements .ensures) ∙ not-true (c .before .are-elements .result) (c .if3 .taken),
     ))
 
--- src/refusal.rt:149:1
 returns-4 : tie.Need-returns-4
 unfolding first
 returns-4 c =

@@ -12,10 +12,6 @@ use Rattle.laws.specs.Refusal.{first-append-none, first-append-some}
 use borrow.Author.Needs.{needs}
 use Rattle.checks.proofs.takes_refusal.Statement.{statement}
 use Rattle.checks.proofs.takes_refusal.Tie as tie
-use Rattle.checks.proofs.takes_refusal.Reads as reads
-use Rattle.checks.proofs.takes_refusal.Lts as lts
-use Rattle.checks.proofs.are_elements.Reads as are-elements-reads
-use Rattle.checks.proofs.matrix_refusal.Reads as matrix-refusal-reads
 
 -- past the matrix's checks
 past : (c : tie.Else1)
@@ -29,11 +25,9 @@ past c =
     ∙ first-append-none (matrixChecks (at .p) A) (takesChecks (at .p) A (now (at .x)) (now (at .b))) (numbered-matrix (at .p) A)
     (sym (c .before .matrix-refusal .ensures) ∙ c .if1 .left)
 
--- src/refusal.rt:244:9
 matrix-refusal-requires : tie.Need-matrix-refusal-requires
 matrix-refusal-requires c κs = search needs
 
--- src/refusal.rt:246:9
 returns : tie.Need-returns
 returns c =
     let at = c .before .before .before .before .before .before .before .args in
@@ -44,11 +38,9 @@ returns c =
     (takesRefusal-parts (at .p) A (now (at .x)) (now (at .b))
     ∙ first-append-some (matrixChecks (at .p) A) (takesChecks (at .p) A (now (at .x)) (now (at .b))) (λ e. c .if1 .taken (number ∙ e)))
 
--- src/refusal.rt:248:13
 sub-n : tie.Need-sub-n
 sub-n c = omega (arith, matrix-valid (c .before .before .before .before .before .before .before .args .p) (matrix (now (c .before .before .before .before .before .before .before .args .starts)) (now (c .before .before .before .before .before .before .before .args .columns)) (now (c .before .before .before .before .before .before .before .args .values))) (sym (c .before .matrix-refusal .ensures) ∙ c .if1 .left) .one-more)
 
--- src/refusal.rt:250:9
 returns-2 : tie.Need-returns-2
 unfolding first
 returns-2 c =
@@ -58,7 +50,6 @@ returns-2 c =
     (past (c .before)
     ∙ rw (ne-eqb (length (now (at .x))) n (c .if2 .taken)))
 
--- src/refusal.rt:253:9
 returns-3 : tie.Need-returns-3
 unfolding first
 returns-3 c =
@@ -71,11 +62,9 @@ returns-3 c =
       ne-eqb (length (now (at .b))) n (c .if3 .taken),
     ))
 
--- src/refusal.rt:255:9
 are-elements-requires : tie.Need-are-elements-requires
 are-elements-requires c κs = search needs
 
--- src/refusal.rt:256:9
 returns-4 : tie.Need-returns-4
 unfolding first
 returns-4 c =
@@ -89,11 +78,9 @@ returns-4 c =
       sym (c .before .are-elements .ensures) ∙ not-true (c .before .are-elements .result) (c .if4 .taken),
     ))
 
--- src/refusal.rt:258:9
 are-elements-requires-2 : tie.Need-are-elements-requires-2
 are-elements-requires-2 c κs = search needs
 
--- src/refusal.rt:259:9
 returns-5 : tie.Need-returns-5
 unfolding first
 returns-5 c =
@@ -108,7 +95,6 @@ returns-5 c =
       sym (c .before .are-elements2 .ensures) ∙ not-true (c .before .are-elements2 .result) (c .if5 .taken),
     ))
 
--- src/refusal.rt:234:1
 returns-6 : tie.Need-returns-6
 unfolding first
 returns-6 c =

@@ -16,8 +16,6 @@ use Rattle.checks.specs.Matrix.{all-next}
 use borrow.Author.Needs.{needs}
 use Rattle.checks.proofs.values_taken.Statement.{statement}
 use Rattle.checks.proofs.values_taken.Tie as tie
-use Rattle.checks.proofs.values_taken.Reads as reads
-use Rattle.checks.proofs.values_taken.Lts as lts
 
 turned-down : (p : ℕ) (values : List ℕ) (k : ℕ) → k < length values → valueTaken p (getD values k 0) ≡ false → false ≡ every (valueTaken p) values
 turned-down p values k l e =
@@ -29,19 +27,15 @@ Inv-loop p values k₀ k = (k ≤ length values) × (all k (λ j. valueTaken p (
 abbrev μ-loop : tie.MeasureT-loop
 μ-loop p values k₀ k = length values - k
 
--- src/refusal.rt:92:5
 loop-holds : tie.Need-loop-holds Inv-loop μ-loop
 loop-holds c = (omega arith, all-zero (λ j. valueTaken (c .args .p) (getD (now (c .args .values)) j 0)))
 
--- src/refusal.rt:93:12
 mul-if1 : tie.Need-mul-if1 Inv-loop μ-loop
 mul-if1 c = search needs
 
--- src/refusal.rt:93:12
 shared-slice-read-if1 : tie.Need-shared-slice-read-if1 Inv-loop μ-loop
 shared-slice-read-if1 c = search needs
 
--- src/refusal.rt:94:13
 returns : tie.Need-returns Inv-loop μ-loop
 returns c =
     let at = c .before .before .before .before .args in
@@ -49,15 +43,12 @@ returns c =
     turned-down (at .p) (now (at .values)) (c .before .before .before .loop .k) (c .before .before .loop-test .taken)
     (and-false-left (ltb value (at .p)) (lt-leb 1 value (omega (arith, c .if1 .taken))))
 
--- src/refusal.rt:96:12
 mul-if2 : tie.Need-mul-if2 Inv-loop μ-loop
 mul-if2 c = search needs
 
--- src/refusal.rt:96:12
 shared-slice-read-if2 : tie.Need-shared-slice-read-if2 Inv-loop μ-loop
 shared-slice-read-if2 c = search needs
 
--- src/refusal.rt:97:13
 returns-2 : tie.Need-returns-2 Inv-loop μ-loop
 returns-2 c =
     let at = c .before .before .before .before .before .before .args in
@@ -65,15 +56,12 @@ returns-2 c =
     turned-down (at .p) (now (at .values)) (c .before .before .before .before .before .loop .k) (c .before .before .before .before .loop-test .taken)
     (and-false-right (leb 1 value) (le-ltb value (at .p) (c .if2 .taken)))
 
--- src/refusal.rt:99:9
 add-k : tie.Need-add-k Inv-loop μ-loop
 add-k c = search needs
 
--- src/refusal.rt:92:5
 loop-less : tie.Need-loop-less Inv-loop μ-loop
 loop-less c = omega (arith, c .before .before .before .before .loop-test .taken)
 
--- src/refusal.rt:92:5
 loop-again : tie.Need-loop-again Inv-loop μ-loop
 loop-again c =
     let at = c .before .before .before .before .before .before .args in
@@ -83,7 +71,6 @@ loop-again c =
       all-next (loop .k) (λ j. valueTaken (at .p) (getD (now (at .values)) j 0)) (loop .inv .1) (and-both (le-leb 1 value (pos-of-ne-zero (c .before .before .if1 .left))) (lt-ltb value (at .p) (c .if2 .left))),
     )
 
--- src/refusal.rt:88:1
 returns-3 : tie.Need-returns-3 Inv-loop μ-loop
 returns-3 c =
     let at = c .before .before .args in

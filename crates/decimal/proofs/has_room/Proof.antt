@@ -5,7 +5,6 @@ use native.Mathlib.Omega.{arith}
 use lib.Dec.{leb}
 use borrow.Author.Tests.{leb-true, le-leb, lt-leb}
 use Rattle.laws.specs.Bool.{same-test}
-use borrow.Author.Needs.{needs}
 use Rattle.decimal.proofs.has_room.Statement.{statement}
 use Rattle.decimal.proofs.has_room.Tie as tie
 

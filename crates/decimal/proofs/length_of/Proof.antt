@@ -7,7 +7,6 @@ use native.Mathlib.Omega.{arith}
 use lib.ListN.{length, length-append}
 use Rattle.meaning.specs.Text.{decimal}
 use Rattle.text_laws.specs.Numeral.{decimal-small, decimal-large, decimal-positive, decimal-short}
-use borrow.Author.Needs.{needs}
 use Rattle.decimal.proofs.length_of.Statement.{statement}
 use Rattle.decimal.proofs.length_of.Tie as tie
 

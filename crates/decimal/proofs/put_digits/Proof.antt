@@ -1,10 +1,10 @@
 -- `decimal::put_digits` meets its contract. The loop's invariant: with the digits left written too, the slice holds k's. The measure is
 -- what is left of the number. Assumes nothing.
-use mathlib.Core.Path.{_≡_, refl, sym, ap, ap₂, _∙_}
+use mathlib.Core.Path.{_≡_, refl, sym, ap, _∙_}
 use mathlib.Core.List.{[], _∷_, _++_}
 use Prim.Native.Nat.{_+_, _/_, _%_, _<_}
 use native.Mathlib.Omega.{arith}
-use lib.ListN.{length, set, length-append, length-set}
+use lib.ListN.{length, length-append, length-set}
 use Rattle.meaning.specs.Text.{decimal}
 use Rattle.text_laws.specs.Numeral.{decimal-small, decimal-large, decimal-positive}
 use Rattle.decimal.specs.Placed.{placed, placed-one, store-before}

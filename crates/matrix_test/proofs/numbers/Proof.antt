@@ -1,6 +1,6 @@
 -- `matrix_test::numbers` is safe and ends. Assumes nothing.
 use mathlib.Core.Path.{_≡_}
-use Prim.Native.Nat.{_-_, _≤_}
+use Prim.Native.Nat.{_-_}
 use lib.ListN.{length}
 use borrow.Author.Needs.{needs}
 use Rattle.matrix_test.proofs.numbers.Statement.{statement}

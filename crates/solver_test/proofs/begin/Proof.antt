@@ -3,83 +3,61 @@ use mathlib.Core.Path.{_∙_}
 use borrow.Author.Needs.{needs}
 use Rattle.solver_test.proofs.begin.Statement.{statement}
 use Rattle.solver_test.proofs.begin.Tie as tie
-use Rattle.solver_test.proofs.begin.Reads as reads
-use Rattle.solver_test.proofs.begin.Lts as lts
-use Rattle.solver_test.proofs.number.Reads as number-reads
 
--- src/main.rt:239:9
 number-requires : tie.Need-number-requires
 number-requires c κs = search needs
 
--- src/main.rt:240:9
 number-requires-2 : tie.Need-number-requires-2
 number-requires-2 c κs = search needs
 
--- src/main.rt:241:9
 number-requires-3 : tie.Need-number-requires-3
 number-requires-3 c κs = search needs
 
--- src/main.rt:242:9
 number-requires-4 : tie.Need-number-requires-4
 number-requires-4 c κs = search needs
 
--- src/main.rt:243:9
 number-requires-5 : tie.Need-number-requires-5
 number-requires-5 c κs = search needs
 
--- src/main.rt:244:9
 number-requires-6 : tie.Need-number-requires-6
 number-requires-6 c κs = search needs
 
--- src/main.rt:245:9
 number-requires-7 : tie.Need-number-requires-7
 number-requires-7 c κs = search needs
 
--- src/main.rt:246:9
 number-requires-8 : tie.Need-number-requires-8
 number-requires-8 c κs = search needs
 
--- src/main.rt:247:9
 number-requires-9 : tie.Need-number-requires-9
 number-requires-9 c κs = search needs
 
--- src/main.rt:251:21
 cast-t30 : tie.Need-cast-t30
 cast-t30 c = search needs
 
--- src/main.rt:252:22
 cast-t31 : tie.Need-cast-t31
 cast-t31 c = search needs
 
--- src/main.rt:253:21
 cast-t32 : tie.Need-cast-t32
 cast-t32 c = search needs
 
--- src/main.rt:254:16
 cast-t33 : tie.Need-cast-t33
 cast-t33 c = search needs
 
--- src/main.rt:255:20
 cast-t34 : tie.Need-cast-t34
 cast-t34 c = search needs
 
--- src/main.rt:256:21
 cast-t35 : tie.Need-cast-t35
 cast-t35 c = search needs
 
--- src/main.rt:257:25
 cast-t36 : tie.Need-cast-t36
 cast-t36 c = search needs
 
--- src/main.rt:258:19
 cast-t37 : tie.Need-cast-t37
 cast-t37 c = search needs
 
--- src/main.rt:238:1
 same-length : tie.Need-same-length
 same-length c = c .before .before .before .before .before .before .before .before .before .before .number9 .kept .0 ∙ c .before .before .before .before .before .before .before .before .before .before .before .before .before .before .number8 .kept .0 ∙ c .before .before .before .before .before .before .before .before .before .before .before .before .before .before .before .before .before .before .number7 .kept .0 ∙ c .before .before .before .before .before .before .before .before .before .before .before .before .before .before .before .before .before .before .before .before .before .before .number6 .kept .0 ∙ c .before .before .before .before .before .before .before .before .before .before .before .before .before .before .before .before .before .before .before .before .before .before .before .before .before .before .number5 .kept .0 ∙ c .before .before .before .before .before .before .before .before .before .before .before .before .before .before .before .before .before .before .before .before .before .before .before .before .before .before .before .before .before .before .number4 .kept .0 ∙ c .before .before .before .before .before .before .before .before .before .before .before .before .before .before .before .before .before .before .before .before .before .before .before .before .before .before .before .before .before .before .before .before .before .before .number3 .kept .0 ∙ c .before .before .before .before .before .before .before .before .before .before .before .before .before .before .before .before .before .before .before .before .before .before .before .before .before .before .before .before .before .before .before .before .before .before .before .before .before .before .number2 .kept .0 ∙ c .before .before .before .before .before .before .before .before .before .before .before .before .before .before .before .before .before .before .before .before .before .before .before .before .before .before .before .before .before .before .before .before .before .before .before .before .before .before .before .before .before .before .number .kept .0
 
--- src/main.rt:238:1
 returns : tie.Need-returns
 returns c = search needs
 

@@ -3,79 +3,55 @@ use mathlib.Core.Path.{_∙_}
 use borrow.Author.Needs.{needs}
 use Rattle.solver_test.proofs.one.Statement.{statement}
 use Rattle.solver_test.proofs.one.Tie as tie
-use Rattle.solver_test.proofs.one.Reads as reads
-use Rattle.solver_test.proofs.one.Lts as lts
-use Rattle.solver_test.proofs.begin.Reads as begin-reads
-use Rattle.solver_test.proofs.fill.Reads as fill-reads
-use Rattle.solver_test.proofs.lend.Reads as lend-reads
-use Rattle.solver_test.proofs.matrix.Reads as matrix-reads
-use Rattle.solver_test.proofs.terms.Reads as terms-reads
 
--- src/main.rt:289:9
 begin-requires : tie.Need-begin-requires
 begin-requires c κs = search needs
 
--- src/main.rt:291:9
 matrix-requires : tie.Need-matrix-requires
 matrix-requires c κs = search needs
 
--- src/main.rt:292:9
 terms-requires : tie.Need-terms-requires
 terms-requires c κs = search needs
 
--- src/main.rt:293:9
 terms-requires-2 : tie.Need-terms-requires-2
 terms-requires-2 c κs = search needs
 
--- src/main.rt:294:5
 fill-requires : tie.Need-fill-requires
 fill-requires c κs = search needs
 
--- src/main.rt:295:5
 fill-requires-2 : tie.Need-fill-requires-2
 fill-requires-2 c κs = search needs
 
--- src/main.rt:296:5
 lend-requires : tie.Need-lend-requires
 lend-requires c κs = search needs
 
--- src/main.rt:277:1
 same-length : tie.Need-same-length
 same-length c = c .before .before .before .before .before .before .before .before .before .before .before .before .before .before .before .before .before .before .before .before .before .before .before .before .before .before .before .terms2 .kept .0 ∙ c .before .before .before .before .before .before .before .before .before .before .before .before .before .before .before .before .before .before .before .before .before .before .before .before .before .before .before .before .before .before .before .before .before .before .terms .kept .0 ∙ c .before .before .before .before .before .before .before .before .before .before .before .before .before .before .before .before .before .before .before .before .before .before .before .before .before .before .before .before .before .before .before .before .before .before .before .before .before .before .before .before .before .before .before .before .before .matrix .kept .0 ∙ c .before .before .before .before .before .before .before .before .before .before .before .before .before .before .before .before .before .before .before .before .before .before .before .before .before .before .before .before .before .before .before .before .before .before .before .before .before .before .before .before .before .before .before .before .before .before .before .before .before .before .before .before .before .begin .kept .0
 
--- src/main.rt:277:1
 same-length-2 : tie.Need-same-length-2
 same-length-2 c = c .before .before .before .before .before .before .before .before .before .before .before .before .before .before .before .before .before .before .before .before .before .before .before .before .before .before .before .before .before .before .before .before .before .before .before .before .before .before .before .before .before .before .before .before .before .matrix .kept .1 .1 .1 .0
 
--- src/main.rt:277:1
 same-length-3 : tie.Need-same-length-3
 same-length-3 c = c .before .before .before .before .before .before .before .before .before .before .before .before .before .before .before .before .before .before .before .before .before .before .before .before .before .before .before .before .before .before .before .before .before .before .before .before .before .before .before .before .before .before .before .before .before .matrix .kept .1 .1 .1 .1 .0
 
--- src/main.rt:277:1
 same-length-4 : tie.Need-same-length-4
 same-length-4 c = c .before .before .before .before .before .before .before .before .before .before .before .before .before .before .before .before .before .before .before .before .before .before .before .before .before .before .before .before .before .before .before .before .before .before .before .before .before .before .before .before .before .before .before .before .before .matrix .kept .1 .1 .1 .1 .1 .0
 
--- src/main.rt:277:1
 same-length-5 : tie.Need-same-length-5
 same-length-5 c = search needs
 
--- src/main.rt:277:1
 same-length-6 : tie.Need-same-length-6
 same-length-6 c = search needs
 
--- src/main.rt:277:1
 same-length-7 : tie.Need-same-length-7
 same-length-7 c = search needs
 
--- src/main.rt:277:1
 same-length-8 : tie.Need-same-length-8
 same-length-8 c = search needs
 
--- src/main.rt:277:1
 same-length-9 : tie.Need-same-length-9
 same-length-9 c = search needs
 
--- src/main.rt:277:1
 returns : tie.Need-returns
 returns c = search needs
 

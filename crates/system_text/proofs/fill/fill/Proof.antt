@@ -1,6 +1,6 @@
 -- `fill::fill` meets its contract. The invariant: what is stored from `from` on is what was stored, and what is stored from i on.
 -- Assumes nothing.
-use mathlib.Core.Path.{_≡_, refl, sym, ap, _∙_, subst}
+use mathlib.Core.Path.{_≡_, sym, ap, _∙_}
 use Prim.Native.Nat.{_≤_, _+_, _-_, suc}
 use native.Mathlib.Omega.{arith}
 use native.Mathlib.Numerals.{add-one}

@@ -1,6 +1,6 @@
 -- `fill::fill_elements` meets its contract. The invariant is ElementsFilled. Assumes nothing.
-use mathlib.Core.Path.{_≡_, refl, sym, ap, _∙_, subst}
-use Prim.Native.Nat.{_-_, _+_, _≤_, _<_}
+use mathlib.Core.Path.{sym, subst}
+use Prim.Native.Nat.{_-_, _+_, _≤_}
 use native.Mathlib.Omega.{arith}
 use lib.ListN.{set}
 use Rattle.system_text.specs.Lines.{Says}

@@ -1,8 +1,8 @@
 -- `fill::fill_entries` meets its contract. The invariant is EntriesFilled. Assumes nothing.
-use mathlib.Core.Path.{_≡_, refl, sym, ap, _∙_, subst}
-use Prim.Native.Nat.{_-_, _+_, _≤_, _<_}
+use mathlib.Core.Path.{sym, ap, _∙_, subst}
+use Prim.Native.Nat.{_-_, _+_}
 use native.Mathlib.Omega.{arith}
-use lib.ListN.{length, set, replicate}
+use lib.ListN.{set, replicate}
 use lib.Seq.{sets}
 use Rattle.system_text.specs.Lines.{Says}
 use Rattle.system_text.proofs.Tags.{tag-entry}

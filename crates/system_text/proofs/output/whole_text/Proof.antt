@@ -1,5 +1,5 @@
 -- `output::whole_text` meets its contract: the `system` line, the rows, the elements and the end, one after the other. Assumes nothing.
-use mathlib.Core.Path.{_≡_, ap, ap₂, _∙_}
+use mathlib.Core.Path.{ap, ap₂, _∙_}
 use mathlib.Core.List.{[], _∷_, _++_}
 use Prim.Native.Nat.{_-_}
 use lib.ListN.{length}

@@ -1,5 +1,5 @@
 -- `reader::room` meets its contract. Assumes nothing.
-use mathlib.Core.Path.{sym, ap, _∙_, subst, refl}
+use mathlib.Core.Path.{sym, ap, _∙_, subst}
 use Prim.Native.Nat.{_+_, _<_, _≤_}
 use lib.Dec.{leb}
 use borrow.Author.Tests.{lt-leb, le-leb}

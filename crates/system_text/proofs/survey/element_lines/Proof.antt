@@ -4,7 +4,7 @@ use Rattle.system_text.specs.Lines.{Says}
 use Prim.Native.Nat.{_-_}
 use lib.ListN.{length}
 use native.Mathlib.Omega.{arith}
-use mathlib.Core.Path.{_≡_, refl, sym, ap, _∙_, subst}
+use mathlib.Core.Path.{refl, ap, _∙_, subst}
 use Rattle.system_text.specs.Places.{ElementsPassed, element-more, elements-end, not-element}
 use Rattle.system_text.proofs.Tags.{tag-element}
 use borrow.Author.Needs.{needs}

@@ -8,11 +8,6 @@ use Rattle.laws.specs.Refusal.{unlessRefused-none, unlessRefused-some}
 use borrow.Author.Needs.{needs}
 use Rattle.wiedemann.proofs.matrix.apply.Statement.{statement}
 use Rattle.wiedemann.proofs.matrix.apply.Tie as tie
-use Rattle.wiedemann.proofs.matrix.apply.Reads as reads
-use Rattle.wiedemann.proofs.matrix.apply.Lts as lts
-use Rattle.wiedemann.proofs.matrix.horner.Reads as horner-reads
-use Rattle.checks.proofs.apply_refusal.Reads as apply-refusal-reads
-use Rattle.wiedemann.proofs.sums.reciprocal.Reads as reciprocal-reads
 
 none : (c : tie.Else1)
     → let at = c .before .before .before .before .before .before .before .before .before .before .before .args in
@@ -26,19 +21,15 @@ accepted c =
     let at = c .before .before .before .before .before .before .before .before .before .before .before .args in
     apply-accepted (at .field .p) (matrix (now (c .before .before .before .before .before .before .before .before .before .before .before .args .starts)) (now (c .before .before .before .before .before .before .before .before .before .before .before .args .columns)) (now (c .before .before .before .before .before .before .before .before .before .before .before .args .values))) (now (at .g)) (now (at .v)) (now (at .out)) (now (at .work)) (none c)
 
--- src/matrix.rt:400:9
 apply-refusal-requires : tie.Need-apply-refusal-requires
 apply-refusal-requires c κs = search needs
 
--- src/matrix.rt:402:9
 same-length : tie.Need-same-length
 same-length c = search needs
 
--- src/matrix.rt:402:9
 same-length-2 : tie.Need-same-length-2
 same-length-2 c = search needs
 
--- src/matrix.rt:402:9
 returns : tie.Need-returns
 returns c =
     let at = c .before .before .before .before .before .before .before .before .before .before .before .args in
@@ -52,25 +43,20 @@ returns c =
       ),
     )
 
--- src/matrix.rt:404:15
 reciprocal-requires : tie.Need-reciprocal-requires
 reciprocal-requires c κs = accepted c .valid .positive
 
--- src/matrix.rt:404:5
 horner-requires : tie.Need-horner-requires
 horner-requires c κs =
     let known = accepted (c .before .before .before) in
     (known .valid, (c .before .before .reciprocal .ensures, known .places, omega (arith, known .places, known .room), known .vector, known .some, known .coefficients))
 
--- src/matrix.rt:386:1
 same-length-3 : tie.Need-same-length-3
 same-length-3 c = search needs
 
--- src/matrix.rt:386:1
 same-length-4 : tie.Need-same-length-4
 same-length-4 c = search needs
 
--- src/matrix.rt:386:1
 returns-2 : tie.Need-returns-2
 returns-2 c =
     let at = c .before .before .before .before .before .before .before .before .before .before .before .before .before .before .before .before .before .before .before .args in

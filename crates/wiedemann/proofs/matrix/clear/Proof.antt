@@ -8,8 +8,6 @@ use Rattle.wiedemann.specs.Region.{written-next, written-table}
 use borrow.Author.Needs.{needs}
 use Rattle.wiedemann.proofs.matrix.clear.Statement.{statement}
 use Rattle.wiedemann.proofs.matrix.clear.Tie as tie
-use Rattle.wiedemann.proofs.matrix.clear.Reads as reads
-use Rattle.wiedemann.proofs.matrix.clear.Lts as lts
 
 abbrev Inv-loop : tie.InvT-loop
 Inv-loop out₀ i₀ out i = (i ≤ length out₀) × Written out₀ 0 i (λ k. 0) out
@@ -17,38 +15,30 @@ Inv-loop out₀ i₀ out i = (i ≤ length out₀) × Written out₀ 0 i (λ k. 
 abbrev μ-loop : tie.MeasureT-loop
 μ-loop out₀ i₀ out i = length out₀ - i
 
--- src/matrix.rt:262:5
 loop-holds : tie.Need-loop-holds Inv-loop μ-loop
 loop-holds c = (omega arith, written-none (now (c .args .out)) 0 (λ k. 0))
 
--- src/matrix.rt:263:9
 mul-out : tie.Need-mul-out Inv-loop μ-loop
 mul-out c = search needs
 
--- src/matrix.rt:263:9
 slice-write-out : tie.Need-slice-write-out Inv-loop μ-loop
 slice-write-out c = search needs
 
--- src/matrix.rt:264:9
 add-i : tie.Need-add-i Inv-loop μ-loop
 add-i c = omega (arith, c .loop-test .taken, c .before .loop .inv .1 .same-length)
 
--- src/matrix.rt:262:5
 loop-less : tie.Need-loop-less Inv-loop μ-loop
 loop-less c = omega (arith, c .loop-test .taken, c .before .loop .inv .1 .same-length)
 
--- src/matrix.rt:262:5
 loop-again : tie.Need-loop-again Inv-loop μ-loop
 loop-again c =
     let loop = c .before .loop in
     let test : loop .i < length (now (c .before .before .args .out)) = omega (arith, c .loop-test .taken, loop .inv .1 .same-length) in
     (omega (arith, test), written-next 0 (loop .inv .1) test refl)
 
--- src/matrix.rt:258:1
 same-length : tie.Need-same-length Inv-loop μ-loop
 same-length c = c .before .loop .inv .1 .same-length
 
--- src/matrix.rt:258:1
 returns : tie.Need-returns Inv-loop μ-loop
 returns c =
     let start = c .before .before in

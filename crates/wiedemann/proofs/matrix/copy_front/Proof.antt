@@ -8,8 +8,6 @@ use Rattle.wiedemann.specs.Region.{written-next}
 use borrow.Author.Needs.{needs}
 use Rattle.wiedemann.proofs.matrix.copy_front.Statement.{statement}
 use Rattle.wiedemann.proofs.matrix.copy_front.Tie as tie
-use Rattle.wiedemann.proofs.matrix.copy_front.Reads as reads
-use Rattle.wiedemann.proofs.matrix.copy_front.Lts as lts
 
 abbrev Inv-loop : tie.InvT-loop
 Inv-loop v work₀ i₀ work i = (i ≤ length v) × Written work₀ 0 i (λ k. getD v k 0) work
@@ -17,35 +15,27 @@ Inv-loop v work₀ i₀ work i = (i ≤ length v) × Written work₀ 0 i (λ k. 
 abbrev μ-loop : tie.MeasureT-loop
 μ-loop v work₀ i₀ work i = length v - i
 
--- src/matrix.rt:184:5
 loop-holds : tie.Need-loop-holds Inv-loop μ-loop
 loop-holds c = (omega arith, written-none (now (c .args .work)) 0 (λ k. getD (now (c .args .v)) k 0))
 
--- src/matrix.rt:185:19
 mul-work : tie.Need-mul-work Inv-loop μ-loop
 mul-work c = search needs
 
--- src/matrix.rt:185:19
 shared-slice-read-work : tie.Need-shared-slice-read-work Inv-loop μ-loop
 shared-slice-read-work c = search needs
 
--- src/matrix.rt:185:9
 mul-work-2 : tie.Need-mul-work-2 Inv-loop μ-loop
 mul-work-2 c = search needs
 
--- src/matrix.rt:185:9
 slice-write-work : tie.Need-slice-write-work Inv-loop μ-loop
 slice-write-work c = omega (arith, c .before .loop-test .taken, c .before .before .loop .inv .1 .same-length)
 
--- src/matrix.rt:186:9
 add-i : tie.Need-add-i Inv-loop μ-loop
 add-i c = search needs
 
--- src/matrix.rt:184:5
 loop-less : tie.Need-loop-less Inv-loop μ-loop
 loop-less c = omega (arith, c .before .loop-test .taken)
 
--- src/matrix.rt:184:5
 loop-again : tie.Need-loop-again Inv-loop μ-loop
 loop-again c =
     let test = c .before .loop-test .taken in
@@ -54,11 +44,9 @@ loop-again c =
       written-next (getD (now (c .before .before .before .args .v)) (loop .i) 0) (loop .inv .1) (omega (arith, test, c .before .before .before .pre)) refl,
     )
 
--- src/matrix.rt:179:1
 same-length : tie.Need-same-length Inv-loop μ-loop
 same-length c = c .before .loop .inv .1 .same-length
 
--- src/matrix.rt:179:1
 returns : tie.Need-returns Inv-loop μ-loop
 returns c = written-all (omega (arith, c .before .loop .inv .0, c .loop-test .left)) (c .before .loop .inv .1)
 

@@ -7,46 +7,33 @@ use Rattle.wiedemann.specs.Sums.{residues-fit}
 use borrow.Author.Needs.{needs}
 use Rattle.wiedemann.proofs.matrix.entry.Statement.{statement}
 use Rattle.wiedemann.proofs.matrix.entry.Tie as tie
-use Rattle.wiedemann.proofs.matrix.entry.Reads as reads
-use Rattle.wiedemann.proofs.matrix.entry.Lts as lts
-use Rattle.wiedemann.proofs.sums.times.Reads as times-reads
-use Rattle.checks.proofs.wide.Reads as wide-reads
 
--- src/matrix.rt:17:18
 mul-wide : tie.Need-mul-wide
 mul-wide c = search needs
 
--- src/matrix.rt:17:18
 shared-slice-read-wide : tie.Need-shared-slice-read-wide
 shared-slice-read-wide c = search needs
 
--- src/matrix.rt:17:9
 wide-requires : tie.Need-wide-requires
 wide-requires c κs = search needs
 
--- src/matrix.rt:18:11
 mul-times : tie.Need-mul-times
 mul-times c = search needs
 
--- src/matrix.rt:18:11
 shared-slice-read-times : tie.Need-shared-slice-read-times
 shared-slice-read-times c = search needs
 
--- src/matrix.rt:18:22
 mul-times-2 : tie.Need-mul-times-2
 mul-times-2 c = search needs
 
--- src/matrix.rt:18:22
 shared-slice-read-times-2 : tie.Need-shared-slice-read-times-2
 shared-slice-read-times-2 c =
     let at = c .before .before .before .before .before .before .before in
     rw (c .before .before .wide .ensures .0) (at .pre .0 .column (at .args .k) (at .pre .1))
 
--- src/matrix.rt:18:5
 times-requires : tie.Need-times-requires
 times-requires c κs = search needs
 
--- src/matrix.rt:12:1
 returns : tie.Need-returns
 returns c =
     let at = c .before .before .before .before .before .before .before .before in

@@ -6,51 +6,37 @@ use Rattle.checks.specs.Valid.{term}
 use borrow.Author.Needs.{needs}
 use Rattle.wiedemann.proofs.matrix.four.Statement.{statement}
 use Rattle.wiedemann.proofs.matrix.four.Tie as tie
-use Rattle.wiedemann.proofs.matrix.four.Reads as reads
-use Rattle.wiedemann.proofs.matrix.four.Lts as lts
-use Rattle.wiedemann.proofs.matrix.entry.Reads as entry-reads
 
--- src/matrix.rt:27:5
 entry-requires : tie.Need-entry-requires
 entry-requires c κs = search needs
 
--- src/matrix.rt:27:42
 add-entry : tie.Need-add-entry
 add-entry c = search needs
 
--- src/matrix.rt:27:36
 entry-requires-2 : tie.Need-entry-requires-2
 entry-requires-2 c κs = search needs
 
--- src/matrix.rt:27:5
 add-result : tie.Need-add-result
 add-result c = search needs
 
--- src/matrix.rt:27:77
 add-entry-2 : tie.Need-add-entry-2
 add-entry-2 c = search needs
 
--- src/matrix.rt:27:71
 entry-requires-3 : tie.Need-entry-requires-3
 entry-requires-3 c κs = search needs
 
--- src/matrix.rt:27:5
 add-result-2 : tie.Need-add-result-2
 add-result-2 c = search needs
 
--- src/matrix.rt:27:112
 add-entry-3 : tie.Need-add-entry-3
 add-entry-3 c = search needs
 
--- src/matrix.rt:27:106
 entry-requires-4 : tie.Need-entry-requires-4
 entry-requires-4 c κs = search needs
 
--- src/matrix.rt:27:5
 add-result-3 : tie.Need-add-result-3
 add-result-3 c = search needs
 
--- src/matrix.rt:22:1
 returns : tie.Need-returns
 returns c =
     let at = c .before .before .before .before .before .before .before .args in

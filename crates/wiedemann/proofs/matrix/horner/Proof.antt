@@ -9,10 +9,6 @@ use Rattle.wiedemann.specs.Horner.{step, horner-begins, horner-goes-on, 
 use borrow.Author.Needs.{needs}
 use Rattle.wiedemann.proofs.matrix.horner.Statement.{statement}
 use Rattle.wiedemann.proofs.matrix.horner.Tie as tie
-use Rattle.wiedemann.proofs.matrix.horner.Reads as reads
-use Rattle.wiedemann.proofs.matrix.horner.Lts as lts
-use Rattle.wiedemann.proofs.matrix.multiple.Reads as multiple-reads
-use Rattle.wiedemann.proofs.matrix.turn.Reads as turn-reads
 
 abbrev Inv-loop : tie.InvT-loop
 Inv-loop p reciprocal starts columns values g v out₀ work₀ i₀ out work i =
@@ -30,19 +26,15 @@ vector c =
     subst (λ l. Vector (at .p) (length (now (at .starts)) - 1) l) (sym (c .loop .inv .2))
     (vector-apply (at .p) A (drop (c .loop .i) (now (at .g))) (now (at .v)) (start .pre .0 .positive))
 
--- src/matrix.rt:248:17
 sub-i : tie.Need-sub-i Inv-loop μ-loop
 sub-i c = search needs
 
--- src/matrix.rt:249:17
 mul-multiple : tie.Need-mul-multiple Inv-loop μ-loop
 mul-multiple c = search needs
 
--- src/matrix.rt:249:17
 shared-slice-read-multiple : tie.Need-shared-slice-read-multiple Inv-loop μ-loop
 shared-slice-read-multiple c = search needs
 
--- src/matrix.rt:249:5
 multiple-requires : tie.Need-multiple-requires Inv-loop μ-loop
 multiple-requires c κs =
     let start = c .before .before .before .before .before .before .before .before .before in
@@ -50,7 +42,6 @@ multiple-requires c κs =
     let coefficients = pre .1 .5 in
     (coefficients .below (length (now (start .args .g)) - 1) (omega (arith, pre .1 .4)), pre .0 .small, pre .1 .1 ∙ sym (pre .1 .3 .places))
 
--- src/matrix.rt:250:5
 loop-holds : tie.Need-loop-holds Inv-loop μ-loop
 loop-holds c =
     let start = c .before .before .before .before .before .before .before .before .before .before .before .before in
@@ -63,19 +54,15 @@ loop-holds c =
           (pre .1 .3 .places) (pre .1 .4),
     )
 
--- src/matrix.rt:251:9
 sub-i-2 : tie.Need-sub-i-2 Inv-loop μ-loop
 sub-i-2 c = search needs
 
--- src/matrix.rt:252:25
 mul-turn : tie.Need-mul-turn Inv-loop μ-loop
 mul-turn c = search needs
 
--- src/matrix.rt:252:25
 shared-slice-read-turn : tie.Need-shared-slice-read-turn Inv-loop μ-loop
 shared-slice-read-turn c = omega (arith, c .before .before .loop .inv .0)
 
--- src/matrix.rt:252:9
 turn-requires : tie.Need-turn-requires Inv-loop μ-loop
 turn-requires c κs =
     let start = c .before .before .before .before .before .before .before .before .before .before .before .before .before .before .before .before .before in
@@ -84,11 +71,9 @@ turn-requires c κs =
     let now-out = vector (c .before .before .before .before) in
     (pre .0, (pre .1 .0, pre .1 .3 .places, omega (arith, now-out .places, pre .1 .1, pre .1 .2, held .1), now-out))
 
--- src/matrix.rt:250:5
 loop-less : tie.Need-loop-less Inv-loop μ-loop
 loop-less c = omega (arith, c .before .before .before .before .before .before .before .before .loop-test .taken)
 
--- src/matrix.rt:250:5
 loop-again : tie.Need-loop-again Inv-loop μ-loop
 loop-again c =
     let start = c .before .before .before .before .before .before .before .before .before .before .before .before .before .before .before .before .before .before .before .before .before .before in
@@ -101,15 +86,12 @@ loop-again c =
           ∙ horner-goes-on (at .p) A (start .pre .0) (now (at .g)) (now (at .v)) (loop .i) (c .before .before .before .before .before .before .before .before .loop-test .taken) (loop .inv .0),
     )
 
--- src/matrix.rt:233:1
 same-length : tie.Need-same-length Inv-loop μ-loop
 same-length c = vector (c .before) .places ∙ sym (c .before .before .before .before .before .before .before .before .before .before .before .before .before .before .pre .1 .1)
 
--- src/matrix.rt:233:1
 same-length-2 : tie.Need-same-length-2 Inv-loop μ-loop
 same-length-2 c = c .before .loop .inv .1
 
--- src/matrix.rt:233:1
 returns : tie.Need-returns Inv-loop μ-loop
 returns c =
     let at = c .before .before .before .before .before .before .before .before .before .before .before .before .before .before .args in

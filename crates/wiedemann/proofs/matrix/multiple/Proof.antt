@@ -8,10 +8,6 @@ use Rattle.wiedemann.specs.Region.{written-next, written-table}
 use borrow.Author.Needs.{needs}
 use Rattle.wiedemann.proofs.matrix.multiple.Statement.{statement}
 use Rattle.wiedemann.proofs.matrix.multiple.Tie as tie
-use Rattle.wiedemann.proofs.matrix.multiple.Reads as reads
-use Rattle.wiedemann.proofs.matrix.multiple.Lts as lts
-use Rattle.wiedemann.proofs.scale.quotient.Reads as quotient-reads
-use Rattle.wiedemann.proofs.scale.scaled.Reads as scaled-reads
 
 abbrev Inv-loop : tie.InvT-loop
 Inv-loop p c v out₀ w i₀ out i = (i ≤ length v) × Written out₀ 0 i (λ k. times p c (getD v k 0)) out
@@ -19,56 +15,44 @@ Inv-loop p c v out₀ w i₀ out i = (i ≤ length v) × Written out₀ 0 i (λ 
 abbrev μ-loop : tie.MeasureT-loop
 μ-loop p c v out₀ w i₀ out i = length v - i
 
--- src/matrix.rt:171:9
 quotient-requires : tie.Need-quotient-requires Inv-loop μ-loop
 quotient-requires c κs = search needs
 
--- src/matrix.rt:173:5
 loop-holds : tie.Need-loop-holds Inv-loop μ-loop
 loop-holds c =
     let at = c .before .before .before .args in
     (omega arith, written-none (now (at .out)) 0 (λ k. times (at .p) (at .c) (getD (now (at .v)) k 0)))
 
--- src/matrix.rt:174:34
 mul-scaled : tie.Need-mul-scaled Inv-loop μ-loop
 mul-scaled c = search needs
 
--- src/matrix.rt:174:34
 shared-slice-read-scaled : tie.Need-shared-slice-read-scaled Inv-loop μ-loop
 shared-slice-read-scaled c = search needs
 
--- src/matrix.rt:174:18
 scaled-requires : tie.Need-scaled-requires Inv-loop μ-loop
 scaled-requires c κs = search needs
 
--- src/matrix.rt:174:9
 mul-out : tie.Need-mul-out Inv-loop μ-loop
 mul-out c = search needs
 
--- src/matrix.rt:174:9
 slice-write-out : tie.Need-slice-write-out Inv-loop μ-loop
 slice-write-out c = omega (arith, c .before .before .loop-test .taken, c .before .before .before .before .before .before .before .pre .2, c .before .before .before .loop .inv .1 .same-length)
 
--- src/matrix.rt:175:9
 add-i : tie.Need-add-i Inv-loop μ-loop
 add-i c = search needs
 
--- src/matrix.rt:173:5
 loop-less : tie.Need-loop-less Inv-loop μ-loop
 loop-less c = omega (arith, c .before .before .loop-test .taken)
 
--- src/matrix.rt:173:5
 loop-again : tie.Need-loop-again Inv-loop μ-loop
 loop-again c =
     let test = c .before .before .loop-test .taken in
     let loop = c .before .before .before .loop in
     (omega (arith, test), written-next (c .scaled .result) (loop .inv .1) (omega (arith, test, c .before .before .before .before .before .before .before .pre .2)) (c .scaled .ensures))
 
--- src/matrix.rt:167:1
 same-length : tie.Need-same-length Inv-loop μ-loop
 same-length c = c .before .loop .inv .1 .same-length
 
--- src/matrix.rt:167:1
 returns : tie.Need-returns Inv-loop μ-loop
 returns c =
     let start = c .before .before .before .before .before in

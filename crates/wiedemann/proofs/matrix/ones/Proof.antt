@@ -7,10 +7,6 @@ use Rattle.checks.specs.Valid.{term}
 use borrow.Author.Needs.{needs}
 use Rattle.wiedemann.proofs.matrix.ones.Statement.{statement}
 use Rattle.wiedemann.proofs.matrix.ones.Tie as tie
-use Rattle.wiedemann.proofs.matrix.ones.Reads as reads
-use Rattle.wiedemann.proofs.matrix.ones.Lts as lts
-use Rattle.wiedemann.proofs.matrix.entry.Reads as entry-reads
-use Rattle.wiedemann.proofs.sums.Total.add.Reads as add-reads
 
 abbrev Inv-loop : tie.InvT-loop
 Inv-loop from to columns values v sum₀ k₀ sum k =
@@ -19,7 +15,6 @@ Inv-loop from to columns values v sum₀ k₀ sum k =
 abbrev μ-loop : tie.MeasureT-loop
 μ-loop from to columns values v sum₀ k₀ sum k = to - k
 
--- src/matrix.rt:53:5
 loop-holds : tie.Need-loop-holds Inv-loop μ-loop
 loop-holds c =
     let start = c .before .before .before in
@@ -29,28 +24,23 @@ loop-holds c =
       summed-none (at .total) (at .from) (term (now (at .columns)) (now (at .values)) (now (at .v))) (start .pre .1 .2),
     )
 
--- src/matrix.rt:54:23
 entry-requires : tie.Need-entry-requires Inv-loop μ-loop
 entry-requires c κs = search needs
 
--- src/matrix.rt:54:9
 add-requires : tie.Need-add-requires Inv-loop μ-loop
 add-requires c κs =
     let start = c .before .before .before .before .before .before in
     let held = c .before .before .loop .inv in
     omega (arith, held .1, held .2 .carries, start .pre .1 .1, start .pre .0 .few)
 
--- src/matrix.rt:55:9
 add-k : tie.Need-add-k Inv-loop μ-loop
 add-k c =
     let start = c .before .before .before .before .before .before .before in
     omega (arith, c .before .before .loop-test .taken, start .pre .1 .1, start .pre .0 .few)
 
--- src/matrix.rt:53:5
 loop-less : tie.Need-loop-less Inv-loop μ-loop
 loop-less c = omega (arith, c .before .before .loop-test .taken)
 
--- src/matrix.rt:53:5
 loop-again : tie.Need-loop-again Inv-loop μ-loop
 loop-again c =
     let start = c .before .before .before .before .before .before .before in
@@ -65,7 +55,6 @@ loop-again c =
           (loop .inv .0) (omega arith) (loop .inv .2) (c .before .entry .ensures .0 ∙ sym (sumFrom-one k f)) (c .add .ensures),
     )
 
--- src/matrix.rt:46:1
 returns : tie.Need-returns Inv-loop μ-loop
 returns c =
     let at = c .before .before .before .before .before .args in

@@ -10,11 +10,6 @@ use Rattle.wiedemann.specs.Horner.{step-product}
 use borrow.Author.Needs.{needs}
 use Rattle.wiedemann.proofs.matrix.product.Statement.{statement}
 use Rattle.wiedemann.proofs.matrix.product.Tie as tie
-use Rattle.wiedemann.proofs.matrix.product.Reads as reads
-use Rattle.wiedemann.proofs.matrix.product.Lts as lts
-use Rattle.wiedemann.proofs.matrix.step.Reads as step-reads
-use Rattle.checks.proofs.product_refusal.Reads as product-refusal-reads
-use Rattle.wiedemann.proofs.sums.reciprocal.Reads as reciprocal-reads
 
 none : (c : tie.Else1) → productRefusal (c .before .before .before .before .before .before .before .before .args .field .p) (matrix (now (c .before .before .before .before .before .before .before .before .args .starts)) (now (c .before .before .before .before .before .before .before .before .args .columns)) (now (c .before .before .before .before .before .before .before .before .args .values))) (now (c .before .before .before .before .before .before .before .before .args .v)) (now (c .before .before .before .before .before .before .before .before .args .out)) ≡ 0
 none c = sym (c .before .product-refusal .ensures) ∙ c .if1 .left
@@ -23,15 +18,12 @@ accepted : (c : tie.Else1)
     → Accepted (c .before .before .before .before .before .before .before .before .args .field .p) (matrix (now (c .before .before .before .before .before .before .before .before .args .starts)) (now (c .before .before .before .before .before .before .before .before .args .columns)) (now (c .before .before .before .before .before .before .before .before .args .values))) (now (c .before .before .before .before .before .before .before .before .args .v)) × (length (now (c .before .before .before .before .before .before .before .before .args .out)) ≡ length (now (c .before .before .before .before .before .before .before .before .args .starts)) - 1)
 accepted c = product-accepted (c .before .before .before .before .before .before .before .before .args .field .p) (matrix (now (c .before .before .before .before .before .before .before .before .args .starts)) (now (c .before .before .before .before .before .before .before .before .args .columns)) (now (c .before .before .before .before .before .before .before .before .args .values))) (now (c .before .before .before .before .before .before .before .before .args .v)) (now (c .before .before .before .before .before .before .before .before .args .out)) (none c)
 
--- src/matrix.rt:356:9
 product-refusal-requires : tie.Need-product-refusal-requires
 product-refusal-requires c κs = search needs
 
--- src/matrix.rt:358:9
 same-length : tie.Need-same-length
 same-length c = search needs
 
--- src/matrix.rt:358:9
 returns : tie.Need-returns
 returns c =
     let at = c .before .before .before .before .before .before .before .before .args in
@@ -42,21 +34,17 @@ returns c =
           (unlessRefused-some (productRefusal (at .field .p) A (now (at .v)) (now (at .out))) (product (at .field .p) A (now (at .v))) (now (at .out)) (λ e. c .if1 .taken (number ∙ e))),
     )
 
--- src/matrix.rt:360:13
 reciprocal-requires : tie.Need-reciprocal-requires
 reciprocal-requires c κs = accepted c .0 .valid .positive
 
--- src/matrix.rt:360:5
 step-requires : tie.Need-step-requires
 step-requires c κs =
     let known = accepted (c .before .before) in
     (known .0 .valid, (c .before .reciprocal .ensures, known .1, known .0 .vector .places, known .0 .vector))
 
--- src/matrix.rt:344:1
 same-length-2 : tie.Need-same-length-2
 same-length-2 c = search needs
 
--- src/matrix.rt:344:1
 returns-2 : tie.Need-returns-2
 returns-2 c =
     let at = c .before .before .before .before .before .before .before .before .before .before .before .before .before .args in

@@ -12,12 +12,6 @@ use Rattle.checks.specs.Valid.{term, Entries, valid-entries}
 use borrow.Author.Needs.{needs}
 use Rattle.wiedemann.proofs.matrix.row.Statement.{statement}
 use Rattle.wiedemann.proofs.matrix.row.Tie as tie
-use Rattle.wiedemann.proofs.matrix.row.Reads as reads
-use Rattle.wiedemann.proofs.matrix.row.Lts as lts
-use Rattle.wiedemann.proofs.matrix.fours.Reads as fours-reads
-use Rattle.wiedemann.proofs.matrix.ones.Reads as ones-reads
-use Rattle.wiedemann.proofs.sums.Total.residue.Reads as residue-reads
-use Rattle.checks.proofs.wide.Reads as wide-reads
 
 entries : (c : tie.Start) → Entries (now (c .args .columns)) (now (c .args .values)) (now (c .args .v))
 entries c =
@@ -33,59 +27,46 @@ order c =
     let to = c .wide2 .ensures .0 in
     (omega (arith, from, to, start .pre .0 .rise i (start .pre .1 .1)), omega (arith, to, start .pre .0 .within i (start .pre .1 .1)))
 
--- src/matrix.rt:81:21
 mul-wide : tie.Need-mul-wide
 mul-wide c = search needs
 
--- src/matrix.rt:81:21
 shared-slice-read-wide : tie.Need-shared-slice-read-wide
 shared-slice-read-wide c = search needs
 
--- src/matrix.rt:81:9
 wide-requires : tie.Need-wide-requires
 wide-requires c κs = search needs
 
--- src/matrix.rt:82:26
 add-wide : tie.Need-add-wide
 add-wide c = search needs
 
--- src/matrix.rt:82:19
 mul-wide-2 : tie.Need-mul-wide-2
 mul-wide-2 c = search needs
 
--- src/matrix.rt:82:19
 shared-slice-read-wide-2 : tie.Need-shared-slice-read-wide-2
 shared-slice-read-wide-2 c = search needs
 
--- src/matrix.rt:82:9
 wide-requires-2 : tie.Need-wide-requires-2
 wide-requires-2 c κs = search needs
 
--- src/matrix.rt:83:24
 sub-middle : tie.Need-sub-middle
 sub-middle c = omega (arith, order c)
 
--- src/matrix.rt:83:18
 sub-middle-2 : tie.Need-sub-middle-2
 sub-middle-2 c = search needs
 
--- src/matrix.rt:88:9
 fours-requires : tie.Need-fours-requires
 fours-requires c κs =
     let start = c .before .before .before .before .before .before .before .before in
     let sizes = order c in
     (entries start, (omega (arith, sizes .0), omega (arith, sizes .1), omega arith, omega arith))
 
--- src/matrix.rt:89:5
 ones-requires : tie.Need-ones-requires
 ones-requires c κs =
     (entries (c .before .before .before .before .before .before .before .before .before), (omega arith, order (c .before) .1, c .fours .ensures .carries))
 
--- src/matrix.rt:89:5
 residue-requires : tie.Need-residue-requires
 residue-requires c κs = search needs
 
--- src/matrix.rt:67:1
 returns : tie.Need-returns
 returns c =
     let start = c .before .before .before .before .before .before .before .before .before .before .before in

@@ -9,42 +9,31 @@ use Rattle.wiedemann.specs.Region.{part}
 use borrow.Author.Needs.{needs}
 use Rattle.wiedemann.proofs.matrix.row_within.Statement.{statement}
 use Rattle.wiedemann.proofs.matrix.row_within.Tie as tie
-use Rattle.wiedemann.proofs.matrix.row_within.Reads as reads
-use Rattle.wiedemann.proofs.matrix.row_within.Lts as lts
-use Rattle.wiedemann.proofs.matrix.row.Reads as row-reads
 
--- src/matrix.rt:133:25
 sub-end : tie.Need-sub-end
 sub-end c = search needs
 
--- src/matrix.rt:133:15
 add-end : tie.Need-add-end
 add-end c = search needs
 
--- src/matrix.rt:134:55
 mul-row : tie.Need-mul-row
 mul-row c = search needs
 
--- src/matrix.rt:134:55
 sub-row : tie.Need-sub-row
 sub-row c = search needs
 
--- src/matrix.rt:134:55
 part-row-start : tie.Need-part-row-start
 part-row-start c = search needs
 
--- src/matrix.rt:134:55
 part-row-end : tie.Need-part-row-end
 part-row-end c = search needs
 
--- src/matrix.rt:134:5
 row-requires : tie.Need-row-requires
 row-requires c κs =
     let start = c .before .before .before .before .before in
     let pre = start .pre in
     (pre .0, (pre .1 .0, pre .1 .1, rw (add-sub-cancel-left (start .args .source) (length (now (start .args .starts)) - 1)) (pre .1 .3)))
 
--- src/matrix.rt:118:1
 returns : tie.Need-returns
 returns c =
     let at = c .before .before .before .before .before .before .args in

@@ -8,27 +8,19 @@ use Rattle.wiedemann.specs.Horner.{step}
 use borrow.Author.Needs.{needs}
 use Rattle.wiedemann.proofs.matrix.step_from.Statement.{statement}
 use Rattle.wiedemann.proofs.matrix.step_from.Tie as tie
-use Rattle.wiedemann.proofs.matrix.step_from.Reads as reads
-use Rattle.wiedemann.proofs.matrix.step_from.Lts as lts
-use Rattle.wiedemann.proofs.matrix.step.Reads as step-reads
 
--- src/matrix.rt:208:52
 mul-step : tie.Need-mul-step
 mul-step c = search needs
 
--- src/matrix.rt:208:52
 sub-step : tie.Need-sub-step
 sub-step c = search needs
 
--- src/matrix.rt:208:52
 part-step-start : tie.Need-part-step-start
 part-step-start c = search needs
 
--- src/matrix.rt:208:52
 part-step-end : tie.Need-part-step-end
 part-step-end c = search needs
 
--- src/matrix.rt:208:5
 step-requires : tie.Need-step-requires
 step-requires c κs =
     let start = c .before .before .before .before .before .before .before .before in
@@ -43,11 +35,9 @@ step-requires c κs =
       ),
     )
 
--- src/matrix.rt:191:1
 same-length : tie.Need-same-length
 same-length c = search needs
 
--- src/matrix.rt:191:1
 returns : tie.Need-returns
 returns c =
     let start = c .before .before .before .before .before .before .before .before .before .before .before in

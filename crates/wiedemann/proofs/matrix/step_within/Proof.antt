@@ -11,10 +11,6 @@ use Rattle.wiedemann.specs.Horner.{stepAt}
 use borrow.Author.Needs.{needs}
 use Rattle.wiedemann.proofs.matrix.step_within.Statement.{statement}
 use Rattle.wiedemann.proofs.matrix.step_within.Tie as tie
-use Rattle.wiedemann.proofs.matrix.step_within.Reads as reads
-use Rattle.wiedemann.proofs.matrix.step_within.Lts as lts
-use Rattle.wiedemann.proofs.matrix.row_within.Reads as row-within-reads
-use Rattle.wiedemann.proofs.sums.times.Reads as times-reads
 
 abbrev Inv-loop : tie.InvT-loop
 Inv-loop p reciprocal c starts columns values work₀ origin source target n i₀ work i =
@@ -24,11 +20,9 @@ Inv-loop p reciprocal c starts columns values work₀ origin source target n i�
 abbrev μ-loop : tie.MeasureT-loop
 μ-loop p reciprocal c starts columns values work₀ origin source target n i₀ work i = n - i
 
--- src/matrix.rt:154:13
 sub-n : tie.Need-sub-n Inv-loop μ-loop
 sub-n c = search needs
 
--- src/matrix.rt:156:5
 loop-holds : tie.Need-loop-holds Inv-loop μ-loop
 loop-holds c =
     let at = c .before .before .before .before .args in
@@ -39,21 +33,17 @@ loop-holds c =
           (stepAt (at .p) (matrix (now (at .starts)) (now (at .columns)) (now (at .values))) (at .c) (part (at .origin) n W) (part (at .source) n W)),
     )
 
--- src/matrix.rt:157:35
 add-times : tie.Need-add-times Inv-loop μ-loop
 add-times c = search needs
 
--- src/matrix.rt:157:30
 mul-times : tie.Need-mul-times Inv-loop μ-loop
 mul-times c = search needs
 
--- src/matrix.rt:157:30
 slice-read-times : tie.Need-slice-read-times Inv-loop μ-loop
 slice-read-times c =
     let known = c .before .before .before .before .before .before .before .pre .1 .1 in
     omega (arith, c .before .loop-test .taken, known .origin-fits, c .before .before .loop .inv .1 .same-length)
 
--- src/matrix.rt:157:13
 times-requires : tie.Need-times-requires Inv-loop μ-loop
 times-requires c κs = search needs
 
@@ -69,7 +59,6 @@ source-kept c =
     written-other (start .args .source) (length (now (start .args .starts)) - 1) (known .source-fits)
     (apart-shorter (loop .i) (loop .inv .0) (known .source-apart)) (loop .inv .1)
 
--- src/matrix.rt:158:28
 row-within-requires : tie.Need-row-within-requires Inv-loop μ-loop
 row-within-requires c κs =
     let start = c .before .before .before .before .before .before .before .before .before in
@@ -87,29 +76,23 @@ row-within-requires c κs =
       ),
     )
 
--- src/matrix.rt:158:14
 add-work : tie.Need-add-work Inv-loop μ-loop
 add-work c = search needs
 
--- src/matrix.rt:158:9
 mul-work : tie.Need-mul-work Inv-loop μ-loop
 mul-work c = search needs
 
--- src/matrix.rt:158:9
 slice-write-work : tie.Need-slice-write-work Inv-loop μ-loop
 slice-write-work c =
     omega
     (arith, c .before .before .before .before .loop-test .taken, c .before .before .before .before .before .before .before .before .before .before .pre .1 .1 .target-fits, c .before .before .before .before .before .loop .inv .1 .same-length)
 
--- src/matrix.rt:159:9
 add-i : tie.Need-add-i Inv-loop μ-loop
 add-i c = search needs
 
--- src/matrix.rt:156:5
 loop-less : tie.Need-loop-less Inv-loop μ-loop
 loop-less c = omega (arith, c .before .before .before .before .loop-test .taken)
 
--- src/matrix.rt:156:5
 loop-again : tie.Need-loop-again Inv-loop μ-loop
 loop-again c =
     let start = c .before .before .before .before .before .before .before .before .before .before in
@@ -131,11 +114,9 @@ loop-again c =
           (source-kept (c .before .before .before .before))),
     )
 
--- src/matrix.rt:138:1
 same-length : tie.Need-same-length Inv-loop μ-loop
 same-length c = c .before .loop .inv .1 .same-length
 
--- src/matrix.rt:138:1
 returns : tie.Need-returns Inv-loop μ-loop
 returns c =
     let loop = c .before .loop in

@@ -9,10 +9,6 @@ use Rattle.laws.specs.Refusal.{unlessRefused-none, unlessRefused-some}
 use borrow.Author.Needs.{needs}
 use Rattle.wiedemann.proofs.matrix.transposed.Statement.{statement}
 use Rattle.wiedemann.proofs.matrix.transposed.Tie as tie
-use Rattle.wiedemann.proofs.matrix.transposed.Reads as reads
-use Rattle.wiedemann.proofs.matrix.transposed.Lts as lts
-use Rattle.wiedemann.proofs.matrix.transposed_into.Reads as transposed-into-reads
-use Rattle.checks.proofs.product_refusal.Reads as product-refusal-reads
 
 none : (c : tie.Else1) → productRefusal (c .before .before .before .before .before .before .before .before .args .field .p) (matrix (now (c .before .before .before .before .before .before .before .before .args .starts)) (now (c .before .before .before .before .before .before .before .before .args .columns)) (now (c .before .before .before .before .before .before .before .before .args .values))) (now (c .before .before .before .before .before .before .before .before .args .v)) (now (c .before .before .before .before .before .before .before .before .args .out)) ≡ 0
 none c = sym (c .before .product-refusal .ensures) ∙ c .if1 .left
@@ -21,15 +17,12 @@ accepted : (c : tie.Else1)
     → Accepted (c .before .before .before .before .before .before .before .before .args .field .p) (matrix (now (c .before .before .before .before .before .before .before .before .args .starts)) (now (c .before .before .before .before .before .before .before .before .args .columns)) (now (c .before .before .before .before .before .before .before .before .args .values))) (now (c .before .before .before .before .before .before .before .before .args .v)) × (length (now (c .before .before .before .before .before .before .before .before .args .out)) ≡ length (now (c .before .before .before .before .before .before .before .before .args .starts)) - 1)
 accepted c = product-accepted (c .before .before .before .before .before .before .before .before .args .field .p) (matrix (now (c .before .before .before .before .before .before .before .before .args .starts)) (now (c .before .before .before .before .before .before .before .before .args .columns)) (now (c .before .before .before .before .before .before .before .before .args .values))) (now (c .before .before .before .before .before .before .before .before .args .v)) (now (c .before .before .before .before .before .before .before .before .args .out)) (none c)
 
--- src/matrix.rt:377:9
 product-refusal-requires : tie.Need-product-refusal-requires
 product-refusal-requires c κs = search needs
 
--- src/matrix.rt:379:9
 same-length : tie.Need-same-length
 same-length c = search needs
 
--- src/matrix.rt:379:9
 returns : tie.Need-returns
 returns c =
     let at = c .before .before .before .before .before .before .before .before .args in
@@ -40,17 +33,14 @@ returns c =
           (unlessRefused-some (productRefusal (at .field .p) A (now (at .v)) (now (at .out))) (transposed (at .field .p) A (now (at .v))) (now (at .out)) (λ e. c .if1 .taken (number ∙ e))),
     )
 
--- src/matrix.rt:381:5
 transposed-into-requires : tie.Need-transposed-into-requires
 transposed-into-requires c κs =
     let known = accepted (c .before) in
     (known .0 .valid, (known .1, known .0 .vector))
 
--- src/matrix.rt:365:1
 same-length-2 : tie.Need-same-length-2
 same-length-2 c = search needs
 
--- src/matrix.rt:365:1
 returns-2 : tie.Need-returns-2
 returns-2 c =
     let at = c .before .before .before .before .before .before .before .before .before .before .before .before .args in

@@ -11,11 +11,6 @@ use Rattle.wiedemann.specs.Transposed.{scattered, gathered, gathered-non
 use borrow.Author.Needs.{needs}
 use Rattle.wiedemann.proofs.matrix.transposed_into.Statement.{statement}
 use Rattle.wiedemann.proofs.matrix.transposed_into.Tie as tie
-use Rattle.wiedemann.proofs.matrix.transposed_into.Reads as reads
-use Rattle.wiedemann.proofs.matrix.transposed_into.Lts as lts
-use Rattle.wiedemann.proofs.matrix.clear.Reads as clear-reads
-use Rattle.wiedemann.proofs.matrix.scatter.Reads as scatter-reads
-use Rattle.checks.proofs.wide.Reads as wide-reads
 
 abbrev Inv-loop : tie.InvT-loop
 Inv-loop p starts columns values v out₀ i₀ out i =
@@ -34,11 +29,9 @@ vector c =
 inside : (c : tie.In-loop Inv-loop μ-loop) → c .before .loop .i < length (now (c .before .before .before .before .before .before .before .before .before .before .before .args .starts)) - 1
 inside c = omega (arith, c .loop-test .taken, c .before .before .before .before .before .before .before .before .before .before .before .pre .1 .1 .places)
 
--- src/matrix.rt:305:5
 clear-requires : tie.Need-clear-requires Inv-loop μ-loop
 clear-requires c κs = search needs
 
--- src/matrix.rt:307:5
 loop-holds : tie.Need-loop-holds Inv-loop μ-loop
 loop-holds c =
     let start = c .before .before .before .before .before .before .before .before .before in
@@ -48,43 +41,33 @@ loop-holds c =
           ∙ gathered-none (at .p) (matrix (now (at .starts)) (now (at .columns)) (now (at .values))) (now (at .v)),
     )
 
--- src/matrix.rt:308:20
 mul-scatter : tie.Need-mul-scatter Inv-loop μ-loop
 mul-scatter c = search needs
 
--- src/matrix.rt:308:20
 shared-slice-read-scatter : tie.Need-shared-slice-read-scatter Inv-loop μ-loop
 shared-slice-read-scatter c = search needs
 
--- src/matrix.rt:308:31
 mul-wide : tie.Need-mul-wide Inv-loop μ-loop
 mul-wide c = search needs
 
--- src/matrix.rt:308:31
 shared-slice-read-wide : tie.Need-shared-slice-read-wide Inv-loop μ-loop
 shared-slice-read-wide c = omega (arith, inside (c .before .before), c .before .before .before .before .before .before .before .before .before .before .before .before .before .pre .0 .one-more)
 
--- src/matrix.rt:308:26
 wide-requires : tie.Need-wide-requires Inv-loop μ-loop
 wide-requires c κs = search needs
 
--- src/matrix.rt:308:55
 add-wide : tie.Need-add-wide Inv-loop μ-loop
 add-wide c = search needs
 
--- src/matrix.rt:308:48
 mul-wide-2 : tie.Need-mul-wide-2 Inv-loop μ-loop
 mul-wide-2 c = search needs
 
--- src/matrix.rt:308:48
 shared-slice-read-wide-2 : tie.Need-shared-slice-read-wide-2 Inv-loop μ-loop
 shared-slice-read-wide-2 c = omega (arith, inside (c .before .before .before .before), c .before .before .before .before .before .before .before .before .before .before .before .before .before .before .before .pre .0 .one-more)
 
--- src/matrix.rt:308:43
 wide-requires-2 : tie.Need-wide-requires-2 Inv-loop μ-loop
 wide-requires-2 c κs = search needs
 
--- src/matrix.rt:308:9
 scatter-requires : tie.Need-scatter-requires Inv-loop μ-loop
 scatter-requires c κs =
     let start = c .before .before .before .before .before .before .before .before .before .before .before .before .before .before .before .before .before in
@@ -106,15 +89,12 @@ scatter-requires c κs =
       λ k l. omega (arith, known .column k l, before .places),
     )
 
--- src/matrix.rt:309:9
 add-i : tie.Need-add-i Inv-loop μ-loop
 add-i c = search needs
 
--- src/matrix.rt:307:5
 loop-less : tie.Need-loop-less Inv-loop μ-loop
 loop-less c = omega (arith, c .before .before .before .before .before .before .before .before .before .loop-test .taken)
 
--- src/matrix.rt:307:5
 loop-again : tie.Need-loop-again Inv-loop μ-loop
 loop-again c =
     let start = c .before .before .before .before .before .before .before .before .before .before .before .before .before .before .before .before .before .before .before .before in
@@ -130,11 +110,9 @@ loop-again c =
           ∙ gathered-more (at .p) A (now (at .v)) i ∙ ap (gathered (at .p) A (now (at .v))) (sym (add-one i)),
     )
 
--- src/matrix.rt:293:1
 same-length : tie.Need-same-length Inv-loop μ-loop
 same-length c = vector (c .before) .places ∙ sym (c .before .before .before .before .before .before .before .before .before .before .before .pre .1 .0)
 
--- src/matrix.rt:293:1
 returns : tie.Need-returns Inv-loop μ-loop
 returns c =
     let start = c .before .before .before .before .before .before .before .before .before .before .before in

@@ -10,12 +10,7 @@ use Rattle.wiedemann.specs.Horner.{step}
 use borrow.Author.Needs.{needs}
 use Rattle.wiedemann.proofs.matrix.turn.Statement.{statement}
 use Rattle.wiedemann.proofs.matrix.turn.Tie as tie
-use Rattle.wiedemann.proofs.matrix.turn.Reads as reads
-use Rattle.wiedemann.proofs.matrix.turn.Lts as lts
-use Rattle.wiedemann.proofs.matrix.copy_front.Reads as copy-front-reads
-use Rattle.wiedemann.proofs.matrix.step_from.Reads as step-from-reads
 
--- src/matrix.rt:228:5
 copy-front-requires : tie.Need-copy-front-requires
 copy-front-requires c κs = search needs
 
@@ -26,7 +21,6 @@ front c =
     written-copy (now (start .args .work)) (now (start .args .out)) (length (now (start .args .starts)) - 1) (c .copy-front .last .1 .0)
     (start .pre .1 .3 .places) (start .pre .1 .2) (c .copy-front .ensures)
 
--- src/matrix.rt:229:5
 step-from-requires : tie.Need-step-from-requires
 step-from-requires c κs =
     let start = c .before .before .before .before .before .before .before .before .before .before .before .before .before in
@@ -44,15 +38,12 @@ step-from-requires c κs =
       ),
     )
 
--- src/matrix.rt:213:1
 same-length : tie.Need-same-length
 same-length c = search needs
 
--- src/matrix.rt:213:1
 same-length-2 : tie.Need-same-length-2
 same-length-2 c = search needs
 
--- src/matrix.rt:213:1
 returns : tie.Need-returns
 returns c =
     let at = c .before .before .before .before .before .before .before .before .before .before .before .before .before .before .before .before .args in

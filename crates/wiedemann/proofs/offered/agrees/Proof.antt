@@ -17,10 +17,6 @@ use Rattle.checks.specs.Matrix.{all-next}
 use borrow.Author.Needs.{needs}
 use Rattle.wiedemann.proofs.offered.agrees.Statement.{statement}
 use Rattle.wiedemann.proofs.offered.agrees.Tie as tie
-use Rattle.wiedemann.proofs.offered.agrees.Reads as reads
-use Rattle.wiedemann.proofs.offered.agrees.Lts as lts
-use Rattle.wiedemann.proofs.matrix.row.Reads as row-reads
-use Rattle.wiedemann.proofs.offered.element.Reads as element-reads
 
 abbrev agreement : ℕ → Matrix → List ℕ → List ℕ → ℕ → Bool
 agreement p A x b i = eqb (getD (product p A x) i 0) (getD b i 0)
@@ -43,27 +39,22 @@ here c =
     (at-product (at .p) A (now (at .x)) i (c .before .before .loop-test .taken)
     ∙ ap (λ y. y % at .p) (sym (zero-add (rowProduct A (now (at .x)) i))) ∙ sym (c .before .row .ensures)) (sym (c .element .ensures))
 
--- src/offered.rt:39:13
 sub-n : tie.Need-sub-n Inv-loop μ-loop
 sub-n c = omega (arith, c .before .before .before .before .before .pre .0 .one-more)
 
--- src/offered.rt:41:5
 loop-holds : tie.Need-loop-holds Inv-loop μ-loop
 loop-holds c =
     let at = c .before .before .before .before .before .args in
     (omega arith, all-zero (agreement (at .p) (matrix (now (c .before .before .before .before .before .args .starts)) (now (c .before .before .before .before .before .args .columns)) (now (c .before .before .before .before .before .args .values))) (now (at .x)) (now (at .b))))
 
--- src/offered.rt:42:12
 row-requires : tie.Need-row-requires Inv-loop μ-loop
 row-requires c κs =
     let pre = c .before .before .before .before .before .before .before .pre in
     (pre .0, (pre .1 .0, c .loop-test .taken, pre .1 .1))
 
--- src/offered.rt:42:64
 element-requires : tie.Need-element-requires Inv-loop μ-loop
 element-requires c κs = search needs
 
--- src/offered.rt:43:13
 returns : tie.Need-returns Inv-loop μ-loop
 returns c =
     let at = c .before .before .before .before .before .before .before .before .before .before .args in
@@ -71,15 +62,12 @@ returns c =
     (all-not (length (now (at .starts)) - 1) (agreement (at .p) (matrix (now (c .before .before .before .before .before .before .before .before .before .before .args .starts)) (now (c .before .before .before .before .before .before .before .before .before .before .args .columns)) (now (c .before .before .before .before .before .before .before .before .before .before .args .values))) (now (at .x)) (now (at .b))) (c .before .before .before .before .loop .i) (c .before .before .before .loop-test .taken)
     (here (c .before) ∙ ne-eqb (c .before .before .row .result) (c .before .element .result) (c .if1 .taken)))
 
--- src/offered.rt:45:9
 add-i : tie.Need-add-i Inv-loop μ-loop
 add-i c = search needs
 
--- src/offered.rt:41:5
 loop-less : tie.Need-loop-less Inv-loop μ-loop
 loop-less c = omega (arith, c .before .before .before .loop-test .taken)
 
--- src/offered.rt:41:5
 loop-again : tie.Need-loop-again Inv-loop μ-loop
 loop-again c =
     let at = c .before .before .before .before .before .before .before .before .before .before .args in
@@ -89,7 +77,6 @@ loop-again c =
           (here (c .before) ∙ eq-eqb (c .before .before .row .result) (c .before .element .result) (c .if1 .left)),
     )
 
--- src/offered.rt:34:1
 returns-2 : tie.Need-returns-2 Inv-loop μ-loop
 returns-2 c =
     let at = c .before .before .before .before .before .before .before .args in

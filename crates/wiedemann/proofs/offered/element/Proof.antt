@@ -4,22 +4,16 @@ use denote.Ref.{now}
 use borrow.Author.Needs.{needs}
 use Rattle.wiedemann.proofs.offered.element.Statement.{statement}
 use Rattle.wiedemann.proofs.offered.element.Tie as tie
-use Rattle.wiedemann.proofs.offered.element.Reads as reads
-use Rattle.wiedemann.proofs.offered.element.Lts as lts
 
--- src/offered.rt:30:22
 mul-result : tie.Need-mul-result
 mul-result c = search needs
 
--- src/offered.rt:30:22
 shared-slice-read-result : tie.Need-shared-slice-read-result
 shared-slice-read-result c = search needs
 
--- src/offered.rt:27:1
 returns : tie.Need-returns
 returns c = search needs
 
--- src/offered.rt:27:1
 returns-2 : tie.Need-returns-2
 returns-2 c = sym (List·getD-eq-default (now (c .before .args .b)) 0 (c .if1 .left))
 

@@ -10,12 +10,6 @@ use Rattle.laws.specs.Refusal.{unlessRefused-none, unlessRefused-some}
 use borrow.Author.Needs.{needs}
 use Rattle.wiedemann.proofs.offered.is_null.Statement.{statement}
 use Rattle.wiedemann.proofs.offered.is_null.Tie as tie
-use Rattle.wiedemann.proofs.offered.is_null.Reads as reads
-use Rattle.wiedemann.proofs.offered.is_null.Lts as lts
-use Rattle.wiedemann.proofs.offered.is_zero.Reads as is-zero-reads
-use Rattle.wiedemann.proofs.offered.vanishes.Reads as vanishes-reads
-use Rattle.checks.proofs.system_refusal.Reads as system-refusal-reads
-use Rattle.wiedemann.proofs.sums.reciprocal.Reads as reciprocal-reads
 
 none : (c : tie.Else1) → isNullRefusal (c .before .before .before .before .before .before .args .field .p) (matrix (now (c .before .before .before .before .before .before .args .starts)) (now (c .before .before .before .before .before .before .args .columns)) (now (c .before .before .before .before .before .before .args .values))) (now (c .before .before .before .before .before .before .args .w)) ≡ 0
 unfolding isNullRefusal
@@ -39,11 +33,9 @@ nonzero c =
     answer (c .before .before .before .before)
     ∙ ap₂ (λ s t. not s && t) (sym (c .before .before .before .is-zero .ensures) ∙ c .before .before .if2 .left) (sym (c .vanishes .ensures))
 
--- src/offered.rt:101:9
 system-refusal-requires : tie.Need-system-refusal-requires
 system-refusal-requires c κs = search needs
 
--- src/offered.rt:103:9
 returns : tie.Need-returns
 unfolding isNullRefusal
 returns c =
@@ -55,11 +47,9 @@ returns c =
       unlessRefused-some (isNullRefusal (at .field .p) A (now (at .w))) (isNull (at .field .p) A (now (at .w))) false (λ e. c .if1 .taken (number ∙ e)),
     )
 
--- src/offered.rt:105:8
 is-zero-requires : tie.Need-is-zero-requires
 is-zero-requires c κs = search needs
 
--- src/offered.rt:106:9
 returns-2 : tie.Need-returns-2
 returns-2 c =
     let at = c .before .before .before .before .before .before .before .before .args in (
@@ -67,21 +57,17 @@ returns-2 c =
       answer (c .before .before) ∙ ap (λ t. not t && isZero (product (at .field .p) (matrix (now (c .before .before .before .before .before .before .before .before .args .starts)) (now (c .before .before .before .before .before .before .before .before .args .columns)) (now (c .before .before .before .before .before .before .before .before .args .values))) (now (at .w)))) (sym (c .before .is-zero .ensures) ∙ c .if2 .taken),
     )
 
--- src/offered.rt:108:20
 reciprocal-requires : tie.Need-reciprocal-requires
 reciprocal-requires c κs = accepted (c .before .before) .valid .positive
 
--- src/offered.rt:108:8
 vanishes-requires : tie.Need-vanishes-requires
 vanishes-requires c κs =
     let known = accepted (c .before .before .before) in
     (known .valid, (c .reciprocal .ensures, known .vector))
 
--- src/offered.rt:97:1
 returns-3 : tie.Need-returns-3
 returns-3 c = (none (c .before .before .before .before .before), nonzero (c .before) ∙ c .if3 .taken)
 
--- src/offered.rt:97:1
 returns-4 : tie.Need-returns-4
 returns-4 c = (none (c .before .before .before .before .before), nonzero (c .before) ∙ c .if3 .left)
 

@@ -13,8 +13,6 @@ use Rattle.wiedemann.specs.Offered.{zero-all}
 use borrow.Author.Needs.{needs}
 use Rattle.wiedemann.proofs.offered.is_zero.Statement.{statement}
 use Rattle.wiedemann.proofs.offered.is_zero.Tie as tie
-use Rattle.wiedemann.proofs.offered.is_zero.Reads as reads
-use Rattle.wiedemann.proofs.offered.is_zero.Lts as lts
 
 abbrev Inv-loop : tie.InvT-loop
 Inv-loop w i₀ i = (i ≤ length w) × (all i (λ k. eqb (getD w k 0) 0) ≡ true)
@@ -22,19 +20,15 @@ Inv-loop w i₀ i = (i ≤ length w) × (all i (λ k. eqb (getD w k 0) 0) ≡ tr
 abbrev μ-loop : tie.MeasureT-loop
 μ-loop w i₀ i = length w - i
 
--- src/offered.rt:64:5
 loop-holds : tie.Need-loop-holds Inv-loop μ-loop
 loop-holds c = (omega arith, all-zero (λ k. eqb (getD (now (c .args .w)) k 0) 0))
 
--- src/offered.rt:65:12
 mul-if1 : tie.Need-mul-if1 Inv-loop μ-loop
 mul-if1 c = search needs
 
--- src/offered.rt:65:12
 shared-slice-read-if1 : tie.Need-shared-slice-read-if1 Inv-loop μ-loop
 shared-slice-read-if1 c = search needs
 
--- src/offered.rt:66:13
 returns : tie.Need-returns Inv-loop μ-loop
 returns c =
     let w = now (c .before .before .before .before .args .w) in
@@ -43,15 +37,12 @@ returns c =
     (zero-all w (length w) refl
     ∙ all-not (length w) (λ k. eqb (getD w k 0) 0) i (c .before .before .loop-test .taken) (ne-eqb (getD w i 0) 0 (c .if1 .taken)))
 
--- src/offered.rt:68:9
 add-i : tie.Need-add-i Inv-loop μ-loop
 add-i c = search needs
 
--- src/offered.rt:64:5
 loop-less : tie.Need-loop-less Inv-loop μ-loop
 loop-less c = omega (arith, c .before .before .loop-test .taken)
 
--- src/offered.rt:64:5
 loop-again : tie.Need-loop-again Inv-loop μ-loop
 loop-again c =
     let w = now (c .before .before .before .before .args .w) in
@@ -60,7 +51,6 @@ loop-again c =
       all-next (loop .i) (λ k. eqb (getD w k 0) 0) (loop .inv .1) (eq-eqb (getD w (loop .i) 0) 0 (c .if1 .left)),
     )
 
--- src/offered.rt:60:1
 returns-2 : tie.Need-returns-2 Inv-loop μ-loop
 returns-2 c =
     let w = now (c .before .before .args .w) in

@@ -12,11 +12,6 @@ use Rattle.wiedemann.specs.Offered.{takes-all}
 use borrow.Author.Needs.{needs}
 use Rattle.wiedemann.proofs.offered.takes.Statement.{statement}
 use Rattle.wiedemann.proofs.offered.takes.Tie as tie
-use Rattle.wiedemann.proofs.offered.takes.Reads as reads
-use Rattle.wiedemann.proofs.offered.takes.Lts as lts
-use Rattle.wiedemann.proofs.offered.agrees.Reads as agrees-reads
-use Rattle.checks.proofs.takes_refusal.Reads as takes-refusal-reads
-use Rattle.wiedemann.proofs.sums.reciprocal.Reads as reciprocal-reads
 
 none : (c : tie.Else1) → takesRefusal (c .before .before .before .before .before .before .before .args .field .p) (matrix (now (c .before .before .before .before .before .before .before .args .starts)) (now (c .before .before .before .before .before .before .before .args .columns)) (now (c .before .before .before .before .before .before .before .args .values))) (now (c .before .before .before .before .before .before .before .args .x)) (now (c .before .before .before .before .before .before .before .args .b)) ≡ 0
 none c = sym (c .before .takes-refusal .ensures) ∙ c .if1 .left
@@ -34,11 +29,9 @@ answer c =
     (none (c .before .before))
     ∙ takes-all (at .field .p) A (now (at .x)) (now (at .b)) (known .0 .valid .positive) (known .1) ∙ sym (c .agrees .ensures)
 
--- src/offered.rt:85:9
 takes-refusal-requires : tie.Need-takes-refusal-requires
 takes-refusal-requires c κs = search needs
 
--- src/offered.rt:87:9
 returns : tie.Need-returns
 returns c =
     let at = c .before .before .before .before .before .before .before .args in
@@ -50,21 +43,17 @@ returns c =
           (λ e. c .if1 .taken (number ∙ e)),
     )
 
--- src/offered.rt:89:18
 reciprocal-requires : tie.Need-reciprocal-requires
 reciprocal-requires c κs = accepted c .0 .valid .positive
 
--- src/offered.rt:89:8
 agrees-requires : tie.Need-agrees-requires
 agrees-requires c κs =
     let known = accepted (c .before) .0 in
     (known .valid, (c .reciprocal .ensures, known .vector))
 
--- src/offered.rt:74:1
 returns-2 : tie.Need-returns-2
 returns-2 c = (none (c .before .before .before), answer (c .before) ∙ c .if2 .taken)
 
--- src/offered.rt:74:1
 returns-3 : tie.Need-returns-3
 returns-3 c = (none (c .before .before .before), answer (c .before) ∙ c .if2 .left)
 

@@ -11,31 +11,22 @@ use Rattle.wiedemann.specs.Offered.{zero-all}
 use borrow.Author.Needs.{needs}
 use Rattle.wiedemann.proofs.offered.vanishes.Statement.{statement}
 use Rattle.wiedemann.proofs.offered.vanishes.Tie as tie
-use Rattle.wiedemann.proofs.offered.vanishes.Reads as reads
-use Rattle.wiedemann.proofs.offered.vanishes.Lts as lts
-use Rattle.wiedemann.proofs.offered.agrees.Reads as agrees-reads
 
--- src/offered.rt:57:51
 mul-agrees : tie.Need-mul-agrees
 mul-agrees c = search needs
 
--- src/offered.rt:57:51
 sub-agrees : tie.Need-sub-agrees
 sub-agrees c = search needs
 
--- src/offered.rt:57:51
 part-agrees-start : tie.Need-part-agrees-start
 part-agrees-start c = search needs
 
--- src/offered.rt:57:51
 part-agrees-end : tie.Need-part-agrees-end
 part-agrees-end c = search needs
 
--- src/offered.rt:57:5
 agrees-requires : tie.Need-agrees-requires
 agrees-requires c κs = search needs
 
--- src/offered.rt:51:1
 returns : tie.Need-returns
 returns c =
     let start = c .before .before .before .before .before .before in

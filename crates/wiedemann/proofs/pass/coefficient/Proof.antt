@@ -3,17 +3,12 @@ use Rattle.meaning.specs.List.{sumFrom}
 use native.Mathlib.Nat.{zero-add}
 use mathlib.Core.Logic.{_⊎_, inl, inr, ⊎-elim}
 use denote.Ref.{now}
-use lib.ListN.{length, getD, take, drop, set, length-set, length-drop}
 use native.Mathlib.Omega.{arith}
-use Prim.Native.Nat.{ℕ, suc, _+_, _-_, _*_, _/_, _%_, _≤_, _<_}
-use mathlib.Core.Path.{_≡_, refl, sym, ap, ap₂, _∙_, subst}
+use Prim.Native.Nat.{ℕ, _+_, _-_, _%_, _≤_, _<_}
+use mathlib.Core.Path.{_≡_, ap, _∙_}
 use borrow.Author.Needs.{needs}
 use Rattle.wiedemann.proofs.pass.coefficient.Statement.{statement}
 use Rattle.wiedemann.proofs.pass.coefficient.Tie as tie
-use Rattle.wiedemann.proofs.pass.coefficient.Reads as reads
-use Rattle.wiedemann.proofs.pass.coefficient.Lts as lts
-use Rattle.wiedemann.proofs.pass.crossed.Reads as crossed-reads
-use Rattle.wiedemann.proofs.sums.Total.residue.Reads as residue-reads
 
 -- the sum's bounds: from k − t to what is lower of k and d
 bounds : (c : tie.Joined2) → (c .before .if1 .from ≡ c .before .before .before .args .k - c .before .before .before .args .t) × (c .if2 .to ≤ c .before .before .before .args .k + 1) × (c .if2 .to ≤ c .before .before .before .args .d + 1) × ((c .if2 .to ≡ c .before .before .before .args .k + 1) ⊎ (c .if2 .to ≡ c .before .before .before .args .d + 1))
@@ -28,15 +23,12 @@ bounds c = (
 few : (h to k s : ℕ) → h ≤ to → to ≤ k + 1 → k ≤ s → s ≤ 8191 → h < 4294967296
 few h to k s a b d e = omega (arith, a, b, d, e)
 
--- src/pass.rt:236:25
 add-to : tie.Need-add-to
 add-to c = search needs
 
--- src/pass.rt:236:40
 add-to-2 : tie.Need-add-to-2
 add-to-2 c = search needs
 
--- src/pass.rt:237:5
 crossed-requires : tie.Need-crossed-requires
 crossed-requires c κs =
     let a = c .before .before .before .args in
@@ -45,13 +37,11 @@ crossed-requires c κs =
     let order : a .k - a .t ≤ c .if2 .to = ⊎-elim (λ w. omega (arith, pre .5)) (λ w. omega (arith, pre .5)) (c .if2 .came) in
     (omega (arith, b .0, order), b .1, omega (arith, pre .2, pre .5), omega (arith, pre .3, pre .5), omega (arith, b .0, pre .4))
 
--- src/pass.rt:237:5
 residue-requires : tie.Need-residue-requires
 residue-requires c κs =
     let pre = c .before .before .before .before .pre in
     (pre .1, pre .0, few _ _ _ _ (c .crossed .ensures .carries) (bounds (c .before) .1) (pre .5) (pre .2))
 
--- src/pass.rt:231:1
 returns : tie.Need-returns
 returns c =
     let a = c .before .before .before .before .before .args in

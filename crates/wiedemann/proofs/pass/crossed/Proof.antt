@@ -1,17 +1,12 @@
 use Rattle.wiedemann.specs.Factor.{cross, nothing}
 use Rattle.wiedemann.specs.Sums.{Summed, summed-none, summed-more, sumFrom-one}
 use denote.Ref.{now}
-use lib.ListN.{length, getD, take, drop, set, length-set, length-drop}
 use native.Mathlib.Omega.{arith}
-use Prim.Native.Nat.{ℕ, suc, _+_, _-_, _*_, _/_, _%_, _≤_, _<_}
-use mathlib.Core.Path.{_≡_, refl, sym, ap, ap₂, _∙_, subst}
+use Prim.Native.Nat.{_+_, _-_, _≤_}
+use mathlib.Core.Path.{_≡_, sym, _∙_}
 use borrow.Author.Needs.{needs}
 use Rattle.wiedemann.proofs.pass.crossed.Statement.{statement}
 use Rattle.wiedemann.proofs.pass.crossed.Tie as tie
-use Rattle.wiedemann.proofs.pass.crossed.Reads as reads
-use Rattle.wiedemann.proofs.pass.crossed.Lts as lts
-use Rattle.wiedemann.proofs.sums.Total.add.Reads as add-reads
-use Rattle.wiedemann.proofs.sums.times.Reads as times-reads
 
 abbrev Inv-loop : tie.InvT-loop
 Inv-loop work f k from to total₀ i₀ total i = (from ≤ i) × (i ≤ to) × Summed nothing total from i (cross work f k)
@@ -19,53 +14,41 @@ Inv-loop work f k from to total₀ i₀ total i = (from ≤ i) × (i ≤ to) × 
 abbrev μ-loop : tie.MeasureT-loop
 μ-loop work f k from to total₀ i₀ total i = to - i
 
--- src/pass.rt:223:5
 loop-holds : tie.Need-loop-holds Inv-loop μ-loop
 loop-holds c =
     let a = c .before .args in
     (omega arith, c .before .pre .0, summed-none nothing (a .from) (cross (now (a .work)) (a .f) (a .k)) (omega arith))
 
--- src/pass.rt:224:33
 mul-times : tie.Need-mul-times Inv-loop μ-loop
 mul-times c = search needs
 
--- src/pass.rt:224:33
 shared-slice-read-times : tie.Need-shared-slice-read-times Inv-loop μ-loop
 shared-slice-read-times c = search needs
 
--- src/pass.rt:224:52
 sub-times : tie.Need-sub-times Inv-loop μ-loop
 sub-times c = search needs
 
--- src/pass.rt:224:47
 add-times : tie.Need-add-times Inv-loop μ-loop
 add-times c = search needs
 
--- src/pass.rt:224:42
 mul-times-2 : tie.Need-mul-times-2 Inv-loop μ-loop
 mul-times-2 c = search needs
 
--- src/pass.rt:224:42
 shared-slice-read-times-2 : tie.Need-shared-slice-read-times-2 Inv-loop μ-loop
 shared-slice-read-times-2 c = search needs
 
--- src/pass.rt:224:27
 times-requires : tie.Need-times-requires Inv-loop μ-loop
 times-requires c κs = search needs
 
--- src/pass.rt:224:9
 add-requires : tie.Need-add-requires Inv-loop μ-loop
 add-requires c κs = omega (arith, c .before .before .before .before .loop .inv .2 .carries, c .before .before .before .before .loop .inv .1, c .before .before .before .before .before .before .pre .1, c .before .before .before .before .before .before .pre .2)
 
--- src/pass.rt:225:9
 add-i : tie.Need-add-i Inv-loop μ-loop
 add-i c = omega (arith, c .before .before .before .before .loop-test .taken, c .before .before .before .before .before .before .before .pre .1, c .before .before .before .before .before .before .before .pre .2)
 
--- src/pass.rt:223:5
 loop-less : tie.Need-loop-less Inv-loop μ-loop
 loop-less c = omega (arith, c .before .before .before .before .loop-test .taken)
 
--- src/pass.rt:223:5
 loop-again : tie.Need-loop-again Inv-loop μ-loop
 loop-again c =
     let a = c .before .before .before .before .before .before .before .args in
@@ -79,7 +62,6 @@ loop-again c =
           (c .before .times .ensures ∙ sym (sumFrom-one i f)) (c .add .ensures),
     )
 
--- src/pass.rt:217:1
 returns : tie.Need-returns Inv-loop μ-loop
 returns c =
     let loop = c .before .loop in

@@ -1,49 +1,35 @@
-use Rattle.wiedemann.specs.Lent.{part-at}
-use Rattle.wiedemann.specs.Turns.{Seat, Other, seat-low, regions, advanced, vector-power, Iterated, Sequenced, Generated, iterated-none, iterated-more, iterated-from, iterated-all, Applying, Leading, applying-none, applying-more, applied-all, generated, shortened}
-use Rattle.wiedemann.specs.Region.{part, length-part, at-part}
-use Rattle.checks.specs.Valid.{Valid, Vector}
+use Rattle.wiedemann.specs.Turns.{generated}
+use Rattle.wiedemann.specs.Region.{length-part, at-part}
 use denote.Ref.{now}
-use mathlib.Core.List.{List, []}
-use lib.ListN.{length, getD, take, drop, set, length-set, length-drop}
+use lib.ListN.{length}
 use native.Mathlib.Omega.{arith}
-use Prim.Native.Nat.{ℕ, suc, _+_, _-_, _*_, _/_, _%_, _≤_, _<_}
-use mathlib.Core.Path.{_≡_, refl, sym, ap, ap₂, _∙_, subst}
+use Prim.Native.Nat.{_+_, _-_, _*_, _≤_}
+use mathlib.Core.Path.{_≡_, _∙_}
 use borrow.Author.Needs.{needs}
 use Rattle.wiedemann.proofs.pass.generate.Statement.{statement}
 use Rattle.wiedemann.proofs.pass.generate.Tie as tie
-use Rattle.wiedemann.proofs.pass.generate.Reads as reads
-use Rattle.wiedemann.proofs.pass.generate.Lts as lts
-use Rattle.wiedemann.proofs.recurrence.shortest.Reads as shortest-reads
 
--- src/pass.rt:131:23
 mul-end : tie.Need-mul-end
 mul-end c = search needs
 
--- src/pass.rt:131:23
 add-end : tie.Need-add-end
 add-end c = search needs
 
--- src/pass.rt:131:15
 add-end-2 : tie.Need-add-end-2
 add-end-2 c = search needs
 
--- src/pass.rt:132:24
 mul-shortest : tie.Need-mul-shortest
 mul-shortest c = search needs
 
--- src/pass.rt:132:24
 sub-shortest : tie.Need-sub-shortest
 sub-shortest c = search needs
 
--- src/pass.rt:132:24
 part-shortest-start : tie.Need-part-shortest-start
 part-shortest-start c = search needs
 
--- src/pass.rt:132:24
 part-shortest-end : tie.Need-part-shortest-end
 part-shortest-end c = search needs
 
--- src/pass.rt:132:5
 shortest-requires : tie.Need-shortest-requires
 shortest-requires c κs =
     let a = c .before .before .args in
@@ -58,11 +44,9 @@ shortest-requires c κs =
       elements = λ i l. rw (at-part (a .from) m W i (omega (arith, size, l)), ← at-part (a .from) (a .count) W i l) (pre .4 .below i l);
     }
 
--- src/pass.rt:127:1
 same-length : tie.Need-same-length
 same-length c = search needs
 
--- src/pass.rt:127:1
 returns : tie.Need-returns
 returns c =
     let a = c .before .before .before .before .before .args in

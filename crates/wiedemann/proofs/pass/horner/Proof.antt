@@ -1,19 +1,13 @@
-use Rattle.wiedemann.specs.Turns.{Seat, Other, seat-low, regions, advanced, vector-power, Iterated, Sequenced, Generated, iterated-none, iterated-more, iterated-from, iterated-all, Applying, Leading, applying-none, applying-more, applied-all, generated, shortened}
-use Rattle.wiedemann.specs.Horner.{vector-step, vector-apply}
-use Rattle.wiedemann.specs.Region.{part, length-part, at-part}
-use Rattle.checks.specs.Valid.{Valid, Vector}
-use Rattle.meaning.specs.Matrix.{matrix, size}
+use Rattle.wiedemann.specs.Turns.{Applying, applying-none, applying-more}
+use Rattle.wiedemann.specs.Horner.{vector-apply}
+use Rattle.meaning.specs.Matrix.{matrix}
 use denote.Ref.{now}
-use lib.ListN.{length, getD, take, drop, set, length-set, length-drop}
 use native.Mathlib.Omega.{arith}
-use Prim.Native.Nat.{ℕ, suc, _+_, _-_, _*_, _/_, _%_, _≤_, _<_}
-use mathlib.Core.Path.{_≡_, refl, sym, ap, ap₂, _∙_, subst}
+use Prim.Native.Nat.{_+_, _-_, _≤_}
+use mathlib.Core.Path.{_≡_, refl, subst}
 use borrow.Author.Needs.{needs}
 use Rattle.wiedemann.proofs.pass.horner.Statement.{statement}
 use Rattle.wiedemann.proofs.pass.horner.Tie as tie
-use Rattle.wiedemann.proofs.pass.horner.Reads as reads
-use Rattle.wiedemann.proofs.pass.horner.Lts as lts
-use Rattle.wiedemann.proofs.pass.advance.Reads as advance-reads
 
 abbrev Inv-loop : tie.InvT-loop
 Inv-loop p reciprocal starts columns values area₀ f t from₀ i₀ area from i = (i ≤ t) × Applying p (matrix starts columns values) area₀ f t i from area
@@ -21,30 +15,24 @@ Inv-loop p reciprocal starts columns values area₀ f t from₀ i₀ area from i
 abbrev μ-loop : tie.MeasureT-loop
 μ-loop p reciprocal starts columns values area₀ f t from₀ i₀ area from i = i
 
--- src/pass.rt:152:5
 loop-holds : tie.Need-loop-holds Inv-loop μ-loop
 loop-holds c = (omega arith, applying-none (c .before .before .before .before .pre .1 .1))
 
--- src/pass.rt:153:9
 sub-i : tie.Need-sub-i Inv-loop μ-loop
 sub-i c = search needs
 
--- src/pass.rt:154:40
 add-advance : tie.Need-add-advance Inv-loop μ-loop
 add-advance c =
     omega (arith, c .before .loop .inv .0, c .before .before .before .before .before .before .pre .1 .1 .room, c .before .before .before .before .before .before .good)
 
--- src/pass.rt:154:35
 mul-advance : tie.Need-mul-advance Inv-loop μ-loop
 mul-advance c =
     omega (arith, c .before .loop .inv .0, c .before .before .before .before .before .before .pre .1 .1 .room, c .before .before .before .before .before .before .good)
 
--- src/pass.rt:154:35
 slice-read-advance : tie.Need-slice-read-advance Inv-loop μ-loop
 slice-read-advance c =
     omega (arith, c .before .before .loop .inv .0, c .before .before .loop .inv .1 .same-length, c .before .loop-test .taken, c .before .before .before .before .before .before .before .pre .1 .1 .room)
 
--- src/pass.rt:154:9
 advance-requires : tie.Need-advance-requires Inv-loop μ-loop
 advance-requires c κs =
     let a = c .before .before .before .before .before .before .before .before .args in
@@ -62,11 +50,9 @@ advance-requires c κs =
       ),
     )
 
--- src/pass.rt:152:5
 loop-less : tie.Need-loop-less Inv-loop μ-loop
 loop-less c = omega (arith, c .before .before .before .before .before .loop-test .taken)
 
--- src/pass.rt:152:5
 loop-again : tie.Need-loop-again Inv-loop μ-loop
 loop-again c =
     let a = c .before .before .before .before .before .before .before .before .before .before .before .args in
@@ -81,11 +67,9 @@ loop-again c =
           (omega (arith, loop .inv .0, test)) refl (c .before .before .advance .ensures),
     )
 
--- src/pass.rt:136:1
 same-length : tie.Need-same-length Inv-loop μ-loop
 same-length c = c .before .loop .inv .1 .same-length
 
--- src/pass.rt:136:1
 returns : tie.Need-returns Inv-loop μ-loop
 returns c =
     let a = c .before .before .before .before .before .before .args in

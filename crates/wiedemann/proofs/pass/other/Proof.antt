@@ -2,13 +2,11 @@ use Rattle.wiedemann.specs.Region as region
 use Rattle.wiedemann.specs.Turns.{Seat, Other}
 use Rattle.wiedemann.specs.Turns as turns
 use native.Mathlib.Omega.{arith}
-use Prim.Native.Nat.{ℕ, suc, _+_, _-_, _*_, _/_, _%_, _≤_, _<_}
-use mathlib.Core.Path.{_≡_, refl, sym, ap, ap₂, _∙_, subst}
+use Prim.Native.Nat.{ℕ, _-_}
+use mathlib.Core.Path.{_≡_, refl}
 use borrow.Author.Needs.{needs}
 use Rattle.wiedemann.proofs.pass.other.Statement.{statement}
 use Rattle.wiedemann.proofs.pass.other.Tie as tie
-use Rattle.wiedemann.proofs.pass.other.Reads as reads
-use Rattle.wiedemann.proofs.pass.other.Lts as lts
 
 -- the second region, after the first and the third
 second : (n from : ℕ) → (from ≡ n → ⊥) → Seat n from → Other n from n
@@ -16,17 +14,14 @@ second n from ne (turns.origin e) = record { seat = turns.odd refl; high = omega
 second n from ne (turns.odd e) = absurd (ne e)
 second n from ne (turns.even e) = record { seat = turns.odd refl; high = omega arith; low = omega arith; apart = region.before (omega (arith, e)) }
 
--- src/pass.rt:31:9
 mul-result : tie.Need-mul-result
 mul-result c = search needs
 
--- src/pass.rt:26:1
 returns : tie.Need-returns
 returns c =
     let n = c .before .args .n in
     record { seat = turns.even refl; high = omega arith; low = omega arith; apart = region.after (omega (arith, c .if1 .taken)) }
 
--- src/pass.rt:26:1
 returns-2 : tie.Need-returns-2
 returns-2 c = second (c .before .args .n) (c .before .args .from) (c .if1 .left) (c .before .pre .0)
 

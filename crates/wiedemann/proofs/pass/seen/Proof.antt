@@ -1,46 +1,35 @@
-use Rattle.wiedemann.specs.Projection.{Words}
 use Rattle.wiedemann.specs.Lent.{part-at}
-use Rattle.wiedemann.specs.Region.{part, length-part, at-part}
-use Rattle.checks.specs.Valid.{Valid, Vector}
+use Rattle.wiedemann.specs.Region.{part, length-part}
 use Rattle.meaning.specs.Solver.{dot, projections}
 use denote.Ref.{now}
 use mathlib.Core.List.{List, []}
-use lib.ListN.{length, getD, take, drop, set, length-set, length-drop}
+use lib.ListN.{length, getD, take, drop}
 use native.Mathlib.Omega.{arith}
-use Prim.Native.Nat.{ℕ, suc, _+_, _-_, _*_, _/_, _%_, _≤_, _<_}
-use mathlib.Core.Path.{_≡_, refl, sym, ap, ap₂, _∙_, subst}
+use Prim.Native.Nat.{ℕ, _+_, _-_}
+use mathlib.Core.Path.{_≡_, refl, ap, _∙_}
 use borrow.Author.Needs.{needs}
 use Rattle.wiedemann.proofs.pass.seen.Statement.{statement}
 use Rattle.wiedemann.proofs.pass.seen.Tie as tie
-use Rattle.wiedemann.proofs.pass.seen.Reads as reads
-use Rattle.wiedemann.proofs.pass.seen.Lts as lts
-use Rattle.wiedemann.proofs.projection.projected.Reads as projected-reads
 
 -- the vector's part, as it is lent
 whole : (from n : ℕ) (W : List ℕ) → take (from + n - from) (drop from W) ≡ part from n W
 whole from n W = part-at W from (from + n - from) from n refl (omega arith)
 
--- src/pass.rt:74:15
 add-end : tie.Need-add-end
 add-end c = search needs
 
--- src/pass.rt:75:45
 mul-projected : tie.Need-mul-projected
 mul-projected c = search needs
 
--- src/pass.rt:75:45
 sub-projected : tie.Need-sub-projected
 sub-projected c = search needs
 
--- src/pass.rt:75:45
 part-projected-start : tie.Need-part-projected-start
 part-projected-start c = search needs
 
--- src/pass.rt:75:45
 part-projected-end : tie.Need-part-projected-end
 part-projected-end c = search needs
 
--- src/pass.rt:75:5
 projected-requires : tie.Need-projected-requires
 projected-requires c κs =
     let a = c .before .before .before .args in
@@ -49,7 +38,6 @@ projected-requires c κs =
     let long = length-part (a .from) (a .n) W (pre .1 .1) in
     rw (whole (a .from) (a .n) W, long) (((pre .0 .0, pre .0 .1, pre .0 .2, pre .0 .3), (pre .1 .0, pre .1 .2, pre .0 .4)))
 
--- src/pass.rt:60:1
 returns : tie.Need-returns
 returns c =
     let a = c .before .before .before .before .args in

@@ -1,22 +1,18 @@
-use Rattle.wiedemann.specs.Turns.{Seat, Other, seat-low, regions, advanced, vector-power, Iterated, Sequenced, Generated, iterated-none, iterated-more, iterated-from, iterated-all, Applying, Leading, applying-none, applying-more, applied-all, generated, shortened}
-use Rattle.wiedemann.specs.Horner.{vector-step, vector-apply}
-use Rattle.wiedemann.specs.Region.{part, length-part, at-part}
-use Rattle.checks.specs.Valid.{Valid, Vector}
+use Rattle.wiedemann.specs.Turns.{seat-low, vector-power, Iterated, iterated-none, iterated-more, iterated-from, iterated-all}
+use Rattle.wiedemann.specs.Horner.{vector-step}
+use Rattle.wiedemann.specs.Region.{part}
+use Rattle.checks.specs.Valid.{Vector}
 use Rattle.meaning.specs.Solver.{dot, projections}
-use Rattle.meaning.specs.Matrix.{matrix, size}
+use Rattle.meaning.specs.Matrix.{matrix}
 use denote.Ref.{now}
-use mathlib.Core.List.{List, []}
-use lib.ListN.{length, getD, take, drop, set, length-set, length-drop}
+use mathlib.Core.List.{[]}
+use lib.ListN.{length, getD, take, length-set}
 use native.Mathlib.Omega.{arith}
-use Prim.Native.Nat.{ℕ, suc, _+_, _-_, _*_, _/_, _%_, _≤_, _<_}
-use mathlib.Core.Path.{_≡_, refl, sym, ap, ap₂, _∙_, subst}
+use Prim.Native.Nat.{_+_, _-_, _*_, _≤_}
+use mathlib.Core.Path.{refl, sym, ap, _∙_, subst}
 use borrow.Author.Needs.{needs}
 use Rattle.wiedemann.proofs.pass.sequence.Statement.{statement}
 use Rattle.wiedemann.proofs.pass.sequence.Tie as tie
-use Rattle.wiedemann.proofs.pass.sequence.Reads as reads
-use Rattle.wiedemann.proofs.pass.sequence.Lts as lts
-use Rattle.wiedemann.proofs.pass.advance.Reads as advance-reads
-use Rattle.wiedemann.proofs.pass.note.Reads as note-reads
 
 abbrev Inv-loop : tie.InvT-loop
 Inv-loop p reciprocal starts columns values words vectors j area₀ left n from₀ i₀ area from i =
@@ -26,15 +22,12 @@ Inv-loop p reciprocal starts columns values words vectors j area₀ left n from�
 abbrev μ-loop : tie.MeasureT-loop
 μ-loop p reciprocal starts columns values words vectors j area₀ left n from₀ i₀ area from i = 2 * left - i
 
--- src/pass.rt:115:13
 sub-n : tie.Need-sub-n Inv-loop μ-loop
 sub-n c = search needs
 
--- src/pass.rt:118:55
 mul-note : tie.Need-mul-note Inv-loop μ-loop
 mul-note c = search needs
 
--- src/pass.rt:118:5
 note-requires : tie.Need-note-requires Inv-loop μ-loop
 note-requires c κs =
     let pre = c .before .before .before .before .before .before .pre in (
@@ -42,7 +35,6 @@ note-requires c κs =
       (pre .1 .0 .4, omega (arith, pre .1 .1 .0), omega (arith, pre .1 .1 .0, pre .1 .0 .2), pre .1 .1 .1),
     )
 
--- src/pass.rt:119:5
 loop-holds : tie.Need-loop-holds Inv-loop μ-loop
 loop-holds c =
     let a = c .before .before .before .before .before .before .before .before .before .args in
@@ -60,15 +52,12 @@ loop-holds c =
       iterated-from (sym (begun .same-length)) (sym (begun .front)) begun,
     )
 
--- src/pass.rt:119:11
 add-loop : tie.Need-add-loop Inv-loop μ-loop
 add-loop c = search needs
 
--- src/pass.rt:119:19
 mul-loop : tie.Need-mul-loop Inv-loop μ-loop
 mul-loop c = search needs
 
--- src/pass.rt:120:9
 advance-requires : tie.Need-advance-requires Inv-loop μ-loop
 advance-requires c κs =
     let a = c .before .before .before .before .before .before .before .before .before .before .before .before .args in
@@ -87,19 +76,15 @@ advance-requires c κs =
       ),
     )
 
--- src/pass.rt:121:9
 add-i : tie.Need-add-i Inv-loop μ-loop
 add-i c = search needs
 
--- src/pass.rt:122:59
 mul-note-2 : tie.Need-mul-note-2 Inv-loop μ-loop
 mul-note-2 c = search needs
 
--- src/pass.rt:122:59
 add-note : tie.Need-add-note Inv-loop μ-loop
 add-note c = search needs
 
--- src/pass.rt:122:9
 note-requires-2 : tie.Need-note-requires-2 Inv-loop μ-loop
 note-requires-2 c κs =
     let a = c .before .before .before .before .before .before .before .before .before .before .before .before .before .before .before .before .args in
@@ -120,11 +105,9 @@ note-requires-2 c κs =
       ),
     )
 
--- src/pass.rt:119:5
 loop-less : tie.Need-loop-less Inv-loop μ-loop
 loop-less c = omega (arith, c .before .before .before .before .before .before .before .before .loop-test .taken)
 
--- src/pass.rt:119:5
 loop-again : tie.Need-loop-again Inv-loop μ-loop
 loop-again c =
     let a = c .before .before .before .before .before .before .before .before .before .before .before .before .before .before .before .before .before .before .before .args in
@@ -139,11 +122,9 @@ loop-again c =
       rw (c .before .before .note2 .ensures) (iterated-more _ (loop .inv .3) (c .before .before .before .before .before .before .advance .ensures) (omega (arith, test, loop .inv .1)) refl),
     )
 
--- src/pass.rt:98:1
 same-length : tie.Need-same-length Inv-loop μ-loop
 same-length c = c .before .loop .inv .3 .same-length ∙ ap length (c .before .before .before .before .note .ensures) ∙ simp length-set
 
--- src/pass.rt:98:1
 returns : tie.Need-returns Inv-loop μ-loop
 returns c =
     let a = c .before .before .before .before .before .before .before .before .before .before .before .args in

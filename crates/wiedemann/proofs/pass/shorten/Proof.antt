@@ -1,43 +1,30 @@
 use Rattle.wiedemann.specs.Lent.{same-take}
-use Rattle.wiedemann.specs.Turns.{Seat, Other, seat-low, regions, advanced, vector-power, Iterated, Sequenced, Generated, iterated-none, iterated-more, iterated-from, iterated-all, Applying, Leading, applying-none, applying-more, applied-all, generated, shortened, vector-terms}
-use Rattle.wiedemann.specs.Region.{part, length-part, at-part}
-use Rattle.checks.specs.Valid.{Valid, Vector}
-use Rattle.meaning.specs.Solver.{dot, projections}
-use Rattle.meaning.specs.Matrix.{matrix, size}
+use Rattle.wiedemann.specs.Turns.{shortened, vector-terms}
+use Rattle.checks.specs.Valid.{Vector}
+use Rattle.meaning.specs.Matrix.{matrix}
 use denote.Ref.{now}
-use mathlib.Core.List.{List, []}
-use lib.ListN.{length, getD, take, drop, set, length-set, length-drop}
+use lib.ListN.{length}
 use native.Mathlib.Omega.{arith}
-use Prim.Native.Nat.{ℕ, suc, _+_, _-_, _*_, _/_, _%_, _≤_, _<_}
-use mathlib.Core.Path.{_≡_, refl, sym, ap, ap₂, _∙_, subst}
+use Prim.Native.Nat.{_-_, _*_}
+use mathlib.Core.Path.{sym, _∙_, subst}
 use borrow.Author.Needs.{needs}
 use Rattle.wiedemann.proofs.pass.shorten.Statement.{statement}
 use Rattle.wiedemann.proofs.pass.shorten.Tie as tie
-use Rattle.wiedemann.proofs.pass.shorten.Reads as reads
-use Rattle.wiedemann.proofs.pass.shorten.Lts as lts
-use Rattle.wiedemann.proofs.pass.applied.Reads as applied-reads
-use Rattle.wiedemann.proofs.pass.generate.Reads as generate-reads
-use Rattle.wiedemann.proofs.pass.sequence.Reads as sequence-reads
 
--- src/pass.rt:209:13
 sub-n : tie.Need-sub-n
 sub-n c = search needs
 
--- src/pass.rt:210:5
 sequence-requires : tie.Need-sequence-requires
 sequence-requires c κs =
     let pre = c .before .before .before .before .before .before .pre in
     (pre .0 .0, (pre .1 .0, (omega (arith, pre .1 .1 .0), pre .1 .1 .1)))
 
--- src/pass.rt:211:31
 mul-generate : tie.Need-mul-generate
 mul-generate c = search needs
 
--- src/pass.rt:211:38
 mul-generate-2 : tie.Need-mul-generate-2
 mul-generate-2 c = search needs
 
--- src/pass.rt:211:9
 generate-requires : tie.Need-generate-requires
 generate-requires c κs =
     let a = c .before .before .before .before .before .before .before .before .before .before .args in
@@ -51,23 +38,18 @@ generate-requires c κs =
       rw (done .terms) (vector-terms (a .p) A (a .left) _ _ (pre .0 .0 .positive)),
     )
 
--- src/pass.rt:212:55
 mul-applied : tie.Need-mul-applied
 mul-applied c = search needs
 
--- src/pass.rt:212:64
 mul-applied-2 : tie.Need-mul-applied-2
 mul-applied-2 c = search needs
 
--- src/pass.rt:212:64
 add-applied : tie.Need-add-applied
 add-applied c = search needs
 
--- src/pass.rt:212:55
 add-applied-2 : tie.Need-add-applied-2
 add-applied-2 c = search needs
 
--- src/pass.rt:212:5
 applied-requires : tie.Need-applied-requires
 applied-requires c κs =
     let a = c .before .before .before .before .before .before .before .before .before .before .before .before .before .before .args in
@@ -91,11 +73,9 @@ applied-requires c κs =
       ),
     )
 
--- src/pass.rt:192:1
 same-length : tie.Need-same-length
 same-length c = search needs
 
--- src/pass.rt:192:1
 returns : tie.Need-returns
 returns c =
     let pre = c .before .before .before .before .before .before .before .before .before .before .before .before .before .before .before .before .before .pre in

@@ -1,27 +1,20 @@
 use Rattle.wiedemann.specs.Projection.{wordTerm}
 use Rattle.wiedemann.specs.Sums.{Summed, summed-none, summed-more, sumFrom-one}
 use denote.Ref.{now}
-use lib.ListN.{length, getD, take, drop}
+use lib.ListN.{length}
 use native.Mathlib.Omega.{arith}
-use Prim.Native.Nat.{ℕ, suc, _+_, _-_, _*_, _/_, _%_, _≤_, _<_}
-use mathlib.Core.Path.{_≡_, refl, sym, ap, ap₂, _∙_, subst}
+use Prim.Native.Nat.{_+_, _-_}
+use mathlib.Core.Path.{_≡_, sym, _∙_, subst}
 use borrow.Author.Needs.{needs}
 use Rattle.wiedemann.proofs.projection.last.Statement.{statement}
 use Rattle.wiedemann.proofs.projection.last.Tie as tie
-use Rattle.wiedemann.proofs.projection.last.Reads as reads
-use Rattle.wiedemann.proofs.projection.last.Lts as lts
-use Rattle.wiedemann.proofs.projection.product.Reads as product-reads
-use Rattle.wiedemann.proofs.sums.Total.add.Reads as add-reads
 
--- src/projection.rt:48:19
 product-requires : tie.Need-product-requires
 product-requires c κs = search needs
 
--- src/projection.rt:48:9
 add-requires : tie.Need-add-requires
 add-requires c κs = omega (arith, c .before .before .before .before .pre .3, c .before .before .before .before .pre .1, c .before .before .before .before .pre .0 .few)
 
--- src/projection.rt:43:1
 returns : tie.Need-returns
 returns c =
     let a = c .before .before .before .before .before .args in
@@ -33,7 +26,6 @@ returns c =
     (summed-more (a .total) (a .total) (c .add .result) from from (from + 1) f (c .before .product .result) (omega arith) (omega arith)
     (summed-none (a .total) from f (pre .3)) (c .before .product .ensures .0 ∙ sym (sumFrom-one from f)) (c .add .ensures))
 
--- src/projection.rt:43:1
 returns-2 : tie.Need-returns-2
 returns-2 c =
     let a = c .before .before .before .args in

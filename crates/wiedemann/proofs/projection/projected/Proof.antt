@@ -1,21 +1,18 @@
-use Rattle.wiedemann.specs.Projection.{Raw, projection-words, projection-unit, dot-unit}
+use Rattle.wiedemann.specs.Projection.{projection-words, projection-unit, dot-unit}
 use Rattle.laws.specs.List.{table-ext}
 use Rattle.meaning.specs.Solver.{dot, projections}
 use mathlib.Core.List.{[], List}
 use lib.Seq.{take-all, getD-drop}
 use native.Mathlib.Nat.{mul-le-mul, suc-mul}
-use Rattle.meaning.specs.List.{at, sum, sumFrom, table, isZero}
+use Rattle.meaning.specs.List.{at}
 use denote.Ref.{now}
 use lib.ListN.{length, getD, take, drop, length-drop}
 use native.Mathlib.Omega.{arith}
 use Prim.Native.Nat.{ℕ, suc, _+_, _-_, _*_, _/_, _%_, _≤_, _<_}
-use mathlib.Core.Path.{_≡_, refl, sym, ap, ap₂, _∙_, subst}
+use mathlib.Core.Path.{_≡_, sym, ap, _∙_, subst}
 use borrow.Author.Needs.{needs}
 use Rattle.wiedemann.proofs.projection.projected.Statement.{statement}
 use Rattle.wiedemann.proofs.projection.projected.Tie as tie
-use Rattle.wiedemann.proofs.projection.projected.Reads as reads
-use Rattle.wiedemann.proofs.projection.projected.Lts as lts
-use Rattle.wiedemann.proofs.projection.dot.Reads as dot-reads
 
 -- vector j stands within the words
 within : (c : tie.Then1) → c .before .before .before .args .j * length (now (c .before .before .before .args .v)) + length (now (c .before .before .before .args .v)) ≤ length (now (c .before .before .before .args .words))
@@ -28,29 +25,23 @@ within c =
 tail : (words : List ℕ) (from : ℕ) → take (length words - from) (drop from words) ≡ drop from words
 tail words from = take-all (length words - from) (drop from words) (omega (arith, length-drop from words))
 
--- src/projection.rt:100:20
 mul-from : tie.Need-mul-from
 mul-from c =
     let a = c .before .before .before .args in
     record { fits = omega (arith, within c, c .before .before .before .good) }
 
--- src/projection.rt:101:24
 mul-dot : tie.Need-mul-dot
 mul-dot c = omega (arith, within c)
 
--- src/projection.rt:101:24
 sub-dot : tie.Need-sub-dot
 sub-dot c = omega (arith, within c)
 
--- src/projection.rt:101:24
 part-dot-start : tie.Need-part-dot-start
 part-dot-start c = omega (arith, within c)
 
--- src/projection.rt:101:24
 part-dot-end : tie.Need-part-dot-end
 part-dot-end c = search needs
 
--- src/projection.rt:101:9
 dot-requires : tie.Need-dot-requires
 dot-requires c κs =
     let a = c .before .before .before .before .args in
@@ -67,15 +58,12 @@ dot-requires c κs =
       pre .0 .0,
     )
 
--- src/projection.rt:103:9
 mul-result : tie.Need-mul-result
 mul-result c = search needs
 
--- src/projection.rt:103:9
 shared-slice-read-result : tie.Need-shared-slice-read-result
 shared-slice-read-result c = search needs
 
--- src/projection.rt:87:1
 returns : tie.Need-returns
 returns c =
     let a = c .before .before .before .before .before .args in
@@ -90,7 +78,6 @@ returns c =
     (λ i l. ap (λ x. x % a .p) (ap (λ w. at w i) (tail words from) ∙ getD-drop from words i 0))
     ∙ sym (projection-words (a .p) n words (a .j) (subst (λ m. a .j < m) (pre .1 .0 .count) (c .before .before .if1 .taken))))
 
--- src/projection.rt:87:1
 returns-2 : tie.Need-returns-2
 returns-2 c =
     let a = c .before .before .before .before .args in

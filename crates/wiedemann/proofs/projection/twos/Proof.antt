@@ -1,17 +1,11 @@
 use Rattle.wiedemann.specs.Projection.{wordTerm}
 use Rattle.wiedemann.specs.Sums.{Summed, summed-none, summed-more}
 use denote.Ref.{now}
-use lib.ListN.{length, getD, take, drop}
 use native.Mathlib.Omega.{arith}
-use Prim.Native.Nat.{ℕ, suc, _+_, _-_, _*_, _/_, _%_, _≤_, _<_}
-use mathlib.Core.Path.{_≡_, refl, sym, ap, ap₂, _∙_, subst}
-use borrow.Author.Needs.{needs}
+use Prim.Native.Nat.{_+_, _-_, _%_, _≤_}
+use mathlib.Core.Path.{_≡_}
 use Rattle.wiedemann.proofs.projection.twos.Statement.{statement}
 use Rattle.wiedemann.proofs.projection.twos.Tie as tie
-use Rattle.wiedemann.proofs.projection.twos.Reads as reads
-use Rattle.wiedemann.proofs.projection.twos.Lts as lts
-use Rattle.wiedemann.proofs.projection.two.Reads as two-reads
-use Rattle.wiedemann.proofs.sums.Total.add.Reads as add-reads
 
 abbrev Inv-loop : tie.InvT-loop
 Inv-loop to words v sum₀ i₀ sum i = (i ≤ to) × ((to - i) % 2 ≡ 0) × Summed sum₀ sum 0 i (wordTerm words v)
@@ -19,33 +13,27 @@ Inv-loop to words v sum₀ i₀ sum i = (i ≤ to) × ((to - i) % 2 ≡ 0) × Su
 abbrev μ-loop : tie.MeasureT-loop
 μ-loop to words v sum₀ i₀ sum i = to - i
 
--- src/projection.rt:35:5
 loop-holds : tie.Need-loop-holds Inv-loop μ-loop
 loop-holds c =
     let a = c .before .before .args in
     let pre = c .before .before .pre in
     (omega arith, omega (arith, pre .2), summed-none (a .total) 0 (wordTerm (now (a .words)) (now (a .v))) (omega (arith, pre .3)))
 
--- src/projection.rt:36:23
 two-requires : tie.Need-two-requires Inv-loop μ-loop
 two-requires c κs =
     let pre = c .before .before .before .before .pre in
     (pre .0, omega (arith, c .loop-test .taken, c .before .loop .inv .1, pre .1))
 
--- src/projection.rt:36:9
 add-requires : tie.Need-add-requires Inv-loop μ-loop
 add-requires c κs =
     omega (arith, c .before .before .loop .inv .2 .carries, c .before .before .loop .inv .0, c .before .before .before .before .before .pre .1, c .before .before .before .before .before .pre .0 .few)
 
--- src/projection.rt:37:9
 add-i : tie.Need-add-i Inv-loop μ-loop
 add-i c = omega (arith, c .before .before .loop-test .taken, c .before .before .before .before .before .before .pre .1, c .before .before .before .before .before .before .pre .0 .few)
 
--- src/projection.rt:35:5
 loop-less : tie.Need-loop-less Inv-loop μ-loop
 loop-less c = omega (arith, c .before .before .loop-test .taken)
 
--- src/projection.rt:35:5
 loop-again : tie.Need-loop-again Inv-loop μ-loop
 loop-again c =
     let a = c .before .before .before .before .before .before .args in
@@ -58,7 +46,6 @@ loop-again c =
           (omega arith) (omega arith) (loop .inv .2) (c .before .two .ensures) (c .add .ensures),
     )
 
--- src/projection.rt:29:1
 returns : tie.Need-returns Inv-loop μ-loop
 returns c =
     let loop = c .before .loop in

@@ -1,5 +1,4 @@
 -- `wiedemann::recurrence::step` meets its contract: each way through it is a case of document 01's step. Assumes nothing.
-use mathlib.Core.Path.{sym, _∙_}
 use native.Mathlib.Omega.{arith}
 use borrow.Author.Needs.{needs}
 use Rattle.wiedemann.proofs.Kept.{place-within}

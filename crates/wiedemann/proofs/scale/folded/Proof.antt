@@ -1,6 +1,6 @@
 -- `wiedemann::scale::folded` meets its contract: the top bit of the difference says whether it wrapped. Assumes nothing.
-use mathlib.Core.Path.{_≡_, sym, _∙_, subst}
-use Prim.Native.Nat.{_+_, _*_, _/_, _%_, _≤_, _<_}
+use mathlib.Core.Path.{_≡_, _∙_}
+use Prim.Native.Nat.{_%_, _≤_, _<_}
 use native.Mathlib.Nat.{mod-lt}
 use native.Mathlib.Omega.{arith}
 use Rattle.wiedemann.proofs.Wrapped.{wrapped-fits, wrapped-mod}

@@ -4,7 +4,6 @@ use native.Mathlib.Nat.{mul-le-mul}
 use native.Mathlib.Omega.{arith}
 use Rattle.meaning.specs.Field.{times}
 use Rattle.wiedemann.proofs.Shoup.{shoup-le, shoup-lt, shoup-mod}
-use borrow.Author.Needs.{needs}
 use Rattle.wiedemann.proofs.scale.near.Statement.{statement}
 use Rattle.wiedemann.proofs.scale.near.Tie as tie
 

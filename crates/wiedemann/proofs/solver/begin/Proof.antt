@@ -1,20 +1,17 @@
 use lib.Seq.{getD-set-same, getD-set-other}
-use Rattle.laws.specs.List.{table-of, table-ext}
-use Rattle.wiedemann.specs.Written.{Written, written-none, written-more, written-all}
-use Rattle.wiedemann.specs.Region.{part, length-part, at-part, part-ext, written-part, written-next, written-table, written-copy}
-use Rattle.meaning.specs.List.{at, table, isZero}
+use Rattle.laws.specs.List.{table-of}
+use Rattle.wiedemann.specs.Written.{Written}
+use Rattle.wiedemann.specs.Region.{part, part-ext, written-part}
+use Rattle.meaning.specs.List.{at}
 use denote.Ref.{now}
-use mathlib.Core.List.{List, []}
-use lib.ListN.{length, getD, take, drop, set, length-set, length-drop, List·getD-eq-default}
+use mathlib.Core.List.{List}
+use lib.ListN.{length, set, length-set}
 use native.Mathlib.Omega.{arith}
-use Prim.Native.Nat.{ℕ, suc, _+_, _-_, _*_, _/_, _%_, _≤_, _<_}
-use mathlib.Core.Path.{_≡_, refl, sym, ap, ap₂, _∙_, subst}
+use Prim.Native.Nat.{ℕ, _+_, _-_, _*_, _≤_}
+use mathlib.Core.Path.{_≡_, refl, sym, _∙_}
 use borrow.Author.Needs.{needs}
 use Rattle.wiedemann.proofs.solver.begin.Statement.{statement}
 use Rattle.wiedemann.proofs.solver.begin.Tie as tie
-use Rattle.wiedemann.proofs.solver.begin.Reads as reads
-use Rattle.wiedemann.proofs.solver.begin.Lts as lts
-use Rattle.wiedemann.proofs.solver.load.Reads as load-reads
 
 -- the first place is F's, before those that b was written to
 begun : (W X b : List ℕ) → 16 * length b + 16 ≤ length W → Written W (length b + 1) (length b) (at b) X
@@ -30,23 +27,18 @@ begun W X b room w = (
     long : length (set X 0 1) ≡ length W
     long = length-set X 0 1 ∙ w .same-length
 
--- src/solver.rt:124:19
 add-load : tie.Need-add-load
 add-load c = search needs
 
--- src/solver.rt:124:5
 load-requires : tie.Need-load-requires
 load-requires c κs = search needs
 
--- src/solver.rt:125:5
 slice-write-work : tie.Need-slice-write-work
 slice-write-work c = search needs
 
--- src/solver.rt:120:1
 same-length : tie.Need-same-length
 same-length c = search needs
 
--- src/solver.rt:120:1
 returns : tie.Need-returns
 returns c =
     let a = c .before .before .before .before .before .before .args in

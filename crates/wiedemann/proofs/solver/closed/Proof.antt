@@ -1,28 +1,23 @@
 use Rattle.wiedemann.specs.declared.solver.Counts.{Counts}
-use mathlib.Core.Logic.{_⊎_, inl, inr, ⊎-elim}
+use mathlib.Core.Logic.{_⊎_, ⊎-elim}
 use native.Mathlib.Omega.{arith}
-use Prim.Native.Nat.{ℕ, suc, _+_, _-_, _*_, _/_, _%_, _≤_, _<_}
-use mathlib.Core.Path.{_≡_, refl, sym, ap, ap₂, _∙_, subst}
+use Prim.Native.Nat.{ℕ, _+_, _-_, _≤_}
+use mathlib.Core.Path.{_≡_, ap}
 use borrow.Author.Needs.{needs}
 use Rattle.wiedemann.proofs.solver.closed.Statement.{statement}
 use Rattle.wiedemann.proofs.solver.closed.Tie as tie
-use Rattle.wiedemann.proofs.solver.closed.Reads as reads
-use Rattle.wiedemann.proofs.solver.closed.Lts as lts
 
 abbrev with : Counts → ℕ → Counts
 with c m = record { degree = c .degree; passes = c .passes; applications = c .applications + m }
 
--- src/solver.rt:280:39
 sub-more : tie.Need-sub-more
 sub-more c = search needs
 
--- src/solver.rt:284:23
 add-t7 : tie.Need-add-t7
 add-t7 c =
     let small : c .before .before .if1 .more ≤ 4096 = ⊎-elim (λ w. omega arith) (λ w. omega (arith, c .before .before .before .pre .0)) (c .before .before .if1 .came) in
     omega (arith, small, c .before .before .before .pre .1)
 
--- src/solver.rt:275:1
 returns : tie.Need-returns
 returns c =
     let more : c .before .before .if1 .more ≡ c .before .before .before .args .c .degree - 1 = ⊎-elim (λ w. omega arith) (λ w. omega arith) (c .before .before .if1 .came) in

@@ -1,17 +1,15 @@
-use Rattle.laws.specs.List.{table-of, table-ext}
-use Rattle.wiedemann.specs.Written.{Written, written-none, written-more, written-all}
-use Rattle.wiedemann.specs.Region.{part, length-part, at-part, part-ext, written-part, written-next, written-table, written-copy}
-use Rattle.meaning.specs.List.{at, table, isZero}
+use Rattle.laws.specs.List.{table-of}
+use Rattle.wiedemann.specs.Written.{Written, written-none, written-all}
+use Rattle.wiedemann.specs.Region.{part, length-part, at-part, written-next, written-table}
+use Rattle.meaning.specs.List.{at}
 use denote.Ref.{now}
-use lib.ListN.{length, getD, take, drop, set, length-set, length-drop, List·getD-eq-default}
+use lib.ListN.{length}
 use native.Mathlib.Omega.{arith}
-use Prim.Native.Nat.{ℕ, suc, _+_, _-_, _*_, _/_, _%_, _≤_, _<_}
-use mathlib.Core.Path.{_≡_, refl, sym, ap, ap₂, _∙_, subst}
+use Prim.Native.Nat.{_+_, _-_, _≤_, _<_}
+use mathlib.Core.Path.{refl, sym, _∙_}
 use borrow.Author.Needs.{needs}
 use Rattle.wiedemann.proofs.solver.deliver.Statement.{statement}
 use Rattle.wiedemann.proofs.solver.deliver.Tie as tie
-use Rattle.wiedemann.proofs.solver.deliver.Reads as reads
-use Rattle.wiedemann.proofs.solver.deliver.Lts as lts
 
 abbrev Inv-loop : tie.InvT-loop
 Inv-loop work from out₀ i₀ out i = (i ≤ length out₀) × Written out₀ 0 i (λ k. at work (from + k)) out
@@ -19,39 +17,30 @@ Inv-loop work from out₀ i₀ out i = (i ≤ length out₀) × Written out₀ 0
 abbrev μ-loop : tie.MeasureT-loop
 μ-loop work from out₀ i₀ out i = length out₀ - i
 
--- src/solver.rt:255:5
 loop-holds : tie.Need-loop-holds Inv-loop μ-loop
 loop-holds c = (omega arith, written-none (now (c .args .out)) 0 (λ k. at (now (c .args .work)) (c .args .from + k)))
 
--- src/solver.rt:256:23
 add-out : tie.Need-add-out Inv-loop μ-loop
 add-out c = omega (arith, c .loop-test .taken, c .before .loop .inv .1 .same-length, c .before .before .pre, c .before .before .good)
 
--- src/solver.rt:256:18
 mul-out : tie.Need-mul-out Inv-loop μ-loop
 mul-out c = omega (arith, c .loop-test .taken, c .before .loop .inv .1 .same-length, c .before .before .pre, c .before .before .good)
 
--- src/solver.rt:256:18
 shared-slice-read-out : tie.Need-shared-slice-read-out Inv-loop μ-loop
 shared-slice-read-out c = omega (arith, c .before .loop-test .taken, c .before .before .loop .inv .1 .same-length, c .before .before .before .pre)
 
--- src/solver.rt:256:9
 mul-out-2 : tie.Need-mul-out-2 Inv-loop μ-loop
 mul-out-2 c = search needs
 
--- src/solver.rt:256:9
 slice-write-out : tie.Need-slice-write-out Inv-loop μ-loop
 slice-write-out c = search needs
 
--- src/solver.rt:257:9
 add-i : tie.Need-add-i Inv-loop μ-loop
 add-i c = search needs
 
--- src/solver.rt:255:5
 loop-less : tie.Need-loop-less Inv-loop μ-loop
 loop-less c = omega (arith, c .before .loop-test .taken, c .before .before .loop .inv .1 .same-length)
 
--- src/solver.rt:255:5
 loop-again : tie.Need-loop-again Inv-loop μ-loop
 loop-again c =
     let a = c .before .before .before .args in
@@ -59,11 +48,9 @@ loop-again c =
     let inside : l .i < length (now (a .out)) = omega (arith, c .before .loop-test .taken, l .inv .1 .same-length) in
     (omega (arith, inside), written-next (at (now (a .work)) (a .from + l .i)) (l .inv .1) inside refl)
 
--- src/solver.rt:250:1
 same-length : tie.Need-same-length Inv-loop μ-loop
 same-length c = c .before .loop .inv .1 .same-length
 
--- src/solver.rt:250:1
 returns : tie.Need-returns Inv-loop μ-loop
 returns c =
     let a = c .before .before .args in

@@ -1,50 +1,38 @@
 use Rattle.wiedemann.specs.Factor.{multiplied-lent}
-use Rattle.wiedemann.specs.Region.{part, length-part, at-part, part-ext, written-part, written-next, written-table, written-copy}
+use Rattle.wiedemann.specs.Region.{length-part}
 use denote.Ref.{now}
-use lib.ListN.{length, getD, take, drop, set, length-set, length-drop, List·getD-eq-default}
+use lib.ListN.{length}
 use native.Mathlib.Omega.{arith}
-use Prim.Native.Nat.{ℕ, suc, _+_, _-_, _*_, _/_, _%_, _≤_, _<_}
-use mathlib.Core.Path.{_≡_, refl, sym, ap, ap₂, _∙_, subst}
+use Prim.Native.Nat.{_+_, _-_, _≤_}
+use mathlib.Core.Path.{_∙_}
 use borrow.Author.Needs.{needs}
 use Rattle.wiedemann.proofs.solver.enlarge.Statement.{statement}
 use Rattle.wiedemann.proofs.solver.enlarge.Tie as tie
-use Rattle.wiedemann.proofs.solver.enlarge.Reads as reads
-use Rattle.wiedemann.proofs.solver.enlarge.Lts as lts
-use Rattle.wiedemann.proofs.pass.multiply.Reads as multiply-reads
 
--- src/solver.rt:87:15
 add-end : tie.Need-add-end
 add-end c = search needs
 
--- src/solver.rt:87:15
 add-end-2 : tie.Need-add-end-2
 add-end-2 c = search needs
 
--- src/solver.rt:88:25
 mul-multiply : tie.Need-mul-multiply
 mul-multiply c = search needs
 
--- src/solver.rt:88:25
 sub-multiply : tie.Need-sub-multiply
 sub-multiply c = search needs
 
--- src/solver.rt:88:25
 part-multiply-start : tie.Need-part-multiply-start
 part-multiply-start c = search needs
 
--- src/solver.rt:88:25
 part-multiply-end : tie.Need-part-multiply-end
 part-multiply-end c = search needs
 
--- src/solver.rt:88:5
 multiply-requires : tie.Need-multiply-requires
 multiply-requires c κs = search needs
 
--- src/solver.rt:82:1
 same-length : tie.Need-same-length
 same-length c = search needs
 
--- src/solver.rt:82:1
 returns : tie.Need-returns
 returns c =
     let a = c .before .before .before .before .before .args in

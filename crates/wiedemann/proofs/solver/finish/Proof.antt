@@ -2,77 +2,54 @@ use Rattle.wiedemann.specs.Horner.{vector-apply}
 use Rattle.bridge.specs.ThirdCondition.{verdict-zero, verdict-singular, verdict-solved}
 use Rattle.residue.specs.Inverse.{inverse-lt}
 use Rattle.meaning.specs.Field.{minus, times, inverse}
-use Rattle.laws.specs.List.{table-of, table-ext}
-use native.Mathlib.Nat.{zero-add, add-zero, pos-of-ne-zero}
-use Rattle.wiedemann.specs.Solver.{System, Midway, Finished, Closable, Inner, Lent, narrowed, passed, inner, imaged, imaged-leading, midway-begin, midway-less, midway-passing, midway-next, midway-end, closable}
-use Rattle.wiedemann.specs.Lent.{lent, part-at, part-of-part}
-use Rattle.wiedemann.specs.Region.{part, length-part, at-part, part-ext, written-part, written-next, written-table, written-copy}
-use Rattle.checks.specs.Valid.{Valid, Vector}
-use Rattle.meaning.specs.Solver.{Kind, solved, singular, verdict}
-use Rattle.meaning.specs.Matrix.{matrix, size, apply}
-use Rattle.meaning.specs.List.{at, table, isZero, padded, zeros}
-use mathlib.Core.Logic.{_⊎_, inl, inr, ⊎-elim, _≢_}
+use native.Mathlib.Nat.{zero-add, pos-of-ne-zero}
+use Rattle.wiedemann.specs.Region.{part, at-part}
+use Rattle.meaning.specs.Solver.{Kind}
+use Rattle.meaning.specs.Matrix.{matrix}
+use Rattle.meaning.specs.List.{at, table, padded, zeros}
 use denote.Ref.{now}
-use mathlib.Core.List.{List, []}
-use lib.ListN.{length, getD, take, drop, set, length-set, length-drop, List·getD-eq-default}
+use mathlib.Core.List.{List}
+use lib.ListN.{length}
 use native.Mathlib.Omega.{arith}
-use Prim.Native.Nat.{ℕ, suc, _+_, _-_, _*_, _/_, _%_, _≤_, _<_}
-use mathlib.Core.Path.{_≡_, refl, sym, ap, ap₂, _∙_, subst}
+use Prim.Native.Nat.{ℕ, _+_, _-_}
+use mathlib.Core.Path.{_≡_, sym, ap, ap₂, _∙_}
 use borrow.Author.Needs.{needs}
 use Rattle.wiedemann.proofs.solver.finish.Statement.{statement}
 use Rattle.wiedemann.proofs.solver.finish.Tie as tie
-use Rattle.wiedemann.proofs.solver.finish.Reads as reads
-use Rattle.wiedemann.proofs.solver.finish.Lts as lts
-use Rattle.field.proofs.inverse_modulo.Reads as inverse-modulo-reads
-use Rattle.wiedemann.proofs.solver.closed.Reads as closed-reads
-use Rattle.wiedemann.proofs.solver.deliver.Reads as deliver-reads
-use Rattle.wiedemann.proofs.solver.image.Reads as image-reads
-use Rattle.wiedemann.proofs.solver.solution.Reads as solution-reads
-use Rattle.wiedemann.proofs.solver.spread.Reads as spread-reads
 
 -- F[0] stands in the first place
 constant : (d : ℕ) (W : List ℕ) → at (part 0 (d + 1) W) 0 ≡ at W 0
 constant d W = at-part 0 (d + 1) W 0 (omega arith) ∙ ap (at W) (zero-add 0)
 
--- src/solver.rt:306:17
 sub-first : tie.Need-sub-first
 sub-first c = search needs
 
--- src/solver.rt:306:17
 add-first : tie.Need-add-first
 add-first c = search needs
 
--- src/solver.rt:307:18
 add-spread : tie.Need-add-spread
 add-spread c = search needs
 
--- src/solver.rt:307:5
 spread-requires : tie.Need-spread-requires
 spread-requires c κs = search needs
 
--- src/solver.rt:309:9
 spread-requires-2 : tie.Need-spread-requires-2
 spread-requires-2 c κs = search needs
 
--- src/solver.rt:310:32
 closed-requires : tie.Need-closed-requires
 closed-requires c κs =
     let q = c .before .before .before .before .before .before .before .before .before .before .before .before .before .before .before .before .before .before .pre .1 .0 in
     (omega (arith, q .found, c .before .before .before .before .before .before .before .before .before .before .before .before .before .before .before .before .before .before .pre .0 .0 .valid .sized), q .few)
 
--- src/solver.rt:310:9
 same-length : tie.Need-same-length
 same-length c = search needs
 
--- src/solver.rt:310:9
 same-length-2 : tie.Need-same-length-2
 same-length-2 c = search needs
 
--- src/solver.rt:310:9
 same-length-3 : tie.Need-same-length-3
 same-length-3 c = search needs
 
--- src/solver.rt:310:9
 returns : tie.Need-returns
 returns c =
     let a = c .before .before .before .before .before .before .before .before .before .before .before .before .before .before .before .before .before .before .before .args in
@@ -88,11 +65,9 @@ returns c =
       polynomial-is = c .before .before .before .before .before .before .before .before .before .spread .ensures ∙ ap (λ m. padded m F) (pre .1 .2);
     }
 
--- src/solver.rt:312:20
 slice-read-constant : tie.Need-slice-read-constant
 slice-read-constant c = search needs
 
--- src/solver.rt:313:5
 image-requires : tie.Need-image-requires
 image-requires c κs =
     let pre = c .before .before .before .before .before .before .before .before .before .before .before .before .before .before .before .pre in
@@ -101,29 +76,23 @@ image-requires c κs =
       (pre .0 .1, pos-of-ne-zero (c .before .before .if1 .left), q .found, q .room, q .one),
     )
 
--- src/solver.rt:315:9
 deliver-requires : tie.Need-deliver-requires
 deliver-requires c κs = search needs
 
--- src/solver.rt:316:34
 closed-requires-2 : tie.Need-closed-requires-2
 closed-requires-2 c κs =
     let q = c .before .before .before .before .before .before .before .before .before .before .before .before .before .before .before .before .before .before .before .before .before .before .before .before .pre .1 .0 in
     (omega (arith, q .found, c .before .before .before .before .before .before .before .before .before .before .before .before .before .before .before .before .before .before .before .before .before .before .before .before .pre .0 .0 .valid .sized), q .few)
 
--- src/solver.rt:316:9
 same-length-4 : tie.Need-same-length-4
 same-length-4 c = search needs
 
--- src/solver.rt:316:9
 same-length-5 : tie.Need-same-length-5
 same-length-5 c = search needs
 
--- src/solver.rt:316:9
 same-length-6 : tie.Need-same-length-6
 same-length-6 c = search needs
 
--- src/solver.rt:316:9
 returns-2 : tie.Need-returns-2
 returns-2 c =
     let a = c .before .before .before .before .before .before .before .before .before .before .before .before .before .before .before .before .before .before .before .before .before .before .before .before .before .args in
@@ -139,11 +108,9 @@ returns-2 c =
       polynomial-is = c .before .before .before .before .before .before .before .before .before .before .before .before .before .before .before .spread .ensures ∙ ap (λ m. padded m F) (pre .1 .2);
     }
 
--- src/solver.rt:318:17
 inverse-modulo-requires : tie.Need-inverse-modulo-requires
 inverse-modulo-requires c κs = search needs
 
--- src/solver.rt:318:5
 solution-requires : tie.Need-solution-requires
 solution-requires c κs =
     let a = c .before .before .before .before .before .before .before .before .before .before .before .before .before .before .before .before .before .before .before .before .before .before .args in
@@ -158,25 +125,20 @@ solution-requires c κs =
       rw (pre .1 .1, done .holds) (vector-apply (a .p) A _ _ (pre .0 .0 .valid .positive)),
     )
 
--- src/solver.rt:319:21
 closed-requires-3 : tie.Need-closed-requires-3
 closed-requires-3 c κs =
     let q = c .before .before .before .before .before .before .before .before .before .before .before .before .before .before .before .before .before .before .before .before .before .before .before .before .before .pre .1 .0 in
     (omega (arith, q .found, c .before .before .before .before .before .before .before .before .before .before .before .before .before .before .before .before .before .before .before .before .before .before .before .before .before .pre .0 .0 .valid .sized), q .few)
 
--- src/solver.rt:289:1
 same-length-7 : tie.Need-same-length-7
 same-length-7 c = search needs
 
--- src/solver.rt:289:1
 same-length-8 : tie.Need-same-length-8
 same-length-8 c = search needs
 
--- src/solver.rt:289:1
 same-length-9 : tie.Need-same-length-9
 same-length-9 c = search needs
 
--- src/solver.rt:289:1
 returns-3 : tie.Need-returns-3
 returns-3 c =
     let a = c .before .before .before .before .before .before .before .before .before .before .before .before .before .before .before .before .before .before .before .before .before .before .before .before .before .before .args in

@@ -1,52 +1,37 @@
-use Rattle.wiedemann.specs.Solver.{System, Midway, Finished, Closable, Inner, Lent, narrowed, passed, inner, imaged, imaged-leading, midway-begin, midway-less, midway-passing, midway-next, midway-end, closable}
-use Rattle.wiedemann.specs.Region.{part, length-part, at-part, part-ext, written-part, written-next, written-table, written-copy}
-use Rattle.meaning.specs.Matrix.{matrix, size}
+use Rattle.wiedemann.specs.Region.{length-part}
 use denote.Ref.{now}
-use mathlib.Core.List.{List, []}
-use lib.ListN.{length, getD, take, drop, set, length-set, length-drop, List·getD-eq-default}
+use lib.ListN.{length}
 use native.Mathlib.Omega.{arith}
-use Prim.Native.Nat.{ℕ, suc, _+_, _-_, _*_, _/_, _%_, _≤_, _<_}
-use mathlib.Core.Path.{_≡_, refl, sym, ap, ap₂, _∙_, subst}
+use Prim.Native.Nat.{_+_, _-_}
+use mathlib.Core.Path.{refl, _∙_}
 use borrow.Author.Needs.{needs}
 use Rattle.wiedemann.proofs.solver.image_lent.Statement.{statement}
 use Rattle.wiedemann.proofs.solver.image_lent.Tie as tie
-use Rattle.wiedemann.proofs.solver.image_lent.Reads as reads
-use Rattle.wiedemann.proofs.solver.image_lent.Lts as lts
-use Rattle.wiedemann.proofs.solver.image_within.Reads as image-within-reads
 
--- src/solver.rt:204:17
 sub-first : tie.Need-sub-first
 sub-first c = search needs
 
--- src/solver.rt:204:17
 add-first : tie.Need-add-first
 add-first c = search needs
 
--- src/solver.rt:205:57
 mul-image-within : tie.Need-mul-image-within
 mul-image-within c = search needs
 
--- src/solver.rt:205:57
 sub-image-within : tie.Need-sub-image-within
 sub-image-within c = search needs
 
--- src/solver.rt:205:57
 part-image-within-start : tie.Need-part-image-within-start
 part-image-within-start c = search needs
 
--- src/solver.rt:205:57
 part-image-within-end : tie.Need-part-image-within-end
 part-image-within-end c = search needs
 
--- src/solver.rt:205:5
 image-within-requires : tie.Need-image-within-requires
 image-within-requires c κs = search needs
 
--- src/solver.rt:190:1
 same-length : tie.Need-same-length
 same-length c = search needs
 
--- src/solver.rt:190:1
 returns : tie.Need-returns
 returns c =
     let a = c .before .before .before .before .before .before .before .before .before .args in

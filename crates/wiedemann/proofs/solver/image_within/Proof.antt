@@ -1,40 +1,27 @@
-use Rattle.wiedemann.specs.Solver.{System, Midway, Finished, Closable, Inner, Lent, narrowed, passed, inner, imaged, imaged-leading, midway-begin, midway-less, midway-passing, midway-next, midway-end, closable}
-use Rattle.wiedemann.specs.Written.{Written, written-none, written-more, written-all}
-use Rattle.wiedemann.specs.Region.{part, length-part, at-part, part-ext, written-part, written-next, written-table, written-copy}
-use Rattle.checks.specs.Valid.{Valid, Vector}
-use Rattle.meaning.specs.Matrix.{matrix, size}
-use Rattle.meaning.specs.List.{at, table, isZero}
+use Rattle.wiedemann.specs.Solver.{inner}
+use Rattle.wiedemann.specs.Region.{written-copy}
+use Rattle.checks.specs.Valid.{Vector}
 use denote.Ref.{now}
-use mathlib.Core.List.{List, []}
-use lib.ListN.{length, getD, take, drop, set, length-set, length-drop, List·getD-eq-default}
+use lib.ListN.{length}
 use native.Mathlib.Omega.{arith}
-use Prim.Native.Nat.{ℕ, suc, _+_, _-_, _*_, _/_, _%_, _≤_, _<_}
-use mathlib.Core.Path.{_≡_, refl, sym, ap, ap₂, _∙_, subst}
+use Prim.Native.Nat.{_+_, _-_, _*_}
+use mathlib.Core.Path.{sym, _∙_, subst}
 use borrow.Author.Needs.{needs}
 use Rattle.wiedemann.proofs.solver.image_within.Statement.{statement}
 use Rattle.wiedemann.proofs.solver.image_within.Tie as tie
-use Rattle.wiedemann.proofs.solver.image_within.Reads as reads
-use Rattle.wiedemann.proofs.solver.image_within.Lts as lts
-use Rattle.wiedemann.proofs.pass.applied.Reads as applied-reads
-use Rattle.wiedemann.proofs.solver.load.Reads as load-reads
 
--- src/solver.rt:185:5
 load-requires : tie.Need-load-requires
 load-requires c κs = search needs
 
--- src/solver.rt:186:60
 sub-applied : tie.Need-sub-applied
 sub-applied c = search needs
 
--- src/solver.rt:186:55
 mul-applied : tie.Need-mul-applied
 mul-applied c = search needs
 
--- src/solver.rt:186:79
 sub-applied-2 : tie.Need-sub-applied-2
 sub-applied-2 c = search needs
 
--- src/solver.rt:186:5
 applied-requires : tie.Need-applied-requires
 applied-requires c κs =
     let a = c .before .before .before .before .before .before .before .before .before .before .args in
@@ -56,11 +43,9 @@ applied-requires c κs =
       ),
     )
 
--- src/solver.rt:170:1
 same-length : tie.Need-same-length
 same-length c = search needs
 
--- src/solver.rt:170:1
 returns : tie.Need-returns
 returns c =
     let pre = c .before .before .before .before .before .before .before .before .before .before .before .before .before .pre in

@@ -1,27 +1,19 @@
 use Rattle.wiedemann.specs.Projection.{Words}
 use Rattle.bridge.specs.ThirdCondition.{length-projections}
 use borrow.Author.Tests.{not-true, not-false}
-use mathlib.Core.Bool.{true, false}
-use Rattle.wiedemann.specs.Solver.{System, Midway, Finished, Closable, Inner, Lent, narrowed, passed, inner, imaged, imaged-leading, midway-begin, midway-less, midway-passing, midway-next, midway-end, closable}
-use Rattle.wiedemann.specs.Lent.{lent, part-at, part-of-part}
-use Rattle.wiedemann.specs.Region.{part, length-part, at-part, part-ext, written-part, written-next, written-table, written-copy}
+use Rattle.wiedemann.specs.Solver.{Midway, midway-begin, midway-less, midway-passing, midway-next, midway-end}
+use Rattle.wiedemann.specs.Lent.{part-at}
 use Rattle.meaning.specs.Solver.{projections}
-use Rattle.meaning.specs.Matrix.{matrix, size}
-use Rattle.meaning.specs.List.{at, table, isZero}
+use Rattle.meaning.specs.Matrix.{matrix}
 use denote.Ref.{now}
-use mathlib.Core.List.{List, []}
-use lib.ListN.{length, getD, take, drop, set, length-set, length-drop, List·getD-eq-default}
+use mathlib.Core.List.{List}
+use lib.ListN.{length}
 use native.Mathlib.Omega.{arith}
-use Prim.Native.Nat.{ℕ, suc, _+_, _-_, _*_, _/_, _%_, _≤_, _<_}
-use mathlib.Core.Path.{_≡_, refl, sym, ap, ap₂, _∙_, subst}
+use Prim.Native.Nat.{ℕ, _+_, _-_, _≤_}
+use mathlib.Core.Path.{_≡_, refl, sym, ap, _∙_, subst}
 use borrow.Author.Needs.{needs}
 use Rattle.wiedemann.proofs.solver.run.Statement.{statement}
 use Rattle.wiedemann.proofs.solver.run.Tie as tie
-use Rattle.wiedemann.proofs.solver.run.Reads as reads
-use Rattle.wiedemann.proofs.solver.run.Lts as lts
-use Rattle.wiedemann.proofs.solver.begin.Reads as begin-reads
-use Rattle.wiedemann.proofs.solver.is_settled.Reads as is-settled-reads
-use Rattle.wiedemann.proofs.solver.pass.Reads as pass-reads
 
 abbrev Inv-loop : tie.InvT-loop
 Inv-loop p reciprocal starts columns values b words vectors work₀ n c₀ j₀ work c j = Midway p (matrix starts columns values) b words work j c × (length work ≡ length work₀)
@@ -33,15 +25,12 @@ abbrev μ-loop : tie.MeasureT-loop
 most : (p n vectors : ℕ) (words : List ℕ) → Words n vectors words → n ≤ 4096 → length (projections p n words) ≤ 8192
 most p n vectors words w l = omega (arith, length-projections p n words, w .count, w .few)
 
--- src/solver.rt:159:13
 sub-n : tie.Need-sub-n Inv-loop μ-loop
 sub-n c = search needs
 
--- src/solver.rt:160:9
 begin-requires : tie.Need-begin-requires Inv-loop μ-loop
 begin-requires c κs = omega (arith, c .before .before .before .before .before .before .before .pre .0 .accepted .size-b, c .before .before .before .before .before .before .before .pre .1 .2)
 
--- src/solver.rt:162:5
 loop-holds : tie.Need-loop-holds Inv-loop μ-loop
 loop-holds c =
     let a = c .before .before .before .before .before .before .before .before .before .before .args in
@@ -57,11 +46,9 @@ loop-holds c =
       refl,
     )
 
--- src/solver.rt:162:12
 is-settled-requires : tie.Need-is-settled-requires Inv-loop μ-loop
 is-settled-requires c κs = (omega (arith, c .before .loop .inv .0 .room), c .before .before .before .before .before .before .before .before .before .before .before .before .pre .0 .valid .sized)
 
--- src/solver.rt:163:9
 pass-requires : tie.Need-pass-requires Inv-loop μ-loop
 pass-requires c κs =
     let a = c .before .before .before .before .before .before .before .before .before .before .before .before .before .before .before .args in
@@ -75,14 +62,12 @@ pass-requires c κs =
       ((pre .1 .0, omega (arith, midway-less (pre .0) few m z, length-projections (a .p) n words, pre .1 .1 .count), pre .1 .1), midway-passing (pre .0) few m z),
     )
 
--- src/solver.rt:164:9
 add-j : tie.Need-add-j Inv-loop μ-loop
 add-j c =
     let a = c .before .before .before .before .before .before .before .before .before .before .before .before .before .before .before .before .before .before .args in
     let pre = c .before .before .before .before .before .before .before .before .before .before .before .before .before .before .before .before .before .before .pre in
     omega (arith, c .before .before .before .before .before .before .before .loop .inv .0 .within, most (a .p) (length (now (a .starts)) - 1) (a .vectors) (now (a .words)) (pre .1 .1) (pre .0 .valid .sized))
 
--- src/solver.rt:162:5
 loop-less : tie.Need-loop-less Inv-loop μ-loop
 loop-less c =
     let a = c .before .before .before .before .before .before .before .before .before .before .before .before .before .before .before .before .before .before .args in
@@ -91,7 +76,6 @@ loop-less c =
     let z = sym (c .before .before .before .before .before .is-settled .ensures) ∙ not-true _ (c .before .before .before .before .if1 .taken) in
     omega (arith, midway-less (pre .0) few (c .before .before .before .before .before .before .before .loop .inv .0) z)
 
--- src/solver.rt:162:5
 loop-again : tie.Need-loop-again Inv-loop μ-loop
 loop-again c =
     let a = c .before .before .before .before .before .before .before .before .before .before .before .before .before .before .before .before .before .before .args in
@@ -100,11 +84,9 @@ loop-again c =
     let z = sym (c .before .before .before .before .before .is-settled .ensures) ∙ not-true _ (c .before .before .before .before .if1 .taken) in
     (midway-next (pre .0) few (c .before .before .before .before .before .before .before .loop .inv .0) z (c .before .before .pass .ensures), c .before .before .pass .ensures .same-length ∙ c .before .before .before .before .before .before .before .loop .inv .1)
 
--- src/solver.rt:144:1
 same-length : tie.Need-same-length Inv-loop μ-loop
 same-length c = c .before .before .before .loop .inv .1 ∙ c .before .before .before .before .before .before .begin .ensures .1
 
--- src/solver.rt:144:1
 returns : tie.Need-returns Inv-loop μ-loop
 returns c =
     let a = c .before .before .before .before .before .before .before .before .before .before .before .before .before .before .args in

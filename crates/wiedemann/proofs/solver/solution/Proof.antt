@@ -1,22 +1,16 @@
 use Rattle.meaning.specs.Field.{minus, times}
 use native.Mathlib.Nat.{mul-comm}
-use Rattle.laws.specs.List.{table-of, table-ext}
-use Rattle.wiedemann.specs.Written.{Written, written-none, written-more, written-all}
-use Rattle.wiedemann.specs.Region.{part, length-part, at-part, part-ext, written-part, written-next, written-table, written-copy}
-use Rattle.meaning.specs.List.{at, table, isZero}
+use Rattle.wiedemann.specs.Written.{Written, written-none, written-all}
+use Rattle.wiedemann.specs.Region.{part, at-part, written-next, written-table}
+use Rattle.meaning.specs.List.{at}
 use denote.Ref.{now}
-use lib.ListN.{length, getD, take, drop, set, length-set, length-drop, List·getD-eq-default}
+use lib.ListN.{length}
 use native.Mathlib.Omega.{arith}
-use Prim.Native.Nat.{ℕ, suc, _+_, _-_, _*_, _/_, _%_, _≤_, _<_}
-use mathlib.Core.Path.{_≡_, refl, sym, ap, ap₂, _∙_, subst}
+use Prim.Native.Nat.{ℕ, _-_, _*_, _/_, _%_, _≤_, _<_}
+use mathlib.Core.Path.{_≡_, refl, sym, ap, _∙_}
 use borrow.Author.Needs.{needs}
 use Rattle.wiedemann.proofs.solver.solution.Statement.{statement}
 use Rattle.wiedemann.proofs.solver.solution.Tie as tie
-use Rattle.wiedemann.proofs.solver.solution.Reads as reads
-use Rattle.wiedemann.proofs.solver.solution.Lts as lts
-use Rattle.wiedemann.proofs.scale.difference.Reads as difference-reads
-use Rattle.wiedemann.proofs.scale.quotient.Reads as quotient-reads
-use Rattle.wiedemann.proofs.scale.scaled.Reads as scaled-reads
 
 abbrev Inv-loop : tie.InvT-loop
 Inv-loop p inverse work from out₀ w i₀ out i =
@@ -30,29 +24,23 @@ times-comm : (p a b : ℕ) → times p a b ≡ times p b a
 unfolding times
 times-comm p a b = ap (λ x. x % p) (mul-comm a b)
 
--- src/solver.rt:266:9
 quotient-requires : tie.Need-quotient-requires Inv-loop μ-loop
 quotient-requires c κs = search needs
 
--- src/solver.rt:268:5
 loop-holds : tie.Need-loop-holds Inv-loop μ-loop
 loop-holds c =
     let a = c .before .before .before .args in
     (omega arith, c .quotient .ensures, written-none (now (a .out)) 0 (λ k. times (a .p) (minus (a .p) 0 (at (part (a .from) (length (now (a .out))) (now (a .work))) k)) (a .inverse)))
 
--- src/solver.rt:269:62
 add-difference : tie.Need-add-difference Inv-loop μ-loop
 add-difference c = omega (arith, c .loop-test .taken, c .before .loop .inv .2 .same-length, c .before .before .before .before .before .pre .2, c .before .before .before .before .before .good)
 
--- src/solver.rt:269:57
 mul-difference : tie.Need-mul-difference Inv-loop μ-loop
 mul-difference c = omega (arith, c .loop-test .taken, c .before .loop .inv .2 .same-length, c .before .before .before .before .before .pre .2, c .before .before .before .before .before .good)
 
--- src/solver.rt:269:57
 shared-slice-read-difference : tie.Need-shared-slice-read-difference Inv-loop μ-loop
 shared-slice-read-difference c = omega (arith, c .before .loop-test .taken, c .before .before .loop .inv .2 .same-length, c .before .before .before .before .before .before .pre .2)
 
--- src/solver.rt:269:40
 difference-requires : tie.Need-difference-requires Inv-loop μ-loop
 difference-requires c κs =
     let a = c .before .before .before .before .before .before .args in
@@ -62,27 +50,21 @@ difference-requires c κs =
     let inside : l .i < n = omega (arith, c .before .loop-test .taken, l .inv .2 .same-length) in
     (omega (arith, pre .0), rw (← at-part (a .from) n (now (a .work)) (l .i) inside) (pre .3 .below (l .i) inside), pre .1)
 
--- src/solver.rt:269:18
 scaled-requires : tie.Need-scaled-requires Inv-loop μ-loop
 scaled-requires c κs = (c .before .before .before .before .before .before .before .pre .0, c .before .before .before .before .before .before .before .pre .1, c .before .before .before .loop .inv .1)
 
--- src/solver.rt:269:9
 mul-out : tie.Need-mul-out Inv-loop μ-loop
 mul-out c = search needs
 
--- src/solver.rt:269:9
 slice-write-out : tie.Need-slice-write-out Inv-loop μ-loop
 slice-write-out c = omega (arith, c .before .before .before .loop-test .taken)
 
--- src/solver.rt:270:9
 add-i : tie.Need-add-i Inv-loop μ-loop
 add-i c = omega (arith, c .before .before .before .loop-test .taken, c .before .before .before .before .loop .inv .2 .same-length, c .before .before .before .before .before .before .before .before .good)
 
--- src/solver.rt:268:5
 loop-less : tie.Need-loop-less Inv-loop μ-loop
 loop-less c = omega (arith, c .before .before .before .loop-test .taken, c .before .before .before .before .loop .inv .2 .same-length)
 
--- src/solver.rt:268:5
 loop-again : tie.Need-loop-again Inv-loop μ-loop
 loop-again c =
     let a = c .before .before .before .before .before .before .before .before .args in
@@ -96,11 +78,9 @@ loop-again c =
           ∙ ap (λ x. times (a .p) x (a .inverse)) (c .before .difference .ensures ∙ ap (minus (a .p) 0) (sym (at-part (a .from) n (now (a .work)) (l .i) inside)))),
     )
 
--- src/solver.rt:262:1
 same-length : tie.Need-same-length Inv-loop μ-loop
 same-length c = c .before .loop .inv .2 .same-length
 
--- src/solver.rt:262:1
 returns : tie.Need-returns Inv-loop μ-loop
 returns c =
     let a = c .before .before .before .before .before .args in

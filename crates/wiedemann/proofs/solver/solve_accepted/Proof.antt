@@ -1,66 +1,50 @@
 use Rattle.wiedemann.specs.Verdict.{closed}
 use Rattle.wiedemann.specs.Taken.{Taken, taken-of}
-use Rattle.wiedemann.specs.Solver.{System, Midway, Finished, Closable, Inner, Lent, narrowed, passed, inner, imaged, imaged-leading, midway-begin, midway-less, midway-passing, midway-next, midway-end, closable}
-use Rattle.meaning.specs.Matrix.{matrix, size}
+use Rattle.wiedemann.specs.Solver.{closable}
+use Rattle.meaning.specs.Matrix.{matrix}
 use denote.Ref.{now}
-use lib.ListN.{length, getD, take, drop, set, length-set, length-drop, List·getD-eq-default}
 use native.Mathlib.Omega.{arith}
-use Prim.Native.Nat.{ℕ, suc, _+_, _-_, _*_, _/_, _%_, _≤_, _<_}
-use mathlib.Core.Path.{_≡_, refl, sym, ap, ap₂, _∙_, subst}
+use Prim.Native.Nat.{_-_}
 use borrow.Author.Needs.{needs}
 use Rattle.wiedemann.proofs.solver.solve_accepted.Statement.{statement}
 use Rattle.wiedemann.proofs.solver.solve_accepted.Tie as tie
-use Rattle.wiedemann.proofs.solver.solve_accepted.Reads as reads
-use Rattle.wiedemann.proofs.solver.solve_accepted.Lts as lts
-use Rattle.wiedemann.proofs.solver.finish.Reads as finish-reads
-use Rattle.wiedemann.proofs.solver.run.Reads as run-reads
-use Rattle.wiedemann.proofs.sums.reciprocal.Reads as reciprocal-reads
 
 -- nothing was refused
 fine : (c : tie.Start) → Taken (c .args .p) (matrix (now (c .args .starts)) (now (c .args .columns)) (now (c .args .values))) (now (c .args .b)) (now (c .args .words)) (now (c .args .vector)) (now (c .args .polynomial)) (now (c .args .work))
 fine c = taken-of (c .args .p) (matrix (now (c .args .starts)) (now (c .args .columns)) (now (c .args .values))) (now (c .args .b)) (now (c .args .words)) (now (c .args .vector)) (now (c .args .polynomial)) (now (c .args .work)) (c .pre)
 
--- src/solver.rt:374:9
 reciprocal-requires : tie.Need-reciprocal-requires
 reciprocal-requires c κs = fine (c .before .before .before .before .before .before .before .before) .system .valid .positive
 
--- src/solver.rt:375:34
 sub-vectors : tie.Need-sub-vectors
 sub-vectors c =
     let more = fine (c .before .before .before .before .before .before .before .before .before) .system .valid .one-more in
     omega (arith, more)
 
--- src/solver.rt:375:19
 div-vectors : tie.Need-div-vectors
 div-vectors c =
     let some = fine (c .before .before .before .before .before .before .before .before .before) .system .accepted .size-positive in
     omega (arith, some)
 
--- src/solver.rt:376:9
 run-requires : tie.Need-run-requires
 run-requires c κs =
     let t = fine (c .before .before .before .before .before .before .before .before .before .before) in
     (t .system, (c .before .reciprocal .ensures, t .words-taken, t .room))
 
--- src/solver.rt:377:5
 finish-requires : tie.Need-finish-requires
 finish-requires c κs =
     let t = fine (c .before .before .before .before .before .before .before .before .before .before .before .before .before .before .before .before) in
     ((t .system, c .before .before .before .before .before .before .before .reciprocal .ensures), (closable (t .system) (c .before .before .before .before .before .run .ensures), t .vector-size, t .polynomial-size))
 
--- src/solver.rt:360:1
 same-length : tie.Need-same-length
 same-length c = search needs
 
--- src/solver.rt:360:1
 same-length-2 : tie.Need-same-length-2
 same-length-2 c = search needs
 
--- src/solver.rt:360:1
 same-length-3 : tie.Need-same-length-3
 same-length-3 c = search needs
 
--- src/solver.rt:360:1
 returns : tie.Need-returns
 returns c = closed (c .before .before .before .before .before .before .before .before .before .before .before .before .run .ensures) (c .before .before .before .before .before .before .finish .ensures)
 

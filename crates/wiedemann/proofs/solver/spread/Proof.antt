@@ -1,17 +1,14 @@
-use Rattle.wiedemann.specs.Written.{Written, written-none, written-more, written-all}
-use Rattle.wiedemann.specs.Region.{part, length-part, at-part, part-ext, written-part, written-next, written-table, written-copy}
-use Rattle.meaning.specs.List.{at, table, isZero}
+use Rattle.wiedemann.specs.Written.{Written, written-none, written-all}
+use Rattle.wiedemann.specs.Region.{part, written-next, written-table}
+use Rattle.meaning.specs.List.{at}
 use denote.Ref.{now}
-use lib.ListN.{length, getD, take, drop, set, length-set, length-drop, List·getD-eq-default}
+use lib.ListN.{length}
 use native.Mathlib.Omega.{arith}
-use Prim.Native.Nat.{ℕ, suc, _+_, _-_, _*_, _/_, _%_, _≤_, _<_}
-use mathlib.Core.Path.{_≡_, refl, sym, ap, ap₂, _∙_, subst}
+use Prim.Native.Nat.{_-_, _≤_, _<_}
+use mathlib.Core.Path.{refl}
 use borrow.Author.Needs.{needs}
 use Rattle.wiedemann.proofs.solver.spread.Statement.{statement}
 use Rattle.wiedemann.proofs.solver.spread.Tie as tie
-use Rattle.wiedemann.proofs.solver.spread.Reads as reads
-use Rattle.wiedemann.proofs.solver.spread.Lts as lts
-use Rattle.wiedemann.proofs.solver.padded_at.Reads as padded-at-reads
 
 abbrev Inv-loop : tie.InvT-loop
 Inv-loop work size out₀ i₀ out i = (i ≤ length out₀) × Written out₀ 0 i (at (part 0 size work)) out
@@ -19,42 +16,33 @@ Inv-loop work size out₀ i₀ out i = (i ≤ length out₀) × Written out₀ 0
 abbrev μ-loop : tie.MeasureT-loop
 μ-loop work size out₀ i₀ out i = length out₀ - i
 
--- src/solver.rt:243:5
 loop-holds : tie.Need-loop-holds Inv-loop μ-loop
 loop-holds c = (omega arith, written-none (now (c .before .before .args .out)) 0 (at (part 0 (c .before .before .args .size) (now (c .before .before .args .work)))))
 
--- src/solver.rt:244:18
 padded-at-requires : tie.Need-padded-at-requires Inv-loop μ-loop
 padded-at-requires c κs = search needs
 
--- src/solver.rt:244:9
 mul-out : tie.Need-mul-out Inv-loop μ-loop
 mul-out c = search needs
 
--- src/solver.rt:244:9
 slice-write-out : tie.Need-slice-write-out Inv-loop μ-loop
 slice-write-out c = search needs
 
--- src/solver.rt:245:9
 add-i : tie.Need-add-i Inv-loop μ-loop
 add-i c = search needs
 
--- src/solver.rt:243:5
 loop-less : tie.Need-loop-less Inv-loop μ-loop
 loop-less c = omega (arith, c .before .loop-test .taken, c .before .before .loop .inv .1 .same-length)
 
--- src/solver.rt:243:5
 loop-again : tie.Need-loop-again Inv-loop μ-loop
 loop-again c =
     let l = c .before .before .loop in
     let inside : l .i < length (now (c .before .before .before .before .before .args .out)) = omega (arith, c .before .loop-test .taken, l .inv .1 .same-length) in
     (omega (arith, inside), written-next (c .padded-at .result) (l .inv .1) inside (c .padded-at .ensures))
 
--- src/solver.rt:238:1
 same-length : tie.Need-same-length Inv-loop μ-loop
 same-length c = c .before .loop .inv .1 .same-length
 
--- src/solver.rt:238:1
 returns : tie.Need-returns Inv-loop μ-loop
 returns c =
     let a = c .before .before .before .before .args in

@@ -1,6 +1,6 @@
 -- `wiedemann::sums::remainder` meets its contract: Barrett's law at B = 2⁶⁴. Assumes nothing.
-use mathlib.Core.Path.{_≡_, sym, ap, _∙_}
-use Prim.Native.Nat.{ℕ, _+_, _*_, _-_, _/_, _%_, _≤_, _<_}
+use mathlib.Core.Path.{_≡_, ap, _∙_}
+use Prim.Native.Nat.{_*_, _-_, _/_, _%_, _≤_}
 use native.Mathlib.Omega.{arith}
 use Rattle.wiedemann.proofs.Shoup.{nearest, barrett-le, barrett-lt, barrett-mod}
 use borrow.Author.Needs.{needs}

@@ -2,14 +2,10 @@ use borrow.Author.Needs.{needs}
 use Rattle.wiedemann.specs.Sums.{words-fit}
 use Rattle.wiedemann.proofs.sums.times.Statement.{statement}
 use Rattle.wiedemann.proofs.sums.times.Tie as tie
-use Rattle.wiedemann.proofs.sums.times.Reads as reads
-use Rattle.wiedemann.proofs.sums.times.Lts as lts
 
--- src/sums.rt:23:5
 mul-result : tie.Need-mul-result
 mul-result c = record { fits = words-fit (c .args .a) (c .args .b) (c .fits .a .fits) (c .fits .b .fits) }
 
--- src/sums.rt:20:1
 returns : tie.Need-returns
 returns c = search needs
 

@@ -1,5 +1,5 @@
 -- `wiedemann::sums::upper` meets its contract: the law of the halves at B = 2³². Assumes nothing.
-use Prim.Native.Nat.{ℕ, _+_, _*_, _/_, _%_, _≤_, _<_}
+use Prim.Native.Nat.{ℕ, _*_, _/_, _%_, _≤_}
 use native.Mathlib.Nat.{mul-le-mul}
 use native.Mathlib.Omega.{arith}
 use Rattle.wiedemann.proofs.Upper.{upper-div}

@@ -3,24 +3,16 @@ use borrow.Author.Needs.{needs}
 use Rattle.wiedemann.specs.Sums.{add-number}
 use Rattle.wiedemann.proofs.sums.Total.add.Statement.{statement}
 use Rattle.wiedemann.proofs.sums.Total.add.Tie as tie
-use Rattle.wiedemann.proofs.sums.Total.add.Reads as reads
-use Rattle.wiedemann.proofs.sums.Total.add.Lts as lts
-use Rattle.wiedemann.proofs.sums.carry.Reads as carry-reads
-use Rattle.wiedemann.proofs.sums.plus.Reads as plus-reads
 
--- src/sums.rt:48:13
 plus-requires : tie.Need-plus-requires
 plus-requires c κs = search needs
 
--- src/sums.rt:51:31
 carry-requires : tie.Need-carry-requires
 carry-requires c κs = search needs
 
--- src/sums.rt:51:19
 add-t5 : tie.Need-add-t5
 add-t5 c = omega (arith, c .before .before .before .pre, c .before .carry .ensures .1)
 
--- src/sums.rt:44:5
 returns : tie.Need-returns
 returns c =
     let self = c .before .before .before .args .self in
