@@ -1,11 +1,13 @@
 -- The checks of a matrix, and what they leave known.
 --     columnTaken      6 for one entry: its column is below n, and below the next one of its row
+--     rises            a column is below the next one
 --     rowTaken         6 for one row
---     all-next, allFrom-none, allFrom-next, allFrom-not      tests along a loop
+--     all-more, all-next, allFrom-none, allFrom-more, allFrom-at, allFrom-of      tests along a loop
+--     row-last         6 for one row by its last column
 --     size-range, length-sizeTaken, rows-columnsTaken, all-elements      each check by what the code asks
 --     Ordered          starts that rise and stay within the entries
 use mathlib.Core.Path.{_≡_, refl, sym, ap, _∙_, subst}
-use mathlib.Core.Bool.{Bool, true, false, _&&_, _||_, not}
+use mathlib.Core.Bool.{Bool, true, _&&_, _||_, not}
 use mathlib.Core.List.{List, [], _∷_, _++_, append-assoc}
 use Prim.Native.Nat.{ℕ, zero, suc, _+_, _-_, _*_, _%_, _≤_, _<_}
 use native.Mathlib.Nat.{add-zero, sub-self, add-sub-of-le, le-refl, le-trans}
@@ -14,19 +16,23 @@ use native.Mathlib.Numerals.{add-one}
 use native.Mathlib.Omega.{arith}
 use lib.Dec.{eqb, ltb, leb}
 use lib.ListN.{length}
-use borrow.Author.Tests.{ltb-true, leb-true, eqb-true, not-false, le-leb, ne-eqb}
+use borrow.Author.Tests.{ltb-true, leb-true, eqb-true, lt-ltb, le-leb, lt-leb, ne-eqb}
 use Rattle.meaning.specs.List.{at, all, allFrom, every}
 use Rattle.meaning.specs.Field.{isPrime, isModulus}
 use Rattle.meaning.specs.Matrix.{Matrix, matrix, size}
 use Rattle.meaning.specs.Refusal.{Check, check, first, within, sizeTaken, startsTaken, columnsTaken, valueTaken, elements, matrixChecks}
 use Rattle.meaning.specs.Calls.{systemChecks, productRefusal, applyRefusal, takesRefusal}
 use Rattle.laws.specs.Bool.{and-left, and-right, and-both, same-test}
-use Rattle.laws.specs.List.{all-zero, all-suc, all-at, all-not, every-at, every-all}
-use Rattle.laws.specs.Refusal.{first-none, Numbered, first-append-zero}
+use Rattle.laws.specs.List.{all-zero, all-suc, all-at, all-of, every-at, every-all}
+use Rattle.laws.specs.Refusal.{first-passed, numbered-matrix, numbered-system, first-append-zero}
 use Rattle.checks.specs.Valid.{Valid, Vector}
 
 abbrev pub columnTaken : ℕ → ℕ → List ℕ → ℕ → Bool
 columnTaken n end columns k = ltb (at columns k) n && (leb end (k + 1) || ltb (at columns k) (at columns (k + 1)))
+
+-- column k is below the next one
+abbrev pub rises : List ℕ → ℕ → Bool
+rises columns k = ltb (at columns k) (at columns (k + 1))
 
 -- 6 for row i
 abbrev pub rowTaken : List ℕ → List ℕ → ℕ → Bool
@@ -39,20 +45,63 @@ pub record Ordered (starts : List ℕ) (count : ℕ) : Type 0 where
 
 -- ---- tests along a loop
 
+pub all-more : (n : ℕ) (f : ℕ → Bool) → all (n + 1) f ≡ all n f && f n
+all-more n f = ap (λ k. all k f) (add-one n) ∙ all-suc n f
+
 pub all-next : (n : ℕ) (f : ℕ → Bool) → all n f ≡ true → f n ≡ true → all (n + 1) f ≡ true
-all-next n f e h = ap (λ k. all k f) (add-one n) ∙ all-suc n f ∙ and-both e h
+all-next n f e h = all-more n f ∙ and-both e h
 
 module _ (a : ℕ) (f : ℕ → Bool) where
   pub allFrom-none : allFrom a a f ≡ true
   allFrom-none = ap (λ n. all n (λ j. f (a + j))) (sub-self a) ∙ all-zero (λ j. f (a + j))
 
-  pub allFrom-next : (k : ℕ) → a ≤ k → allFrom a k f ≡ true → f k ≡ true → allFrom a (k + 1) f ≡ true
-  allFrom-next k l e h =
+  pub allFrom-more : (k : ℕ) → a ≤ k → allFrom a (k + 1) f ≡ allFrom a k f && f k
+  allFrom-more k l =
       let one : k + 1 - a ≡ k - a + 1 = omega (arith, l) in
-      ap (λ n. all n (λ j. f (a + j))) one ∙ all-next (k - a) (λ j. f (a + j)) e (ap f (add-sub-of-le l) ∙ h)
+      ap (λ n. all n (λ j. f (a + j))) one ∙ all-more (k - a) (λ j. f (a + j)) ∙ ap (λ i. allFrom a k f && f i) (add-sub-of-le l)
 
-  pub allFrom-not : (b k : ℕ) → a ≤ k → k < b → f k ≡ false → allFrom a b f ≡ false
-  allFrom-not b k l m e = all-not (b - a) (λ j. f (a + j)) (k - a) (omega (arith, l, m)) (ap f (add-sub-of-le l) ∙ e)
+  pub allFrom-at : (b : ℕ) → allFrom a b f ≡ true → (k : ℕ) → a ≤ k → k < b → f k ≡ true
+  allFrom-at b e k l m =
+      ap f (sym (add-sub-of-le l)) ∙ all-at (b - a) (λ j. f (a + j)) e (k - a) (omega (arith, l, m))
+
+  pub allFrom-of : (b : ℕ) → ((k : ℕ) → a ≤ k → k < b → f k ≡ true) → allFrom a b f ≡ true
+  allFrom-of b h = all-of (b - a) (λ j. f (a + j)) (λ j l. h (a + j) (omega arith) (omega (arith, l)))
+
+-- ---- the columns of a row
+
+-- the last column of a row that rises is its greatest
+module _ (n from end : ℕ) (columns : List ℕ) where
+  below-last : allFrom from (end - 1) (rises columns) ≡ true → at columns (end - 1) < n → (d k : ℕ) → from ≤ k → k + d ≡ end - 1 → at columns k < n
+  below-last r h zero k l e = subst (λ i. at columns i < n) (sym e ∙ add-zero k) h
+  below-last r h (suc d) k l e =
+      let next = ltb-true (at columns k) (at columns (k + 1)) (allFrom-at from (rises columns) (end - 1) r k l (omega (arith, e))) in
+      let ih = below-last r h d (k + 1) (omega (arith, l)) (omega (arith, e)) in
+      omega (arith, next, ih)
+
+  -- so it alone is to be held against n
+  pub row-last : from < end → allFrom from end (columnTaken n end columns) ≡ allFrom from (end - 1) (rises columns) && ltb (at columns (end - 1)) n
+  row-last some = same-test (allFrom from end (columnTaken n end columns)) (allFrom from (end - 1) (rises columns) && ltb (at columns (end - 1)) n) to back
+    where
+      to : allFrom from end (columnTaken n end columns) ≡ true → allFrom from (end - 1) (rises columns) && ltb (at columns (end - 1)) n ≡ true
+      to e =
+          let here = allFrom-at from (columnTaken n end columns) end e in
+          and-both
+          (allFrom-of from (rises columns) (end - 1)
+          (λ k l m. ap (λ t. t || rises columns k) (sym (lt-leb end (k + 1) (omega (arith, m))))
+          ∙ and-right (ltb (at columns k) n) (leb end (k + 1) || rises columns k) (here k l (omega (arith, m)))))
+          (and-left (ltb (at columns (end - 1)) n) (leb end (end - 1 + 1) || rises columns (end - 1)) (here (end - 1) (omega (arith, some)) (omega (arith, some))))
+
+      back : allFrom from (end - 1) (rises columns) && ltb (at columns (end - 1)) n ≡ true → allFrom from end (columnTaken n end columns) ≡ true
+      back e =
+          let r = and-left (allFrom from (end - 1) (rises columns)) (ltb (at columns (end - 1)) n) e in
+          let h = ltb-true (at columns (end - 1)) n (and-right (allFrom from (end - 1) (rises columns)) (ltb (at columns (end - 1)) n) e) in
+          allFrom-of from (columnTaken n end columns) end
+          (λ k l m. and-both (lt-ltb (at columns k) n (below-last r h (end - 1 - k) k l (omega (arith, m)))) (next r k l (decLt (k + 1) end)))
+        where
+          next : allFrom from (end - 1) (rises columns) ≡ true → (k : ℕ) → from ≤ k → Dec (k + 1 < end) → leb end (k + 1) || rises columns k ≡ true
+          next r k l (yes m) =
+              ap (λ t. t || rises columns k) (lt-leb end (k + 1) m) ∙ allFrom-at from (rises columns) (end - 1) r k l (omega (arith, m))
+          next r k l (no m) = ap (λ t. t || rises columns k) (le-leb end (k + 1) (omega (arith, m)))
 
 -- ---- each check by what the code asks
 
@@ -177,9 +226,7 @@ module _ (A : Matrix) (h : Started A) where
 
       here : at (A .starts) i ≤ k → columnTaken (size A) (at (A .starts) (i + 1)) (A .columns) k ≡ true
       here m =
-          ap (columnTaken (size A) (at (A .starts) (i + 1)) (A .columns)) (sym (add-sub-of-le m))
-          ∙ all-at (at (A .starts) (i + 1) - at (A .starts) i)
-          (λ j. columnTaken (size A) (at (A .starts) (i + 1)) (A .columns) (at (A .starts) i + j)) taken (k - at (A .starts) i) (omega (arith, m, b, next))
+          allFrom-at (at (A .starts) i) (columnTaken (size A) (at (A .starts) (i + 1)) (A .columns)) (at (A .starts) (i + 1)) taken k m (omega (arith, b, next))
 
       side : Dec (k < at (A .starts) i) → (k < at (A .starts) i → at (A .columns) k < size A) → at (A .columns) k < size A
       side (yes m) ih = ih m
@@ -215,20 +262,15 @@ vector-of p v n e h =
 
 -- ---- a matrix
 
-pub numbered-matrix : (p : ℕ) (A : Matrix) → Numbered (matrixChecks p A)
-unfolding matrixChecks every
-numbered-matrix p A = refl
-
 pub matrix-valid : (p : ℕ) (A : Matrix) → first (matrixChecks p A) ≡ 0 → Valid p A
 unfolding matrixChecks
 matrix-valid p A e =
-    let c3 = first-none 3 (not (isModulus p)) (check 4 (not (sizeTaken A)) ∷ check 5 (not (startsTaken A)) ∷ check 6 (not (columnsTaken A)) ∷ check 7 (not (every (valueTaken p) (A .values))) ∷ []) (λ z. omega (arith, z)) e in
-    let c4 = first-none 4 (not (sizeTaken A)) (check 5 (not (startsTaken A)) ∷ check 6 (not (columnsTaken A)) ∷ check 7 (not (every (valueTaken p) (A .values))) ∷ []) (λ z. omega (arith, z)) (c3 .1) in
-    let c5 = first-none 5 (not (startsTaken A)) (check 6 (not (columnsTaken A)) ∷ check 7 (not (every (valueTaken p) (A .values))) ∷ []) (λ z. omega (arith, z)) (c4 .1) in
-    let c6 = first-none 6 (not (columnsTaken A)) (check 7 (not (every (valueTaken p) (A .values))) ∷ []) (λ z. omega (arith, z)) (c5 .1) in
-    let c7 = first-none 7 (not (every (valueTaken p) (A .values))) [] (λ z. omega (arith, z)) (c6 .1) in
-    valid-of p A (not-false (isModulus p) (c3 .0)) (not-false (sizeTaken A) (c4 .0)) (not-false (startsTaken A) (c5 .0))
-    (not-false (columnsTaken A) (c6 .0)) (not-false (every (valueTaken p) (A .values)) (c7 .0))
+    let c3 = first-passed 3 (isModulus p) _ (omega arith) e in
+    let c4 = first-passed 4 (sizeTaken A) _ (omega arith) (c3 .1) in
+    let c5 = first-passed 5 (startsTaken A) _ (omega arith) (c4 .1) in
+    let c6 = first-passed 6 (columnsTaken A) _ (omega arith) (c5 .1) in
+    let c7 = first-passed 7 (every (valueTaken p) (A .values)) _ (omega arith) (c6 .1) in
+    valid-of p A (c3 .0) (c4 .0) (c5 .0) (c6 .0) (c7 .0)
 
 -- ---- the calls' checks
 
@@ -248,17 +290,9 @@ pub system-accepted : (p : ℕ) (A : Matrix) (b : List ℕ) → first (systemChe
 unfolding systemChecks
 system-accepted p A b e =
     let both = first-append-zero (matrixChecks p A) (vectorChecks p A b) (numbered-matrix p A) e in
-    let c8 = first-none 8 (not (eqb (length b) (size A))) (check 9 (not (elements p b)) ∷ []) (λ z. omega (arith, z)) (both .1) in
-    let c9 = first-none 9 (not (elements p b)) [] (λ z. omega (arith, z)) (c8 .1) in
-    record {
-      valid = matrix-valid p A (both .0);
-      vector =
-          vector-of p b (size A) (eqb-true (length b) (size A) (not-false (eqb (length b) (size A)) (c8 .0))) (not-false (elements p b) (c9 .0));
-    }
-
-pub numbered-system : (p : ℕ) (A : Matrix) (b : List ℕ) → Numbered (systemChecks p A b)
-unfolding systemChecks matrixChecks every
-numbered-system p A b = refl
+    let c8 = first-passed 8 (eqb (length b) (size A)) _ (omega arith) (both .1) in
+    let c9 = first-passed 9 (elements p b) _ (omega arith) (c8 .1) in
+    record { valid = matrix-valid p A (both .0); vector = vector-of p b (size A) (eqb-true (length b) (size A) (c8 .0)) (c9 .0) }
 
 -- a product's checks are the system's, and then its slice's
 pub productRefusal-system : (p : ℕ) (A : Matrix) (v out : List ℕ)
@@ -272,8 +306,8 @@ productRefusal-system p A v out =
 pub product-accepted : (p : ℕ) (A : Matrix) (v out : List ℕ) → productRefusal p A v out ≡ 0 → Accepted p A v × (length out ≡ size A)
 product-accepted p A v out e =
     let both = first-append-zero (systemChecks p A v) (check 11 (not (eqb (length out) (size A))) ∷ []) (numbered-system p A v) (sym (productRefusal-system p A v out) ∙ e) in
-    let c11 = first-none 11 (not (eqb (length out) (size A))) [] (λ z. omega (arith, z)) (both .1) in
-    (system-accepted p A v (both .0), eqb-true (length out) (size A) (not-false (eqb (length out) (size A)) (c11 .0)))
+    let c11 = first-passed 11 (eqb (length out) (size A)) _ (omega arith) (both .1) in
+    (system-accepted p A v (both .0), eqb-true (length out) (size A) (c11 .0))
 
 abbrev pub applyChecks : ℕ → Matrix → List ℕ → List ℕ → List ℕ → List ℕ → List Check
 applyChecks p A g v out work =
@@ -299,17 +333,12 @@ pub record Applicable (p : ℕ) (A : Matrix) (g v out work : List ℕ) : Type 0 
 pub apply-accepted : (p : ℕ) (A : Matrix) (g v out work : List ℕ) → applyRefusal p A g v out work ≡ 0 → Applicable p A g v out work
 apply-accepted p A g v out work e =
     let both = first-append-zero (matrixChecks p A) (applyChecks p A g v out work) (numbered-matrix p A) (sym (applyRefusal-parts p A g v out work) ∙ e) in
-    let c8 =
-    first-none 8 (not (within 1 (size A + 1) (length g) && eqb (length v) (size A)))
-    (check 9 (not (elements p g && elements p v)) ∷ check 11 (not (eqb (length out) (size A) && leb (2 * size A) (length work))) ∷ [])
-    (λ z. omega (arith, z)) (both .1) in
-    let c9 =
-    first-none 9 (not (elements p g && elements p v)) (check 11 (not (eqb (length out) (size A) && leb (2 * size A) (length work))) ∷ [])
-    (λ z. omega (arith, z)) (c8 .1) in
-    let c11 = first-none 11 (not (eqb (length out) (size A) && leb (2 * size A) (length work))) [] (λ z. omega (arith, z)) (c9 .1) in
-    let lengths = not-false (within 1 (size A + 1) (length g) && eqb (length v) (size A)) (c8 .0) in
-    let below = not-false (elements p g && elements p v) (c9 .0) in
-    let slices = not-false (eqb (length out) (size A) && leb (2 * size A) (length work)) (c11 .0) in
+    let c8 = first-passed 8 (within 1 (size A + 1) (length g) && eqb (length v) (size A)) _ (omega arith) (both .1) in
+    let c9 = first-passed 9 (elements p g && elements p v) _ (omega arith) (c8 .1) in
+    let c11 = first-passed 11 (eqb (length out) (size A) && leb (2 * size A) (length work)) _ (omega arith) (c9 .1) in
+    let lengths = c8 .0 in
+    let below = c9 .0 in
+    let slices = c11 .0 in
     let range = and-left (within 1 (size A + 1) (length g)) (eqb (length v) (size A)) lengths in
     record {
       valid = matrix-valid p A (both .0);
@@ -333,12 +362,10 @@ takesRefusal-parts p A x b = refl
 pub takes-accepted : (p : ℕ) (A : Matrix) (x b : List ℕ) → takesRefusal p A x b ≡ 0 → Accepted p A x × (length b ≡ size A)
 takes-accepted p A x b e =
     let both = first-append-zero (matrixChecks p A) (takesChecks p A x b) (numbered-matrix p A) (sym (takesRefusal-parts p A x b) ∙ e) in
-    let c8 =
-    first-none 8 (not (eqb (length x) (size A) && eqb (length b) (size A))) (check 9 (not (elements p x && elements p b)) ∷ [])
-    (λ z. omega (arith, z)) (both .1) in
-    let c9 = first-none 9 (not (elements p x && elements p b)) [] (λ z. omega (arith, z)) (c8 .1) in
-    let lengths = not-false (eqb (length x) (size A) && eqb (length b) (size A)) (c8 .0) in
-    let below = not-false (elements p x && elements p b) (c9 .0) in (
+    let c8 = first-passed 8 (eqb (length x) (size A) && eqb (length b) (size A)) _ (omega arith) (both .1) in
+    let c9 = first-passed 9 (elements p x && elements p b) _ (omega arith) (c8 .1) in
+    let lengths = c8 .0 in
+    let below = c9 .0 in (
       record {
         valid = matrix-valid p A (both .0);
         vector =

@@ -9,14 +9,14 @@ use Prim.Native.Nat.{ℕ, _+_, _*_, _≤_, _<_}
 use native.Mathlib.Omega.{arith}
 use lib.Dec.{eqb, leb}
 use lib.ListN.{length}
-use borrow.Author.Tests.{eq-eqb, ne-eqb, le-leb, lt-leb, leb-true, eqb-true, ltb-true, not-false}
+use borrow.Author.Tests.{eq-eqb, ne-eqb, le-leb, lt-leb, leb-true, eqb-true, ltb-true}
 use Rattle.meaning.specs.List.{at}
 use Rattle.meaning.specs.Field.{isModulus}
 use Rattle.meaning.specs.Refusal.{Check, check, first, elements}
 use Rattle.meaning.specs.Calls.{recurrenceRefusal}
 use Rattle.laws.specs.Bool.{and-left, and-right, and-both, and-false-left, and-false-right}
 use Rattle.laws.specs.List.{every-at}
-use Rattle.laws.specs.Refusal.{first-nil, first-past, first-stops, first-none}
+use Rattle.laws.specs.Refusal.{first-nil, first-past, first-stops, first-passed}
 
 module _ (p : ℕ) (s polynomial work : List ℕ) where
   abbrev room : Check
@@ -83,16 +83,15 @@ pub record Accepted (p : ℕ) (s polynomial work : List ℕ) : Type 0 where
 pub accepted : (p : ℕ) (s polynomial work : List ℕ) → recurrenceRefusal p s polynomial work ≡ 0 → Accepted p s polynomial work
 unfolding recurrenceRefusal elements
 accepted p s polynomial work z =
-    let a = first-none 3 (not (isModulus p)) _ (omega arith) z in
-    let b = first-none 8 (not (leb (length s) 8192)) _ (omega arith) (a .1) in
-    let c = first-none 9 (not (elements p s)) _ (omega arith) (b .1) in
-    let d = first-none 11 (not (eqb (length polynomial) (length s + 1) && leb (4 * length s + 8) (length work))) _ (omega arith) (c .1) in
-    let e = not-false (eqb (length polynomial) (length s + 1) && leb (4 * length s + 8) (length work)) (d .0) in
+    let a = first-passed 3 (isModulus p) _ (omega arith) z in
+    let b = first-passed 8 (leb (length s) 8192) _ (omega arith) (a .1) in
+    let c = first-passed 9 (elements p s) _ (omega arith) (b .1) in
+    let e = first-passed 11 (eqb (length polynomial) (length s + 1) && leb (4 * length s + 8) (length work)) _ (omega arith) (c .1) .0 in
     record {
       none = z;
-      modulus = not-false (isModulus p) (a .0);
-      few = leb-true (length s) 8192 (not-false (leb (length s) 8192) (b .0));
-      below = λ i l. ltb-true (at s i) p (every-at _ s 0 (not-false (elements p s) (c .0)) i l);
+      modulus = a .0;
+      few = leb-true (length s) 8192 (b .0);
+      below = λ i l. ltb-true (at s i) p (every-at _ s 0 (c .0) i l);
       size = eqb-true (length polynomial) (length s + 1) (and-left (eqb (length polynomial) (length s + 1)) _ e);
       room = leb-true (4 * length s + 8) (length work) (and-right (eqb (length polynomial) (length s + 1)) _ e);
     }

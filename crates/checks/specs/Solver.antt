@@ -3,7 +3,7 @@
 --     refusal-system, refusal-words, refusal-slices, refusal-none      the number, by the first check that turns the input down
 --     run-none               no check of a run turns the input down
 --     not-multiple, too-many, words-fit; vector-off, polynomial-off, work-off, slices-fit      10 and 11 by what the code asks
-use mathlib.Core.Path.{_≡_, refl, sym, ap, _∙_}
+use mathlib.Core.Path.{_≡_, sym, ap, _∙_}
 use mathlib.Core.Logic.{_≢_}
 use mathlib.Core.Bool.{Bool, true, false, not, _&&_}
 use mathlib.Core.List.{List, [], _∷_, _++_}
@@ -12,20 +12,14 @@ use native.Mathlib.Omega.{arith}
 use lib.Dec.{eqb, leb}
 use lib.ListN.{length}
 use borrow.Author.Tests.{eq-eqb, ne-eqb, le-leb, lt-leb}
-use Rattle.meaning.specs.List.{every}
 use Rattle.meaning.specs.Matrix.{Matrix, size}
-use Rattle.meaning.specs.Refusal.{Check, check, first, matrixChecks, wordsTaken}
+use Rattle.meaning.specs.Refusal.{Check, check, first, wordsTaken}
 use Rattle.meaning.specs.Calls.{systemChecks, runChecks, solverRefusal}
 use Rattle.laws.specs.Bool.{and-both, and-false-left, and-false-right}
-use Rattle.laws.specs.Refusal.{first-stops, first-past, first-nil, Numbered, first-append-none, first-append-some}
-use Rattle.checks.specs.Matrix.{numbered-system}
+use Rattle.laws.specs.Refusal.{first-stops, first-past, first-nil, numbered-system, numbered-run, first-append-none, first-append-some}
 
 abbrev pub slicesTaken : ℕ → List ℕ → List ℕ → List ℕ → Bool
 slicesTaken n v f w = eqb (length v) n && eqb (length f) (n + 1) && leb (16 * n + 16) (length w)
-
-pub numbered-run : (p : ℕ) (A : Matrix) (b words : List ℕ) → Numbered (runChecks p A b words)
-unfolding runChecks systemChecks matrixChecks every
-numbered-run p A b words = refl
 
 module _ (p : ℕ) (A : Matrix) (b words v f w : List ℕ) where
   T : List Check

@@ -1,10 +1,10 @@
 // Document 01, "Where a system stops": what a call of the library is refused for. Each check covers the whole input before the next, and every
 // function here answers for all inputs: a test, or the number of the first check that turns the input down, 0 if none does.
+// The tests of entries and elements go through to the end and join by `&`: a loop without branches is compiled to vector instructions.
 //
 // The contracts cite the crate meaning (Refusal: the checks; Calls: their order for each call).
 use field::is_modulus;
 ghost use mathlib.Core.Path.{_≡_};
-ghost use mathlib.Core.Bool.{true, _&&_, _||_};
 ghost use mathlib.Core.List.{[]};
 ghost use Prim.Native.Nat.{_+_, _-_, _≤_, _<_};
 ghost use lib.Dec.{leb};
@@ -13,7 +13,7 @@ ghost use Rattle.meaning.specs.List.{at, all, allFrom, every};
 ghost use Rattle.meaning.specs.Matrix.{matrix};
 ghost use Rattle.meaning.specs.Refusal.{first, within, elements, sizeTaken, startsTaken, columnsTaken, valueTaken, matrixChecks};
 ghost use Rattle.meaning.specs.Calls.{systemChecks, productRefusal, applyRefusal, takesRefusal, recurrenceRefusal, solverRefusal};
-ghost use Rattle.checks.specs.Matrix.{columnTaken, Ordered};
+ghost use Rattle.checks.specs.Matrix.{columnTaken, rises, Ordered};
 
 // A number of 32 bits as an index.
 pub fn wide(x: u32) -> usize
@@ -63,26 +63,29 @@ fn starts_taken(starts: &[u32], columns: &[u32], values: &[u32]) -> bool
     columns.len() <= 65536
 }
 
-// A column is below n, and below the next one of its row, which ends at `end`.
-fn column_taken(n: usize, k: usize, end: usize, columns: &[u32]) -> bool
-    requires { ⌜ (k < end) × (end ≤ length (now columns)) ⌝ }
-    ensures { λ r. ⌜ r ≡ columnTaken n end (now (columns .entry)) k ⌝ }
+// The columns from `from` to `last` rise strictly.
+fn columns_rise(from: usize, last: usize, columns: &[u32]) -> bool
+    requires { ⌜ (from ≤ last) × (last < length (now columns)) ⌝ }
+    ensures { λ r. ⌜ r ≡ allFrom from last (rises (now (columns .entry))) ⌝ }
 {
-    wide(columns[k]) < n && (end <= k + 1 || columns[k] < columns[k + 1])
+    let mut rise = true;
+    let mut k = from;
+    while k < last {
+        rise = rise & (columns[k] < columns[k + 1]);
+        k += 1;
+    }
+    rise
 }
 
+// 6 for a row. Its last column is its greatest if they rise, so no other one is held against n.
 fn row_taken(n: usize, from: usize, end: usize, columns: &[u32]) -> bool
     requires { ⌜ (from ≤ end) × (end ≤ length (now columns)) ⌝ }
     ensures { λ r. ⌜ r ≡ allFrom from end (columnTaken n end (now (columns .entry))) ⌝ }
 {
-    let mut k = from;
-    while k < end {
-        if !column_taken(n, k, end, columns) {
-            return false;
-        }
-        k += 1;
+    if from == end {
+        return true;
     }
-    true
+    columns_rise(from, end - 1, columns) & (wide(columns[end - 1]) < n)
 }
 
 // 6: the columns, row after row.
@@ -105,31 +108,26 @@ fn columns_taken(starts: &[u32], columns: &[u32]) -> bool
 fn values_taken(p: u32, values: &[u32]) -> bool
     ensures { λ r. ⌜ r ≡ every (valueTaken p) (now (values .entry)) ⌝ }
 {
+    let mut taken = true;
     let mut k = 0;
     while k < values.len() {
-        if values[k] == 0 {
-            return false;
-        }
-        if values[k] >= p {
-            return false;
-        }
+        taken = taken & ((values[k] >= 1) & (values[k] < p));
         k += 1;
     }
-    true
+    taken
 }
 
 // 9: every element is below p.
 pub fn are_elements(p: u32, v: &[u32]) -> bool
     ensures { λ r. ⌜ r ≡ elements p (now (v .entry)) ⌝ }
 {
+    let mut below = true;
     let mut i = 0;
     while i < v.len() {
-        if v[i] >= p {
-            return false;
-        }
+        below = below & (v[i] < p);
         i += 1;
     }
-    true
+    below
 }
 
 // 3 to 7, in their order: the number of the first that turns the field or the matrix down, 0 if none does.

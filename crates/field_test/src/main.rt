@@ -23,11 +23,6 @@ fn empty() -> Line {
     }
 }
 
-// n with one more digit, modulo 2^32.
-fn shifted(n: u32, digit: u8) -> u32 {
-    ((n as u64 * 10 + digit as u64) % 4294967296) as u32
-}
-
 fn next(line: Line, c: u8) -> Line {
     if c == b' ' {
         return Line {
@@ -49,7 +44,7 @@ fn next(line: Line, c: u8) -> Line {
         letter: line.letter,
         x: line.x,
         y: line.y,
-        z: shifted(line.z, c - b'0'),
+        z: test_io::with_digit(line.z, c),
     }
 }
 

@@ -9,16 +9,16 @@ use native.Mathlib.Omega.{arith}
 use lib.Dec.{eqb, leb}
 use lib.ListN.{length}
 use borrow.Author.Tests.{eqb-true, eq-eqb, leb-true}
-use Rattle.meaning.specs.List.{every}
 use Rattle.meaning.specs.Matrix.{Matrix}
 use Rattle.meaning.specs.Field.{isModulus}
 use Rattle.meaning.specs.Recurrence.{degree}
 use Rattle.meaning.specs.Text.{write}
-use Rattle.meaning.specs.Refusal.{check, first, elements, matrixChecks}
+use Rattle.meaning.specs.Refusal.{check, first, elements}
 use Rattle.meaning.specs.Calls.{recurrenceRefusal, recurrenceAnswer, systemChecks, writerRefusal, writerAnswer}
+use Rattle.laws.specs.Refusal.{first-passed, numbered-system, first-append-zero}
 use Rattle.residue.specs.Prime.{isModulus-Prime}
 use Rattle.bridge.specs.Recurrence.{degree-within}
-use Rattle.text_laws.specs.Accepted.{numbered, first-passed, first-left, system-accepted}
+use Rattle.text_laws.specs.Accepted.{system-accepted}
 use Rattle.text_laws.specs.Length.{write-within}
 
 module _ (p : ℕ) (s polynomial work : List ℕ) where
@@ -39,13 +39,9 @@ module _ (p : ℕ) (s polynomial work : List ℕ) where
       )
 
 module _ (p : ℕ) (A : Matrix) (b out : List ℕ) where
-  system-numbered : numbered (systemChecks p A b) ≡ true
-  unfolding numbered every systemChecks matrixChecks
-  system-numbered = refl
-
   system-taken : writerRefusal p A b out ≡ 0 → first (systemChecks p A b) ≡ 0
   unfolding writerRefusal
-  system-taken = first-left (systemChecks p A b) (check 11 (not (leb (length (write p A b)) (length out))) ∷ []) system-numbered
+  system-taken e = first-append-zero (systemChecks p A b) _ (numbered-system p A b) e .0
 
   pub length-small : writerAnswer p A b out ≤ 2097152
   length-small = go (eqb (writerRefusal p A b out) 0) refl

@@ -3,20 +3,27 @@
 --     first-past                     past a check that does not turn the input down
 --     first-stops                    at one that does
 --     first-none                     where no check turns the input down, the first does not, nor do the rest
+--     first-passed, first-pass       the same of a check that asks whether something fails: it holds; and back
 --     Numbered cs                    no check is numbered 0
---     first-append-none, first-append-some, first-append-zero      checks followed by further ones
+--     numbered-matrix, numbered-system, numbered-run, numbered-text      .. of document 01's
+--     first-append-none, first-append-some, first-append, first-append-zero      checks followed by further ones
+--     no-words                       an empty list of words is taken
 --     unlessRefused-none, unlessRefused-some                       what is left behind, by the number
 use mathlib.Core.Path.{_≡_, refl, sym, ap, _∙_}
 use mathlib.Core.Logic.{_≢_}
 use mathlib.Core.Bool.{Bool, true, false, cond, not}
 use mathlib.Core.List.{List, [], _∷_, _++_}
-use Prim.Native.Nat.{ℕ}
+use Prim.Native.Nat.{ℕ, _*_, _%_}
+use native.Mathlib.Nat.{zero-mod}
+use native.Mathlib.Omega.{arith}
 use native.Mathlib.Decide.{ℕ-discrete}
 use lib.Dec.{eqb}
-use borrow.Author.Tests.{eqb-false, not-true, eq-eqb, ne-eqb}
+use borrow.Author.Tests.{eqb-false, not-true, not-false, eq-eqb, ne-eqb, le-leb}
 use Rattle.meaning.specs.List.{every}
-use Rattle.meaning.specs.Refusal.{Check, check, first, unlessRefused}
-use Rattle.laws.specs.Bool.{and-left, and-right}
+use Rattle.meaning.specs.Matrix.{Matrix}
+use Rattle.meaning.specs.Refusal.{Check, check, first, unlessRefused, matrixChecks, wordsTaken, documentChecks}
+use Rattle.meaning.specs.Calls.{systemChecks, runChecks, textChecks}
+use Rattle.laws.specs.Bool.{and-left, and-right, and-both}
 use Rattle.laws.specs.List.{every-cons}
 
 pub first-nil : first [] ≡ 0
@@ -37,9 +44,31 @@ pub first-none : (k : ℕ) (t : Bool) (cs : List Check) → k ≢ 0 → first (c
 first-none k true cs q e = absurd (q (sym (first-stops k true cs refl) ∙ e))
 first-none k false cs q e = (refl, sym (first-past k false cs refl) ∙ e)
 
+pub first-passed : (k : ℕ) (t : Bool) (cs : List Check) → k ≢ 0 → first (check k (not t) ∷ cs) ≡ 0 → (t ≡ true) × (first cs ≡ 0)
+first-passed k t cs q e = let none = first-none k (not t) cs q e in (not-false t (none .0), none .1)
+
+pub first-pass : (k : ℕ) (t : Bool) (cs : List Check) → t ≡ true → first cs ≡ 0 → first (check k (not t) ∷ cs) ≡ 0
+first-pass k t cs h e = first-past k (not t) cs (ap not h) ∙ e
+
 -- no check is numbered 0
 abbrev pub Numbered : List Check → Type 0
 Numbered cs = every (λ c. not (eqb (c .number) 0)) cs ≡ true
+
+pub numbered-matrix : (p : ℕ) (A : Matrix) → Numbered (matrixChecks p A)
+unfolding matrixChecks every
+numbered-matrix p A = refl
+
+pub numbered-system : (p : ℕ) (A : Matrix) (b : List ℕ) → Numbered (systemChecks p A b)
+unfolding systemChecks matrixChecks every
+numbered-system p A b = refl
+
+pub numbered-run : (p : ℕ) (A : Matrix) (b words : List ℕ) → Numbered (runChecks p A b words)
+unfolding runChecks systemChecks matrixChecks every
+numbered-run p A b words = refl
+
+pub numbered-text : (text : List ℕ) → Numbered (textChecks text)
+unfolding textChecks documentChecks every
+numbered-text text = refl
 
 pub first-append-none : (cs ds : List Check) → Numbered cs → first cs ≡ 0 → first (cs ++ ds) ≡ first ds
 first-append-none [] ds n e = refl
@@ -60,6 +89,13 @@ first-append-some (c ∷ cs) ds q = go (c .turnsDown) refl (first-append-some cs
         first-past (c .number) (c .turnsDown) (cs ++ ds) e ∙ ih (λ z. q (first-past (c .number) (c .turnsDown) cs e ∙ z))
         ∙ sym (first-past (c .number) (c .turnsDown) cs e)
 
+pub first-append : (cs ds : List Check) → Numbered cs → first (cs ++ ds) ≡ unlessRefused (first cs) (first ds) (first cs)
+first-append cs ds n = go (ℕ-discrete (first cs) 0)
+  where
+    go : Dec (first cs ≡ 0) → first (cs ++ ds) ≡ unlessRefused (first cs) (first ds) (first cs)
+    go (yes z) = first-append-none cs ds n z ∙ ap (λ t. cond t (first ds) (first cs)) (sym (eq-eqb (first cs) 0 z))
+    go (no q) = first-append-some cs ds q ∙ ap (λ t. cond t (first ds) (first cs)) (sym (ne-eqb (first cs) 0 q))
+
 pub first-append-zero : (cs ds : List Check) → Numbered cs → first (cs ++ ds) ≡ 0 → (first cs ≡ 0) × (first ds ≡ 0)
 first-append-zero cs ds n e = go (ℕ-discrete (first cs) 0)
   where
@@ -73,3 +109,7 @@ module _ {A : Type 0} where
 
   pub unlessRefused-some : (k : ℕ) (new old : A) → k ≢ 0 → unlessRefused k new old ≡ old
   unlessRefused-some k new old q = ap (λ t. cond t new old) (ne-eqb k 0 q)
+
+pub no-words : (n : ℕ) → wordsTaken n [] ≡ true
+unfolding wordsTaken
+no-words n = and-both (eq-eqb (0 % n) 0 (zero-mod n)) (le-leb 0 (64 * n) (omega arith))

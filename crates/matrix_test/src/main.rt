@@ -2,109 +2,20 @@
 // v, b, out and work, two numbers that make a large case, and what the first six slices hold unless it is made. The slices to be written hold
 // 4,294,967,295 in every place before each call. Writes what each call answers and, of the three that write a slice, all its places (of a made
 // case their checksum). vectors.py writes the cases and the answers.
+use checks::wide;
 use field::Field;
-use libc::STDIN_FILENO;
 use libc::STDOUT_FILENO;
+use test_io::Cursor;
+use test_io::fill;
+use test_io::first;
+use test_io::numbers;
+use test_io::show;
+use test_io::show_refused;
+use test_io::store;
 use wiedemann::matrix::Writing;
 use wiedemann::offered::Verdict;
 ghost use Prim.Native.Nat.{_≤_};
 ghost use lib.ListN.{length};
-
-// Where the input is read: bytes `at` to `end` of the buffer are next. `value` is the number so far; `more` says that it may go on.
-struct Cursor {
-    at: usize,
-    end: usize,
-    value: u32,
-    more: bool,
-}
-
-fn digit(value: u32, byte: u8) -> u32 {
-    ((value as u64 * 10 + (byte % 16) as u64) % 4294967296) as u32
-}
-
-fn next(buffer: &mut [u8], c: Cursor) -> Cursor {
-    if !c.more {
-        return c;
-    }
-    let at = c.at;
-    if at < c.end {
-        if at < buffer.len() {
-            let byte = buffer[at];
-            if byte >= 48 {
-                return Cursor {
-                    at: at + 1,
-                    end: c.end,
-                    value: digit(c.value, byte),
-                    more: true,
-                };
-            }
-            return Cursor {
-                at: at + 1,
-                end: c.end,
-                value: c.value,
-                more: false,
-            };
-        }
-    }
-    let end = io::count(libc::read(STDIN_FILENO, buffer), buffer);
-    Cursor {
-        at: 0,
-        end,
-        value: c.value,
-        more: end > 0,
-    }
-}
-
-// The next number: its digits, one byte after them, and perhaps a new bufferful.
-fn number(buffer: &mut [u8], start: Cursor) -> Cursor {
-    let mut c = Cursor {
-        at: start.at,
-        end: start.end,
-        value: 0,
-        more: true,
-    };
-    let mut k: usize = 0;
-    while k < 16 {
-        c = next(buffer, c);
-        k += 1;
-    }
-    c
-}
-
-fn store(s: &mut [u32], i: usize, value: u32) {
-    if i < s.len() {
-        s[i] = value;
-    }
-}
-
-fn numbers(buffer: &mut [u8], start: Cursor, s: &mut [u32], from: usize, to: usize) -> Cursor {
-    let mut c = start;
-    let mut i = from;
-    while i < to {
-        c = number(buffer, c);
-        store(s, i, c.value);
-        i += 1;
-    }
-    c
-}
-
-fn fill(s: &mut [u32]) {
-    let mut i = 0;
-    while i < s.len() {
-        s[i] = 4294967295;
-        i += 1;
-    }
-}
-
-fn show(s: &[u32]) {
-    let mut i = 0;
-    while i < s.len() {
-        io::write_all(STDOUT_FILENO, b" ");
-        io::print_decimal(STDOUT_FILENO, s[i] as u64);
-        i += 1;
-    }
-    io::write_all(STDOUT_FILENO, b"\n");
-}
 
 // A checksum of all places, in their order.
 fn checksum(s: &[u32]) -> u64 {
@@ -140,11 +51,6 @@ fn is_filled(s: &[u32]) -> bool {
         i += 1;
     }
     true
-}
-
-fn show_refused(number: u32) {
-    io::write_all(STDOUT_FILENO, b"refused ");
-    io::print_decimal(STDOUT_FILENO, number as u64);
 }
 
 fn show_writing(w: Writing, whole: bool, out: &[u32]) {
@@ -197,7 +103,7 @@ fn product(
     v: &[u32],
     out: &mut [u32],
 ) {
-    fill(out);
+    fill(out, 4294967295);
     let answer = wiedemann::matrix::product(Field { p }, starts, columns, values, v, out);
     show_writing(answer, whole, out);
     show_verdict(wiedemann::offered::takes(Field { p }, starts, columns, values, v, out));
@@ -212,7 +118,7 @@ fn transposed(
     v: &[u32],
     out: &mut [u32],
 ) {
-    fill(out);
+    fill(out, 4294967295);
     let answer = wiedemann::matrix::transposed(Field { p }, starts, columns, values, v, out);
     show_writing(answer, whole, out);
 }
@@ -228,8 +134,8 @@ fn apply(
     out: &mut [u32],
     work: &mut [u32],
 ) {
-    fill(out);
-    fill(work);
+    fill(out, 4294967295);
+    fill(work, 4294967295);
     let answer = wiedemann::matrix::apply(Field { p }, starts, columns, values, g, v, out, work);
     show_applied(answer, whole, out, work);
 }
@@ -255,12 +161,6 @@ fn calls(
     transposed(p, whole, starts, columns, values, v, out);
     apply(p, whole, starts, columns, values, g, v, out, work);
     offered(p, starts, columns, values, v, b);
-}
-
-fn wide(x: u32) -> usize
-    ensures { λ r. ⌜ r ≤ 4294967295 ⌝ }
-{
-    x as usize
 }
 
 fn part(memory: &[u32], i: usize) -> u32 {
@@ -455,13 +355,7 @@ fn one(
 }
 
 fn all(buffer: &mut [u8], memory: &mut [u32], out: &mut [u32], work: &mut [u32]) {
-    let start = Cursor {
-        at: 0,
-        end: 0,
-        value: 0,
-        more: true,
-    };
-    let mut c = number(buffer, start);
+    let mut c = first(buffer);
     let cases = c.value;
     let mut k = 0;
     while k < cases {

@@ -2,106 +2,16 @@
 // one finds. A call is its modulus, the places of its starts, columns, values, b, words, vector, polynomial and work slices, and what the first
 // five hold. Writes what each call answers, and the vector and polynomial slices, which held 4,294,967,295 in every place. generate.py makes
 // the calls and the answers.
-use libc::STDIN_FILENO;
 use libc::STDOUT_FILENO;
+use test_io::Cursor;
+use test_io::fill;
+use test_io::first;
+use test_io::number;
+use test_io::numbers;
+use test_io::show;
+use test_io::show_refused;
 use wiedemann::solver::Counts;
 use wiedemann::solver::Verdict;
-
-// Where the input is read: bytes `at` to `end` of the buffer are next. `value` is the number so far; `more` says that it may go on.
-struct Cursor {
-    at: usize,
-    end: usize,
-    value: u32,
-    more: bool,
-}
-
-fn digit(value: u32, byte: u8) -> u32 {
-    ((value as u64 * 10 + (byte % 16) as u64) % 4294967296) as u32
-}
-
-fn next(buffer: &mut [u8], c: Cursor) -> Cursor {
-    if !c.more {
-        return c;
-    }
-    let at = c.at;
-    if at < c.end {
-        if at < buffer.len() {
-            let byte = buffer[at];
-            if byte >= 48 {
-                return Cursor {
-                    at: at + 1,
-                    end: c.end,
-                    value: digit(c.value, byte),
-                    more: true,
-                };
-            }
-            return Cursor {
-                at: at + 1,
-                end: c.end,
-                value: c.value,
-                more: false,
-            };
-        }
-    }
-    let end = io::count(libc::read(STDIN_FILENO, buffer), buffer);
-    Cursor {
-        at: 0,
-        end,
-        value: c.value,
-        more: end > 0,
-    }
-}
-
-// The next number: its digits, one byte after them, and perhaps a new bufferful.
-fn number(buffer: &mut [u8], start: Cursor) -> Cursor {
-    let mut c = Cursor {
-        at: start.at,
-        end: start.end,
-        value: 0,
-        more: true,
-    };
-    let mut k: usize = 0;
-    while k < 16 {
-        c = next(buffer, c);
-        k += 1;
-    }
-    c
-}
-
-fn store(s: &mut [u32], i: usize, value: u32) {
-    if i < s.len() {
-        s[i] = value;
-    }
-}
-
-fn terms(buffer: &mut [u8], start: Cursor, s: &mut [u32], count: usize) -> Cursor {
-    let mut c = start;
-    let mut i = 0;
-    while i < count {
-        c = number(buffer, c);
-        store(s, i, c.value);
-        i += 1;
-    }
-    c
-}
-
-fn fill(v: &mut [u32]) {
-    let mut i = 0;
-    while i < v.len() {
-        v[i] = 4294967295;
-        i += 1;
-    }
-}
-
-fn show(v: &[u32]) {
-    let mut i = 0;
-    while i < v.len() {
-        io::write_all(STDOUT_FILENO, b" ");
-        io::print_decimal(STDOUT_FILENO, v[i] as u64);
-        i += 1;
-    }
-    io::write_all(STDOUT_FILENO, b"\n");
-}
 
 // The places of a call's slices.
 struct Places {
@@ -135,8 +45,7 @@ fn show_verdict(v: Verdict) {
             show_counts(c);
         }
         Verdict::Refused(number) => {
-            io::write_all(STDOUT_FILENO, b"refused ");
-            io::print_decimal(STDOUT_FILENO, number as u64);
+            show_refused(number);
             io::write_all(STDOUT_FILENO, b"\n");
         }
     }
@@ -269,9 +178,9 @@ fn matrix(
     columns: &mut [u32],
     values: &mut [u32],
 ) -> Cursor {
-    let a = terms(buffer, start, starts, l.starts);
-    let b = terms(buffer, a, columns, l.entries);
-    terms(buffer, b, values, l.values)
+    let a = numbers(buffer, start, starts, 0, l.starts);
+    let b = numbers(buffer, a, columns, 0, l.entries);
+    numbers(buffer, b, values, 0, l.values)
 }
 
 fn one(
@@ -289,10 +198,10 @@ fn one(
     let h = begin(buffer, start);
     let l = h.places;
     let d = matrix(buffer, h.rest, l, starts, columns, values);
-    let e = terms(buffer, d, b, l.b);
-    let end = terms(buffer, e, words, l.words);
-    fill(vector);
-    fill(polynomial);
+    let e = numbers(buffer, d, b, 0, l.b);
+    let end = numbers(buffer, e, words, 0, l.words);
+    fill(vector, 4294967295);
+    fill(polynomial, 4294967295);
     lend(
         h.p,
         l,
@@ -319,13 +228,7 @@ fn all(
     polynomial: &mut [u32],
     work: &mut [u32],
 ) {
-    let start = Cursor {
-        at: 0,
-        end: 0,
-        value: 0,
-        more: true,
-    };
-    let mut c = number(buffer, start);
+    let mut c = first(buffer);
     let calls = c.value;
     let mut k = 0;
     while k < calls {

@@ -5,23 +5,23 @@
 -- Laws: wrote-none, wrote-placed; wrote-then: one piece after the other; line-two, line-three: a line by its pieces; flat-more: a line more;
 -- accepted-rows: the rows of a system that the checks take; writer-system, writer-short, writer-fits, writer-text: the writer's refusal and what it leaves.
 use mathlib.Core.Path.{_≡_, refl, sym, ap, ap₂, _∙_, subst}
-use mathlib.Core.Bool.{true, not, cond}
+use mathlib.Core.Bool.{not, cond}
 use mathlib.Core.List.{List, [], _∷_, _++_, append-assoc, append-nil}
 use Prim.Native.Nat.{ℕ, zero, suc, _+_, _-_, _≤_, _<_}
 use native.Mathlib.Omega.{arith}
 use native.Mathlib.Nat.{add-zero}
 use lib.Dec.{eqb, leb}
 use lib.ListN.{length, length-append}
-use borrow.Author.Tests.{le-leb, lt-leb, eq-eqb, ne-eqb}
-use Rattle.meaning.specs.List.{at, every, flat, table, bytes, overwrite}
+use borrow.Author.Tests.{le-leb, lt-leb}
+use Rattle.meaning.specs.List.{at, flat, table, bytes, overwrite}
 use Rattle.meaning.specs.Matrix.{Matrix, matrix, size}
 use Rattle.meaning.specs.Text.{decimal, line, writeRow, writeElement, write}
-use Rattle.meaning.specs.Refusal.{check, first, matrixChecks}
+use Rattle.meaning.specs.Refusal.{check, first}
 use Rattle.meaning.specs.Calls.{systemChecks, writerRefusal}
 use Rattle.laws.specs.List.{table-zero, table-suc}
-use Rattle.laws.specs.Refusal.{first-nil, first-past, first-stops}
+use Rattle.laws.specs.Refusal.{first-nil, first-past, first-stops, numbered-system, first-append-none, first-append-some}
 use Rattle.text_laws.specs.Lists.{flat-nil, flat-append, flat-one}
-use Rattle.text_laws.specs.Accepted.{AcceptedSystem, numbered, first-append}
+use Rattle.text_laws.specs.Accepted.{AcceptedSystem}
 use Rattle.decimal.specs.Placed.{placed, written, written-fits, placed-nil, placed-after, placed-start}
 
 pub record Wrote (out : List ℕ) (i : ℕ) (ys : List ℕ) (j : ℕ) (out′ : List ℕ) : Type 0 where
@@ -147,19 +147,13 @@ accepted-rows p starts columns values right a =
 -- ---- the writer's checks
 
 module _ (p : ℕ) (A : Matrix) (b out : List ℕ) where
-  numbers : numbered (systemChecks p A b) ≡ true
-  unfolding systemChecks matrixChecks numbered every
-  numbers = refl
-
-  split : writerRefusal p A b out ≡ cond (eqb (first (systemChecks p A b)) 0) (first (check 11 (not (leb (length (write p A b)) (length out))) ∷ [])) (first (systemChecks p A b))
-  unfolding writerRefusal
-  split = first-append (systemChecks p A b) (check 11 (not (leb (length (write p A b)) (length out))) ∷ []) numbers
-
   pub writer-system : (first (systemChecks p A b) ≡ 0 → ⊥) → writerRefusal p A b out ≡ first (systemChecks p A b)
-  writer-system n = split ∙ ap (λ t. cond t (first (check 11 (not (leb (length (write p A b)) (length out))) ∷ [])) (first (systemChecks p A b))) (ne-eqb (first (systemChecks p A b)) 0 n)
+  unfolding writerRefusal
+  writer-system n = first-append-some (systemChecks p A b) _ n
 
   last-check : first (systemChecks p A b) ≡ 0 → writerRefusal p A b out ≡ first (check 11 (not (leb (length (write p A b)) (length out))) ∷ [])
-  last-check e = split ∙ ap (λ t. cond t (first (check 11 (not (leb (length (write p A b)) (length out))) ∷ [])) (first (systemChecks p A b))) (eq-eqb (first (systemChecks p A b)) 0 e)
+  unfolding writerRefusal
+  last-check e = first-append-none (systemChecks p A b) _ (numbered-system p A b) e
 
   pub writer-short : first (systemChecks p A b) ≡ 0 → length out < length (write p A b) → writerRefusal p A b out ≡ 11
   writer-short e l = last-check e ∙ first-stops 11 (not (leb (length (write p A b)) (length out))) [] (ap not (lt-leb (length (write p A b)) (length out) l))

@@ -10,6 +10,8 @@ use libc::STDIN_FILENO;
 use libc::STDOUT_FILENO;
 use system_text::reader::Reading;
 use system_text::writer::Written;
+use test_io::fill;
+use test_io::fill_bytes;
 
 fn wide(x: u8) -> usize
     ensures { λ r. ⌜ r ≤ 255 ⌝ }
@@ -88,22 +90,6 @@ fn hash_bytes(a: &[u8]) -> u64 {
     h
 }
 
-fn mark(a: &mut [u32]) {
-    let mut i = 0;
-    while i < a.len() {
-        a[i] = 7777;
-        i += 1;
-    }
-}
-
-fn mark_bytes(a: &mut [u8]) {
-    let mut i = 0;
-    while i < a.len() {
-        a[i] = 77;
-        i += 1;
-    }
-}
-
 // The first n numbers of a slice, from a place of the data; the place after them.
 fn load(data: &[u8], from: usize, a: &mut [u32], n: usize) -> usize {
     let mut i = 0;
@@ -154,10 +140,10 @@ fn print_written(r: Written) {
 }
 
 fn mark_all(starts: &mut [u32], columns: &mut [u32], values: &mut [u32], right: &mut [u32]) {
-    mark(starts);
-    mark(columns);
-    mark(values);
-    mark(right);
+    fill(starts, 7777);
+    fill(columns, 7777);
+    fill(values, 7777);
+    fill(right, 7777);
 }
 
 fn print_hashes(starts: &[u32], columns: &[u32], values: &[u32], right: &[u32]) {
@@ -189,7 +175,7 @@ fn write_one(
     right: &[u32],
     out: &mut [u8],
 ) {
-    mark_bytes(out);
+    fill_bytes(out, 77);
     print_written(system_text::writer::write(p, starts, columns, values, right, out));
     print(hash_bytes(out));
     io::write_all(STDOUT_FILENO, b"\n");
@@ -345,13 +331,6 @@ fn lengthened(space: &mut [u8], size: usize, unit: usize, to: usize) -> usize {
     to + 4
 }
 
-fn read_data(space: &mut [u8], size: usize) {
-    let z: usize = 0;
-    if size <= space.len() {
-        io::read_full(STDIN_FILENO, &mut space[z..size]);
-    }
-}
-
 // Reads one call and makes it; false where the input ends.
 fn one(
     header: &mut [u8],
@@ -368,7 +347,7 @@ fn one(
     }
     let z: usize = 0;
     let size = three(header, 1);
-    read_data(space, size);
+    test_io::read_bytes(space, size);
     let length = lengthened(space, size, three(header, 19), three(header, 22));
     if length > space.len() {
         return false;

@@ -1,6 +1,6 @@
 -- The text call's checks, by the reader's: arrays for 128 rows and 1,024 entries make the reader's 11 the text call's.
 --     byReader text room r     the text call's refusal, r being the reader's: 1 first, then the reader's, then the answer's room
---     text-numbered, run-numbered      the numbers of a text's and a run's checks are from 1
+--     numbered-text, run-numbered      the numbers of a text's and a run's checks are from 1
 --     text-by-reader           textRefusal text room ≡ byReader text room (readerRefusal ..) for slices of 129, 1,024, 1,024 and 128 places
 --     byReader-long, byReader-refused, byReader-short, byReader-taken      its four cases
 --     text-refused, text-given what the call answers and leaves in either case
@@ -14,8 +14,7 @@ use mathlib.Core.Path.{_≡_, refl, sym, ap, subst, _∙_}
 use mathlib.Core.Logic.{_⊎_, inl, inr}
 use mathlib.Core.Bool.{Bool, true, false, not, cond, _&&_}
 use mathlib.Core.List.{List, [], _∷_, _++_}
-use Prim.Native.Nat.{ℕ, zero, suc, _+_, _-_, _*_, _%_, _≤_, _<_}
-use native.Mathlib.Nat.{zero-mod}
+use Prim.Native.Nat.{ℕ, zero, suc, _+_, _-_, _≤_, _<_}
 use native.Mathlib.Omega.{arith}
 use lib.Dec.{eqb, leb}
 use lib.ListN.{length}
@@ -23,31 +22,19 @@ use borrow.Author.Tests.{leb-true, le-leb, lt-leb, eq-eqb, ne-eqb}
 use Rattle.meaning.specs.List.{every, select, overwrite}
 use Rattle.meaning.specs.Matrix.{Matrix, size}
 use Rattle.meaning.specs.Text.{Document, document, System, system, row}
-use Rattle.meaning.specs.Refusal.{Check, check, first, unlessRefused, matrixChecks, documentChecks, wordsTaken}
+use Rattle.meaning.specs.Refusal.{Check, check, first, unlessRefused, documentChecks, wordsTaken}
 use Rattle.meaning.specs.Solver.{solve}
 use Rattle.meaning.specs.Calls.{systemChecks, runChecks, textChecks, readerRefusal, textRefusal, solvedText, textAnswer, textAfter}
 use Rattle.laws.specs.Bool.{and-left, and-right, and-both, same-test}
 use Rattle.laws.specs.List.{length-table}
-use Rattle.laws.specs.Refusal.{first-cons, first-nil}
-use Rattle.text_laws.specs.Accepted.{numbered, first-append, first-both, first-left, first-right, first-pass, first-passed, system-accepted, modulus-high}
+use Rattle.laws.specs.Refusal.{first-cons, first-nil, first-passed, first-pass, numbered-system, numbered-text, first-append-none, first-append, first-append-zero, no-words}
+use Rattle.text_laws.specs.Accepted.{system-accepted, modulus-high}
 use Rattle.text_laws.specs.Lists.{every-head, every-tail}
 use Rattle.text_laws.specs.RoundTrip.{systemOf, read-and-written}
 use Rattle.text_call.specs.Bounds.{Small, run-small, answer-fits, answer-long}
 
 unfoldable pub byReader : List ℕ → ℕ → ℕ → ℕ
 byReader text room r = cond (leb (length text) 24576) (cond (eqb r 0) (cond (leb 4608 room) 0 11) r) 1
-
-pub text-numbered : (text : List ℕ) → numbered (textChecks text) ≡ true
-unfolding numbered every textChecks documentChecks
-text-numbered text = refl
-
-system-numbered : (p : ℕ) (A : Matrix) (b : List ℕ) → numbered (systemChecks p A b) ≡ true
-unfolding numbered every systemChecks matrixChecks
-system-numbered p A b = refl
-
-pub run-numbered : (p : ℕ) (A : Matrix) (b words : List ℕ) → numbered (runChecks p A b words) ≡ true
-unfolding numbered every runChecks systemChecks matrixChecks
-run-numbered p A b words = refl
 
 -- a check 11 after others, cut in two
 eleven : (k : ℕ) (m r : Bool)
@@ -71,7 +58,7 @@ module _ (text : List ℕ) where
   -- the checks, and an 11 after them
   then-eleven : (t : Bool) → first (textChecks text ++ (check 11 (not t) ∷ [])) ≡ cond (eqb (first (textChecks text)) 0) (cond (not t) 11 0) (first (textChecks text))
   then-eleven t =
-      first-append (textChecks text) (check 11 (not t) ∷ []) (text-numbered text)
+      first-append (textChecks text) (check 11 (not t) ∷ []) (numbered-text text)
       ∙ ap (λ k. cond (eqb (first (textChecks text)) 0) k (first (textChecks text)))
       (first-cons (check 11 (not t)) [] ∙ ap (cond (not t) 11) first-nil)
 
@@ -158,16 +145,11 @@ module _ (text : List ℕ) (room r : ℕ) where
 
 -- ---- what is taken
 
--- no words are taken
-no-words : (n : ℕ) → wordsTaken n [] ≡ true
-unfolding wordsTaken
-no-words n = and-both (eq-eqb (0 % n) 0 (zero-mod n)) (le-leb 0 (64 * n) (omega arith))
-
 pub run-checked : (p : ℕ) (A : Matrix) (b : List ℕ) → first (systemChecks p A b) ≡ 0 → first (runChecks p A b []) ≡ 0
 unfolding runChecks
 run-checked p A b e =
-    first-both (systemChecks p A b) (check 10 (not (wordsTaken (size A) [])) ∷ []) (system-numbered p A b) e
-    (first-pass 10 (wordsTaken (size A) []) [] (no-words (size A)) first-nil)
+    first-append-none (systemChecks p A b) (check 10 (not (wordsTaken (size A) [])) ∷ []) (numbered-system p A b) e
+    ∙ first-pass 10 (wordsTaken (size A) []) [] (no-words (size A)) first-nil
 
 pub record Taken (text : List ℕ) : Type 0 where
   pub fits : length text ≤ 24576
@@ -182,13 +164,12 @@ text-taken text room e =
     let k = document text .count in
     let last = check 11 (not (leb n 128 && leb k 1024 && leb 4608 room)) ∷ [] in
     let one = first-passed 1 (leb (length text) 24576) (textChecks text ++ last) (omega arith) e in
-    let small =
-    first-passed 11 (leb n 128 && leb k 1024 && leb 4608 room) [] (omega arith)
-    (first-right (textChecks text) last (text-numbered text) (one .1)) .0 in
+    let both = first-append-zero (textChecks text) last (numbered-text text) (one .1) in
+    let small = first-passed 11 (leb n 128 && leb k 1024 && leb 4608 room) [] (omega arith) (both .1) .0 in
     let two = and-left (leb n 128 && leb k 1024) (leb 4608 room) small in (
       record {
         fits = leb-true (length text) 24576 (one .0);
-        read = first-left (textChecks text) last (text-numbered text) (one .1);
+        read = both .0;
         rows = leb-true n 128 (and-left (leb n 128) (leb k 1024) two);
         entries = leb-true k 1024 (and-right (leb n 128) (leb k 1024) two);
       },

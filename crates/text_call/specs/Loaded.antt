@@ -14,7 +14,7 @@
 --     ran-answer                     the answer's text, of what a run leaves
 --     loaded-taken, loaded-solved    the solver refuses nothing, and gives the outcome
 use mathlib.Core.Path.{_≡_, sym, ap, ap₂, subst, _∙_}
-use mathlib.Core.Bool.{Bool, true, not, cond, _&&_}
+use mathlib.Core.Bool.{Bool, true, not, _&&_}
 use mathlib.Core.List.{List, [], _∷_, _++_}
 use Prim.Native.Nat.{ℕ, zero, suc, _+_, _-_, _*_, _≤_, _<_}
 use native.Mathlib.Omega.{arith}
@@ -31,15 +31,15 @@ use Rattle.meaning.specs.Answer.{answerText}
 use Rattle.meaning.specs.Calls.{systemChecks, runChecks, textChecks, solverRefusal, readerRefusal, readerAnswer, readerAfter, solvedText}
 use Rattle.laws.specs.Bool.{and-right, and-both}
 use Rattle.laws.specs.List.{length-table, getD-table}
-use Rattle.laws.specs.Refusal.{first-nil}
-use Rattle.text_laws.specs.Accepted.{first-both, first-left, first-right, first-pass, first-passed, system-accepted, document-accepted, modulus-low, modulus-high}
+use Rattle.laws.specs.Refusal.{first-nil, first-passed, first-pass, numbered-run, numbered-text, first-append-none, first-append-zero, unlessRefused-none}
+use Rattle.text_laws.specs.Accepted.{system-accepted, document-accepted, modulus-low, modulus-high}
 use Rattle.text_laws.specs.RoundTrip.{systemOf, read-and-written, text-accepted}
 use Rattle.wiedemann.specs.declared.solver.Counts.{Counts}
 use Rattle.wiedemann.specs.declared.solver.Verdict.{Verdict}
 use Rattle.wiedemann.specs.declared.solver.Verdict.the-variants.{Solved, Singular, Refused}
 use Rattle.wiedemann.specs.Verdict.{Says, Solves}
 use Rattle.text_call.specs.Bounds.{Small, run-small, answer-fits}
-use Rattle.text_call.specs.Checks.{text-numbered, run-numbered, run-checked}
+use Rattle.text_call.specs.Checks.{run-checked}
 use Rattle.text_call.specs.Put.{linesOf, linesOf-ext, headOf, textOf, answer-solved, answer-singular}
 
 abbrev pub loadedMatrix : ℕ → ℕ → List ℕ → List ℕ → List ℕ → Matrix
@@ -61,9 +61,6 @@ long : (k : ℕ) (l m : List ℕ) → take k l ≡ m → length m ≤ length l
 long k l m q = omega (arith, ap length q, length-take k l)
 
 -- ---- what the reader leaves
-
-given : {A : Type 0} (k : ℕ) (new old : A) → k ≡ 0 → unlessRefused k new old ≡ new
-given k new old e = ap (λ t. cond t new old) (eq-eqb k 0 e)
 
 module _ (d : Document) where
   length-starts : length (system d .matrix .starts) ≡ d .size + 1
@@ -94,23 +91,23 @@ module _ (text starts columns values right : List ℕ) (e : readerRefusal text s
 
   reads : first (textChecks text) ≡ 0
   unfolding readerRefusal
-  reads = first-left (textChecks text) (check 11 (not enough) ∷ []) (text-numbered text) e
+  reads = first-append-zero (textChecks text) (check 11 (not enough) ∷ []) (numbered-text text) e .0
 
   has-room : enough ≡ true
   unfolding readerRefusal
-  has-room = first-passed 11 enough [] (omega arith) (first-right (textChecks text) (check 11 (not enough) ∷ []) (text-numbered text) e) .0
+  has-room = first-passed 11 enough [] (omega arith) (first-append-zero (textChecks text) (check 11 (not enough) ∷ []) (numbered-text text) e .1) .0
 
   -- a leading part that was filled
   filled : (l old : List ℕ) (n : ℕ) → length l ≡ n → take n (unlessRefused (readerRefusal text starts columns values right) (overwrite l old) old) ≡ l
   filled l old n h =
-      ap (take n) (given (readerRefusal text starts columns values right) (overwrite l old) old e) ∙ take-at l (drop (length l) old) n h
+      ap (take n) (unlessRefused-none (readerRefusal text starts columns values right) (overwrite l old) old e) ∙ take-at l (drop (length l) old) n h
 
   -- p is not 0
   pub read-modulus : 1 ≤ readerAnswer (λ d. d .modulus) text starts columns values right
   read-modulus =
       omega (
         arith,
-        given (readerRefusal text starts columns values right) (d .modulus) 0 e,
+        unlessRefused-none (readerRefusal text starts columns values right) (d .modulus) 0 e,
         modulus-low (d .modulus) (document-accepted d (text-accepted text reads .2) .prime),
       )
 
@@ -127,13 +124,13 @@ module _ (text starts columns values right : List ℕ) (e : readerRefusal text s
       (er : right′ ≡ readerAfter (λ s. s .right) right text starts columns values right)
     where
       modulus : p ≡ d .modulus
-      modulus = ep ∙ given (readerRefusal text starts columns values right) (d .modulus) 0 e
+      modulus = ep ∙ unlessRefused-none (readerRefusal text starts columns values right) (d .modulus) 0 e
 
       order : n ≡ d .size
-      order = en ∙ given (readerRefusal text starts columns values right) (d .size) 0 e
+      order = en ∙ unlessRefused-none (readerRefusal text starts columns values right) (d .size) 0 e
 
       entries : count ≡ d .count
-      entries = ek ∙ given (readerRefusal text starts columns values right) (d .count) 0 e
+      entries = ek ∙ unlessRefused-none (readerRefusal text starts columns values right) (d .count) 0 e
 
       same-starts : take (n + 1) starts′ ≡ A .starts
       same-starts = ap (take (n + 1)) es ∙ filled (A .starts) starts (n + 1) (omega (arith, length-starts d, order))
@@ -282,15 +279,15 @@ module _ (p n count : ℕ) (starts columns values right : List ℕ) (l : Loaded 
   unfolding solverRefusal
   loaded-taken vector polynomial work ev ef ew =
       let A = loadedMatrix n count starts columns values in
-      first-both (runChecks p A (take n right) [])
+      first-append-none (runChecks p A (take n right) [])
       (check 11 (not (eqb (length vector) (size A) && eqb (length polynomial) (size A + 1) && leb (16 * size A + 16) (length work))) ∷ [])
-      (run-numbered p A (take n right) [])
+      (numbered-run p A (take n right) [])
       (run-checked p A (take n right) (l .checked))
-      (first-pass 11 (eqb (length vector) (size A) && eqb (length polynomial) (size A + 1) && leb (16 * size A + 16) (length work)) []
+      ∙ first-pass 11 (eqb (length vector) (size A) && eqb (length polynomial) (size A + 1) && leb (16 * size A + 16) (length work)) []
       (and-both
       (and-both (eq-eqb (length vector) (size A) (omega (arith, loaded-rows))) (eq-eqb (length polynomial) (size A + 1) (omega (arith, loaded-rows))))
       (le-leb (16 * size A + 16) (length work) (omega (arith, loaded-rows))))
-      first-nil)
+      first-nil
 
   -- so a call of the solver on the arrays' leading parts gives the outcome
   pub loaded-solved : {t k u b words v f w v′ f′ w′ : List ℕ} {r : Verdict} → Solves p (matrix t k u) b words v f w r v′ f′ w′
@@ -306,7 +303,7 @@ module _ (p n count : ℕ) (starts columns values right : List ℕ) (l : Loaded 
       let call = subst (λ x. Solves p A (take n right) x v f w r v′ f′ w′) ew on-right in
       let none = loaded-taken v f w lv lf lw in (
         subst (λ z. Says r z o) none (call .says),
-        call .vector-after ∙ given (solverRefusal p A (take n right) [] v f w) (o .vector) v none,
-        call .polynomial-after ∙ given (solverRefusal p A (take n right) [] v f w) (padded (size A + 1) (o .polynomial)) f none
+        call .vector-after ∙ unlessRefused-none (solverRefusal p A (take n right) [] v f w) (o .vector) v none,
+        call .polynomial-after ∙ unlessRefused-none (solverRefusal p A (take n right) [] v f w) (padded (size A + 1) (o .polynomial)) f none
             ∙ ap (λ z. padded (z + 1) (o .polynomial)) loaded-rows,
       )

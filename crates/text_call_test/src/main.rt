@@ -28,14 +28,6 @@ fn number(header: &[u8], at: usize) -> usize {
         + digit(header[at + 4])
 }
 
-fn mark(a: &mut [u8]) {
-    let mut i = 0;
-    while i < a.len() {
-        a[i] = 77;
-        i += 1;
-    }
-}
-
 fn kept(a: &[u8], from: usize) -> bool {
     let mut i = from;
     while i < a.len() {
@@ -60,7 +52,7 @@ fn show(answer: &[u8], length: usize) {
 }
 
 fn call(letter: u8, text: &[u8], answer: &mut [u8]) {
-    mark(answer);
+    test_io::fill_bytes(answer, 77);
     if letter == b'o' {
         let length = text_call::output(text, answer);
         io::print_decimal(STDOUT_FILENO, length as u64);
@@ -87,13 +79,6 @@ fn lend(letter: u8, text: &[u8], length: usize, answer: &mut [u8], room: usize) 
     call(letter, &text[z..length], &mut answer[z..room]);
 }
 
-fn read_text(text: &mut [u8], length: usize) {
-    let z: usize = 0;
-    if length <= text.len() {
-        io::read_full(STDIN_FILENO, &mut text[z..length]);
-    }
-}
-
 // One call; false where the input ends.
 fn one(header: &mut [u8], text: &mut [u8], answer: &mut [u8]) -> bool {
     let read = io::read_full(STDIN_FILENO, header);
@@ -104,7 +89,7 @@ fn one(header: &mut [u8], text: &mut [u8], answer: &mut [u8]) -> bool {
         return false;
     }
     let length = number(header, 6);
-    read_text(text, length);
+    test_io::read_bytes(text, length);
     lend(header[0], text, length, answer, number(header, 1));
     true
 }

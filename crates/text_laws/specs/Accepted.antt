@@ -1,7 +1,4 @@
 -- What the checks say when they turn nothing down, as facts on numbers.
---     first-passed, first-pass       a check passed, and those after it
---     numbered cs                    the checks' numbers are from 1
---     first-append, first-both, first-left, first-right      two lists of checks
 --     within-low, within-high, within-of      what within says
 --     or-right                       a disjunction whose left side is false
 --     modulus-low, modulus-high      a modulus is 2 to 2,147,483,647
@@ -14,8 +11,8 @@
 --     document-accepted, accepted-document     first (documentChecks d) ≡ 0 and these facts: each from the other
 use mathlib.Core.Path.{_≡_, refl, sym, ap, _∙_}
 use mathlib.Core.Logic.{_⊎_, inl, inr}
-use mathlib.Core.Bool.{Bool, true, false, not, cond, _&&_, _||_, or-true}
-use mathlib.Core.List.{List, [], _∷_, _++_}
+use mathlib.Core.Bool.{Bool, true, false, not, _&&_, _||_, or-true}
+use mathlib.Core.List.{List, []}
 use Prim.Native.Nat.{ℕ, zero, suc, _+_, _-_, _≤_, _<_}
 use native.Mathlib.Omega.{arith}
 use lib.Dec.{eqb, ltb, leb}
@@ -25,55 +22,11 @@ use Rattle.meaning.specs.List.{at, all, every, chain}
 use Rattle.meaning.specs.Field.{isPrime, isModulus}
 use Rattle.meaning.specs.Matrix.{Matrix, size}
 use Rattle.meaning.specs.Text.{Document, row}
-use Rattle.meaning.specs.Refusal.{Check, check, first, within, elements, sizeTaken, startsTaken, columnsTaken, valueTaken, matrixChecks, countTaken, before, placesTaken, documentChecks}
+use Rattle.meaning.specs.Refusal.{first, within, elements, sizeTaken, startsTaken, columnsTaken, valueTaken, matrixChecks, countTaken, before, placesTaken, documentChecks}
 use Rattle.meaning.specs.Calls.{systemChecks}
 use Rattle.laws.specs.Bool.{and-left, and-right, and-both, test-cases}
 use Rattle.laws.specs.List.{all-at, all-of}
-use Rattle.laws.specs.Refusal.{first-nil, first-past, first-stops}
-use Rattle.text_laws.specs.Lists.{every-head, every-tail}
-
-pub first-passed : (k : ℕ) (t : Bool) (cs : List Check) → 1 ≤ k → first (check k (not t) ∷ cs) ≡ 0 → (t ≡ true) × (first cs ≡ 0)
-first-passed k true cs h e = (refl, sym (first-past k false cs refl) ∙ e)
-first-passed k false cs h e = let z : k ≡ 0 = sym (first-stops k true cs refl) ∙ e in absurd (omega arith)
-
-pub first-pass : (k : ℕ) (t : Bool) (cs : List Check) → t ≡ true → first cs ≡ 0 → first (check k (not t) ∷ cs) ≡ 0
-first-pass k t cs h e = first-past k (not t) cs (ap not h) ∙ e
-
--- two lists of checks, the first of which have numbers from 1
-unfoldable pub numbered : List Check → Bool
-numbered cs = every (λ c. leb 1 (c .number)) cs
-
-pub first-append : (cs ds : List Check) → numbered cs ≡ true → first (cs ++ ds) ≡ cond (eqb (first cs) 0) (first ds) (first cs)
-unfolding numbered
-first-append [] ds n = ap (λ k. cond (eqb k 0) (first ds) k) (sym first-nil)
-first-append (c ∷ cs) ds n =
-    go (test-cases (c .turnsDown)) (first-append cs ds (every-tail (λ c. leb 1 (c .number)) c cs n))
-  where
-    go : (c .turnsDown ≡ true) ⊎ (c .turnsDown ≡ false) → first (cs ++ ds) ≡ cond (eqb (first cs) 0) (first ds) (first cs)
-        → first (c ∷ cs ++ ds) ≡ cond (eqb (first (c ∷ cs)) 0) (first ds) (first (c ∷ cs))
-    go (inl t) ih =
-        let low = leb-true 1 (c .number) (every-head (λ c. leb 1 (c .number)) c cs n) in
-        let stop : first (c ∷ cs) ≡ c .number = first-stops (c .number) (c .turnsDown) cs t in
-        first-stops (c .number) (c .turnsDown) (cs ++ ds) t ∙ ap (λ t. cond t (first ds) (c .number))
-        (sym (ne-eqb (c .number) 0 (λ z. omega arith)))
-        ∙ ap (λ k. cond (eqb k 0) (first ds) k) (sym stop)
-    go (inr t) ih =
-        first-past (c .number) (c .turnsDown) (cs ++ ds) t ∙ ih
-        ∙ ap (λ k. cond (eqb k 0) (first ds) k) (sym (first-past (c .number) (c .turnsDown) cs t))
-
-pub first-both : (cs ds : List Check) → numbered cs ≡ true → first cs ≡ 0 → first ds ≡ 0 → first (cs ++ ds) ≡ 0
-first-both cs ds n e f = first-append cs ds n ∙ ap (λ k. cond (eqb k 0) (first ds) k) e ∙ f
-
-pub first-left : (cs ds : List Check) → numbered cs ≡ true → first (cs ++ ds) ≡ 0 → first cs ≡ 0
-first-left cs ds n e = go (first cs) (sym (first-append cs ds n) ∙ e)
-  where
-    go : (k : ℕ) → cond (eqb k 0) (first ds) k ≡ 0 → k ≡ 0
-    go zero h = refl
-    go (suc k) h = ap (λ t. cond t (first ds) (suc k)) (sym (ne-eqb (suc k) 0 (λ z. omega arith))) ∙ h
-
-pub first-right : (cs ds : List Check) → numbered cs ≡ true → first (cs ++ ds) ≡ 0 → first ds ≡ 0
-first-right cs ds n e =
-    ap (λ k. cond (eqb k 0) (first ds) k) (sym (first-left cs ds n e)) ∙ sym (first-append cs ds n) ∙ e
+use Rattle.laws.specs.Refusal.{first-nil, first-passed, first-pass}
 
 pub within-low : (a b x : ℕ) → within a b x ≡ true → a ≤ x
 within-low a b x e = leb-true a x (and-left (leb a x) (leb x b) e)

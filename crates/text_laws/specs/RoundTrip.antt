@@ -19,8 +19,9 @@ use Rattle.meaning.specs.Text.{document, inForm, System, system, write}
 use Rattle.meaning.specs.Refusal.{first, documentChecks}
 use Rattle.meaning.specs.Calls.{systemChecks, textChecks}
 use Rattle.laws.specs.Bool.{and-left, and-right, and-both}
+use Rattle.laws.specs.Refusal.{first-passed, first-pass}
 use Rattle.text_laws.specs.Document.{textOfDocument, document-text, form-text, text-document, shaped-document}
-use Rattle.text_laws.specs.Accepted.{first-passed, first-pass, AcceptedSystem, system-accepted, accepted-system, document-accepted, accepted-document}
+use Rattle.text_laws.specs.Accepted.{AcceptedSystem, system-accepted, accepted-system, document-accepted, accepted-document}
 use Rattle.text_laws.specs.Coordinates.{documentOf, write-document}
 use Rattle.text_laws.specs.WriteRead.{system-document, accepted-document-of, shaped-document-of}
 use Rattle.text_laws.specs.ReadWrite.{document-system, accepted-system-of}

@@ -8,36 +8,24 @@
 --     WrittenAgain             what the writer answers and leaves, given a system that was read
 --     read-then-write          .. for every text that the reader takes, and a slice that is long enough
 use mathlib.Core.Path.{_≡_, refl, sym, ap, ap₂, _∙_, subst}
-use mathlib.Core.Bool.{true, not, cond, _&&_}
+use mathlib.Core.Bool.{not, _&&_}
 use mathlib.Core.List.{List, [], _∷_}
 use Prim.Native.Nat.{ℕ, _+_, _≤_}
 use native.Mathlib.Omega.{arith}
 use lib.Dec.{leb}
 use lib.ListN.{length, take, drop, length-map}
 use lib.Seq.{take-append-seam, take-at}
-use borrow.Author.Tests.{le-leb, eq-eqb}
-use Rattle.meaning.specs.List.{every, overwrite}
+use borrow.Author.Tests.{le-leb}
+use Rattle.meaning.specs.List.{overwrite}
 use Rattle.meaning.specs.Matrix.{Matrix, matrix, size}
 use Rattle.meaning.specs.Text.{Document, document, system, write}
-use Rattle.meaning.specs.Refusal.{check, first, unlessRefused, matrixChecks, documentChecks}
+use Rattle.meaning.specs.Refusal.{check, first, unlessRefused}
 use Rattle.meaning.specs.Calls.{systemChecks, textChecks, readerRefusal, readerAnswer, readerAfter, writerRefusal, writerAnswer, writerAfter}
 use Rattle.laws.specs.Bool.{and-both}
 use Rattle.laws.specs.List.{length-table}
-use Rattle.laws.specs.Refusal.{first-nil}
-use Rattle.text_laws.specs.Accepted.{numbered, first-pass, first-both, first-left, document-accepted}
+use Rattle.laws.specs.Refusal.{first-nil, first-pass, numbered-system, numbered-text, first-append-none, first-append-zero, unlessRefused-none}
+use Rattle.text_laws.specs.Accepted.{document-accepted}
 use Rattle.text_laws.specs.RoundTrip.{WrittenAndRead, written-and-read, ReadAndWritten, read-and-written, systemOf, text-accepted}
-
--- what a call gives where nothing is refused
-given : {A : Type 0} (k : ℕ) (new old : A) → k ≡ 0 → unlessRefused k new old ≡ new
-given k new old e = ap (λ t. cond t new old) (eq-eqb k 0 e)
-
-system-numbered : (p : ℕ) (A : Matrix) (b : List ℕ) → numbered (systemChecks p A b) ≡ true
-unfolding numbered every systemChecks matrixChecks
-system-numbered p A b = refl
-
-text-numbered : (text : List ℕ) → numbered (textChecks text) ≡ true
-unfolding numbered every textChecks documentChecks
-text-numbered text = refl
 
 -- ---- what the writer leaves, given to the reader
 
@@ -60,17 +48,17 @@ reader-takes : (text starts columns values right : List ℕ) → first (textChec
 unfolding readerRefusal
 reader-takes text starts columns values right e s c v r =
     let d = document text in
-    first-both (textChecks text)
+    first-append-none (textChecks text)
     (check 11
     (not
     (leb (d .size + 1) (length starts) && leb (d .count) (length columns) && leb (d .count) (length values) && leb (d .size) (length right)))
     ∷ [])
-    (text-numbered text) e
-    (first-pass 11 _ []
+    (numbered-text text) e
+    ∙ first-pass 11 _ []
     (and-both (and-both (and-both (le-leb (d .size + 1) (length starts) s) (le-leb (d .count) (length columns) c))
     (le-leb (d .count) (length values) v))
     (le-leb (d .size) (length right) r))
-    first-nil)
+    first-nil
 
 read-back : (p : ℕ) (A : Matrix) (b starts columns values right : List ℕ) → WrittenAndRead p A b → size A + 1 ≤ length starts
     → length (A .columns) ≤ length columns → length (A .columns) ≤ length values → size A ≤ length right
@@ -83,20 +71,20 @@ read-back p A b starts columns values right w s c v r =
     (omega (arith, r, w .order)) in
     record {
       taken = k;
-      modulus = given (readerRefusal text starts columns values right) (document text .modulus) 0 k ∙ w .modulus;
-      order = given (readerRefusal text starts columns values right) (document text .size) 0 k ∙ w .order;
-      count = given (readerRefusal text starts columns values right) (document text .count) 0 k ∙ w .count;
+      modulus = unlessRefused-none (readerRefusal text starts columns values right) (document text .modulus) 0 k ∙ w .modulus;
+      order = unlessRefused-none (readerRefusal text starts columns values right) (document text .size) 0 k ∙ w .order;
+      count = unlessRefused-none (readerRefusal text starts columns values right) (document text .count) 0 k ∙ w .count;
       starts-after =
-          given (readerRefusal text starts columns values right) (overwrite (systemOf text .matrix .starts) starts) starts k
+          unlessRefused-none (readerRefusal text starts columns values right) (overwrite (systemOf text .matrix .starts) starts) starts k
           ∙ ap (λ x. overwrite (x .matrix .starts) starts) (w .comes-back);
       columns-after =
-          given (readerRefusal text starts columns values right) (overwrite (systemOf text .matrix .columns) columns) columns k
+          unlessRefused-none (readerRefusal text starts columns values right) (overwrite (systemOf text .matrix .columns) columns) columns k
           ∙ ap (λ x. overwrite (x .matrix .columns) columns) (w .comes-back);
       values-after =
-          given (readerRefusal text starts columns values right) (overwrite (systemOf text .matrix .values) values) values k
+          unlessRefused-none (readerRefusal text starts columns values right) (overwrite (systemOf text .matrix .values) values) values k
           ∙ ap (λ x. overwrite (x .matrix .values) values) (w .comes-back);
       right-after =
-          given (readerRefusal text starts columns values right) (overwrite (systemOf text .right) right) right k
+          unlessRefused-none (readerRefusal text starts columns values right) (overwrite (systemOf text .right) right) right k
           ∙ ap (λ x. overwrite (x .right) right) (w .comes-back);
     }
 
@@ -108,12 +96,12 @@ unfolding writerRefusal
 write-then-read p A b out starts columns values right e s c v r =
     let k : writerRefusal p A b out ≡ 0 = e in
     let bytes : written p A b out ≡ write p A b =
-    ap₂ take (given (writerRefusal p A b out) (length (write p A b)) 0 k) (given (writerRefusal p A b out) (overwrite (write p A b) out) out k)
+    ap₂ take (unlessRefused-none (writerRefusal p A b out) (length (write p A b)) 0 k) (unlessRefused-none (writerRefusal p A b out) (overwrite (write p A b) out) out k)
     ∙ take-append-seam (write p A b) (drop (length (write p A b)) out) in
     subst (λ text. ReadBack p A b text starts columns values right) (sym bytes)
     (read-back p A b starts columns values right
     (written-and-read p A b
-    (first-left (systemChecks p A b) (check 11 (not (leb (length (write p A b)) (length out))) ∷ []) (system-numbered p A b) e))
+    (first-append-zero (systemChecks p A b) (check 11 (not (leb (length (write p A b)) (length out))) ∷ []) (numbered-system p A b) e .0))
     s c v r)
 
 -- ---- what the reader leaves, given to the writer
@@ -130,15 +118,15 @@ written-again text out w l =
     let s = systemOf text in
     let t = write (s .modulus) (s .matrix) (s .right) in
     let k : writerRefusal (s .modulus) (s .matrix) (s .right) out ≡ 0 =
-    first-both (systemChecks (s .modulus) (s .matrix) (s .right)) (check 11 (not (leb (length t) (length out))) ∷ [])
-    (system-numbered (s .modulus) (s .matrix) (s .right)) (w .accepted)
-    (first-pass 11 (leb (length t) (length out)) [] (le-leb (length t) (length out)
-    (omega (arith, l, ap length (w .same-bytes)))) first-nil) in
+    first-append-none (systemChecks (s .modulus) (s .matrix) (s .right)) (check 11 (not (leb (length t) (length out))) ∷ [])
+    (numbered-system (s .modulus) (s .matrix) (s .right)) (w .accepted)
+    ∙ first-pass 11 (leb (length t) (length out)) [] (le-leb (length t) (length out)
+    (omega (arith, l, ap length (w .same-bytes)))) first-nil in
     record {
       taken = k;
-      answer = given (writerRefusal (s .modulus) (s .matrix) (s .right) out) (length t) 0 k ∙ ap length (w .same-bytes);
+      answer = unlessRefused-none (writerRefusal (s .modulus) (s .matrix) (s .right) out) (length t) 0 k ∙ ap length (w .same-bytes);
       after =
-          given (writerRefusal (s .modulus) (s .matrix) (s .right) out) (overwrite t out) out k
+          unlessRefused-none (writerRefusal (s .modulus) (s .matrix) (s .right) out) (overwrite t out) out k
           ∙ ap (λ x. overwrite x out) (w .same-bytes);
     }
 
@@ -165,7 +153,7 @@ system-modulus d = refl
 
 -- the leading part of a slice that was filled
 leading : (k m n : ℕ) (l old : List ℕ) → k ≡ 0 → n ≡ m → length l ≡ m → take n (unlessRefused k (overwrite l old) old) ≡ l
-leading k m n l old e q h = ap₂ take q (given k (overwrite l old) old e) ∙ take-at l (drop (length l) old) m h
+leading k m n l old e q h = ap₂ take q (unlessRefused-none k (overwrite l old) old e) ∙ take-at l (drop (length l) old) m h
 
 module _ (text starts columns values right : List ℕ) where
   abbrev pub readModulus : ℕ
@@ -188,7 +176,7 @@ module _ (text starts columns values right : List ℕ) where
 
   reader-taken : readerRefusal text starts columns values right ≡ 0 → first (textChecks text) ≡ 0
   unfolding readerRefusal
-  reader-taken e = first-left (textChecks text) _ (text-numbered text) e
+  reader-taken e = first-append-zero (textChecks text) _ (numbered-text text) e .0
 
   -- the system in the leading parts is the text's
   pub read-system : readerRefusal text starts columns values right ≡ 0
@@ -197,9 +185,9 @@ module _ (text starts columns values right : List ℕ) where
       let d = document text in
       let k = readerRefusal text starts columns values right in
       let a = document-accepted d (text-accepted text (reader-taken e) .2) in
-      let n : readSize ≡ d .size = given k (d .size) 0 e in
-      let c : readCount ≡ length (d .entries) = given k (d .count) 0 e ∙ a .counted in
-      let p = given k (d .modulus) 0 e ∙ sym (system-modulus d) in
+      let n : readSize ≡ d .size = unlessRefused-none k (d .size) 0 e in
+      let c : readCount ≡ length (d .entries) = unlessRefused-none k (d .count) 0 e ∙ a .counted in
+      let p = unlessRefused-none k (d .modulus) 0 e ∙ sym (system-modulus d) in
       let ss = leading k (d .size + 1) (readSize + 1) (system d .matrix .starts) starts e (ap (λ x. x + 1) n) (starts-length d) in
       let cs = leading k (length (d .entries)) readCount (system d .matrix .columns) columns e c (columns-length d) in
       let vs = leading k (length (d .entries)) readCount (system d .matrix .values) values e c (values-length d) in

@@ -8,8 +8,10 @@
 --     written-part     a part that was written
 --     written-other-at, written-other      an element, and a part, that a write elsewhere leaves
 --     written-next     one place more, from the front
---     written-copy     a copy to the front
+--     written-whole    a copy of a list from its start on
+--     written-copy     .. to the front
 --     written-table    a whole slice that was written
+--     written-taken    .. with a part of another
 use mathlib.Core.Path.{_≡_, refl, sym, ap, _∙_, subst}
 use mathlib.Core.List.{List}
 use Prim.Native.Nat.{ℕ, _+_, _≤_, _<_}
@@ -75,6 +77,14 @@ written-next {W} {W′} {i} {f} v h l e =
 pub written-table : (W : List ℕ) (n : ℕ) (f : ℕ → ℕ) (W′ : List ℕ) → length W ≡ n → Written W 0 n f W′ → W′ ≡ table n f
 written-table W n f W′ e h =
     table-of 0 W′ n f (h .same-length ∙ e) (λ i k. ap (at W′) (sym (zero-add i)) ∙ h .inside i k)
+
+pub written-taken : (X W : List ℕ) (a n : ℕ) (X′ : List ℕ) → length X ≡ n → a + n ≤ length W → Written X 0 n (λ i. at W (a + i)) X′ → X′ ≡ part a n W
+written-taken X W a n X′ e l h =
+    written-table X n (λ i. at W (a + i)) X′ e h ∙ sym (table-of 0 (part a n W) n (λ i. at W (a + i)) (length-part a n W l) (at-part a n W))
+
+pub written-whole : {W W′ : List ℕ} {a n : ℕ} (l : List ℕ) → Written W a n (λ i. at l (0 + i)) W′ → Written W a n (at l) W′
+written-whole l h =
+    record { same-length = h .same-length; inside = λ i k. h .inside i k ∙ ap (at l) (zero-add i); before = h .before; after = h .after }
 
 -- a copy to the front
 pub written-copy : (W l : List ℕ) (n : ℕ) (W′ : List ℕ) → length l ≡ n → length l ≤ length W → Written W 0 (length l) (at l) W′ → part 0 n W′ ≡ l

@@ -6,35 +6,32 @@ use mathlib.Core.Path.{_≡_, refl}
 use mathlib.Core.Bool.{true, not, _&&_}
 use mathlib.Core.List.{List, [], _∷_}
 use Prim.Native.Nat.{ℕ, _+_, _*_, _/_, _%_, _≤_, _<_}
-use native.Mathlib.Nat.{zero-mod, div-add-mod', mul-le-mul}
+use native.Mathlib.Nat.{div-add-mod', mul-le-mul}
 use native.Mathlib.Decide.{decLt}
 use native.Mathlib.Omega.{arith}
 use lib.Dec.{eqb, leb}
 use lib.ListN.{length}
-use borrow.Author.Tests.{eqb-true, leb-true, not-false, eq-eqb, le-leb}
+use borrow.Author.Tests.{eqb-true, leb-true}
 use Rattle.meaning.specs.Field.{isModulus}
 use Rattle.meaning.specs.Matrix.{Matrix, size}
 use Rattle.meaning.specs.Refusal.{Check, check, first, matrixChecks, wordsTaken}
 use Rattle.meaning.specs.Calls.{systemChecks, runChecks, solverRefusal}
-use Rattle.laws.specs.Bool.{and-left, and-right, and-both}
-use Rattle.laws.specs.Refusal.{first-none, first-append-zero}
+use Rattle.laws.specs.Bool.{and-left, and-right}
+use Rattle.laws.specs.Refusal.{first-passed, numbered-system, numbered-run, first-append-zero, no-words}
 use Rattle.bridge.specs.ThirdCondition.{accepted}
-use Rattle.checks.specs.Matrix.{numbered-system, system-accepted}
-use Rattle.checks.specs.Solver.{slicesTaken, numbered-run, run-none}
+use Rattle.checks.specs.Matrix.{system-accepted}
+use Rattle.checks.specs.Solver.{slicesTaken, run-none}
 use Rattle.wiedemann.specs.Projection.{Words}
 use Rattle.wiedemann.specs.Solver.{System}
 
 pub system-of : (p : ℕ) (A : Matrix) (b : List ℕ) → first (systemChecks p A b) ≡ 0 → System p A b
-unfolding systemChecks matrixChecks wordsTaken
+unfolding systemChecks matrixChecks
 system-of p A b e =
     record {
-      modulus = not-false (isModulus p) (first-none 3 (not (isModulus p)) _ (λ z. omega (arith, z)) e .0);
+      modulus = first-passed 3 (isModulus p) _ (omega arith) e .0;
       valid = system-accepted p A b e .valid;
-      accepted = accepted p A b [] (run-none p A b [] [] [] [] e none);
+      accepted = accepted p A b [] (run-none p A b [] [] [] [] e (no-words (size A)));
     }
-  where
-    none : wordsTaken (size A) [] ≡ true
-    none = and-both (eq-eqb (0 % size A) 0 (zero-mod (size A))) (le-leb 0 (64 * size A) (omega arith))
 
 pub words-of : (n : ℕ) (words : List ℕ) → 1 ≤ n → wordsTaken n words ≡ true → Words n (length words / n) words
 unfolding wordsTaken
@@ -85,10 +82,10 @@ taken-of p A b words v f w e =
     system = system-of p A b (parts .0)
 
     words-ok : wordsTaken (size A) words ≡ true
-    words-ok = not-false (wordsTaken (size A) words) (first-none 10 (not (wordsTaken (size A) words)) [] (λ z. omega (arith, z)) (parts .1) .0)
+    words-ok = first-passed 10 (wordsTaken (size A) words) [] (omega arith) (parts .1) .0
 
     slices : slicesTaken (size A) v f w ≡ true
-    slices = not-false (slicesTaken (size A) v f w) (first-none 11 (not (slicesTaken (size A) v f w)) [] (λ z. omega (arith, z)) (outer .1) .0)
+    slices = first-passed 11 (slicesTaken (size A) v f w) [] (omega arith) (outer .1) .0
 
     front : eqb (length v) (size A) && eqb (length f) (size A + 1) ≡ true
     front = and-left (eqb (length v) (size A) && eqb (length f) (size A + 1)) (leb (16 * size A + 16) (length w)) slices

@@ -15,18 +15,18 @@ use Prim.Native.Nat.{ℕ, _+_, _-_, _*_}
 use lib.Dec.{eqb, leb}
 use lib.ListN.{length}
 use borrow.Author.Tests.{eq-eqb, ne-eqb}
-use Rattle.meaning.specs.List.{every, padded}
+use Rattle.meaning.specs.List.{padded}
 use Rattle.meaning.specs.Matrix.{Matrix, size}
 use Rattle.meaning.specs.Solver.{Run, Kind, solved, singular, Outcome, passes, verdict, close, solve}
 use Rattle.meaning.specs.ThirdCondition.{ThirdCondition, SameAnswer}
-use Rattle.meaning.specs.Refusal.{check, first, matrixChecks}
-use Rattle.meaning.specs.Calls.{systemChecks, runChecks, solverRefusal, vectorAfter, polynomialAfter}
+use Rattle.meaning.specs.Refusal.{check, first}
+use Rattle.meaning.specs.Calls.{runChecks, solverRefusal, vectorAfter, polynomialAfter}
 use Rattle.bridge.specs.ThirdCondition.{everyRun, everyTwoRuns}
 use Rattle.wiedemann.specs.declared.solver.Counts.{Counts}
 use Rattle.wiedemann.specs.declared.solver.Verdict.{Verdict}
 use Rattle.wiedemann.specs.declared.solver.Verdict.the-variants.{Solved, Singular, Refused}
 use Rattle.wiedemann.specs.Region.{part}
-use Rattle.laws.specs.Refusal.{Numbered, first-append-zero}
+use Rattle.laws.specs.Refusal.{numbered-run, first-append-zero}
 use Rattle.wiedemann.specs.Solver.{held, Finished}
 
 pub record Counted (c : Counts) (o : Outcome) : Type 0 where
@@ -50,10 +50,6 @@ pub record Solves (p : ℕ) (A : Matrix) (b words vector polynomial work : List 
   pub condition : solverRefusal p A b words vector polynomial work ≡ 0 → ThirdCondition p A b words (solve p A b words)
 
 -- ---- the checks
-
-numbered-run : (p : ℕ) (A : Matrix) (b words : List ℕ) → Numbered (runChecks p A b words)
-unfolding runChecks systemChecks matrixChecks every
-numbered-run p A b words = refl
 
 -- where nothing is refused, the checks of a run are passed
 pub run-passed : (p : ℕ) (A : Matrix) (b words vector polynomial work : List ℕ) → solverRefusal p A b words vector polynomial work ≡ 0

@@ -5,5 +5,6 @@ mod pass;
 mod projection;
 pub mod recurrence;
 mod scale;
+mod slice;
 pub mod solver;
 mod sums;

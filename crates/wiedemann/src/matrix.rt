@@ -3,7 +3,7 @@ ghost use mathlib.Core.Path.{_≡_};
 ghost use mathlib.Core.Logic.{_≢_};
 ghost use Prim.Native.Nat.{ℕ, _+_, _-_, _/_, _%_, _≤_, _<_};
 ghost use lib.ListN.{length};
-ghost use Rattle.meaning.specs.List.{at, sumFrom, table, zeros};
+ghost use Rattle.meaning.specs.List.{at, sumFrom, table};
 ghost use Rattle.meaning.specs.Field.{times};
 ghost use Rattle.wiedemann.specs.Sums.{Summed};
 ghost use Rattle.meaning.specs.Matrix.{matrix, product, apply, transposed};
@@ -17,6 +17,8 @@ ghost use Rattle.wiedemann.specs.Answers.{Writes};
 use crate::scale::added;
 use crate::scale::quotient;
 use crate::scale::scaled;
+use crate::slice::clear;
+use crate::slice::transfer;
 use crate::sums::Total;
 use crate::sums::reciprocal;
 use crate::sums::times;
@@ -205,18 +207,6 @@ fn multiple(p: u32, c: u32, v: &[u32], out: &mut [u32])
     }
 }
 
-// v into the front of work.
-fn copy_front(v: &[u32], work: &mut [u32])
-    requires { ⌜ length (now v) ≤ length (now work) ⌝ }
-    ensures { λ r. ⌜ Written (now (work .entry)) 0 (length (now (v .entry))) (λ i. at (now (v .entry)) i) (now (work .exit)) ⌝ }
-{
-    let mut i = 0;
-    while i < v.len() {
-        work[i] = v[i];
-        i += 1;
-    }
-}
-
 // The step from the front of work.
 fn step_from(
     p: u32,
@@ -264,7 +254,7 @@ fn turn(
     requires { ⌜ (reciprocal ≡ 18446744073709551615 / p) × (length (now x) ≡ length (now starts) - 1) × (length (now out) ≤ length (now work)) × Vector p (length (now starts) - 1) (now out) ⌝ }
     ensures { λ r. ⌜ now (out .exit) ≡ step p (matrix (now (starts .entry)) (now (columns .entry)) (now (values .entry))) c (now (x .entry)) (now (out .entry)) ⌝ }
 {
-    copy_front(out, work);
+    transfer(out, 0, work, 0, out.len());
     step_from(p, reciprocal, c, x, starts, columns, values, work, out);
 }
 
@@ -289,17 +279,6 @@ pub(crate) fn horner(
     while 0 < i {
         i -= 1;
         turn(p, reciprocal, g[i], v, starts, columns, values, out, work);
-    }
-}
-
-// Zeros into out.
-fn clear(out: &mut [u32])
-    ensures { λ r. ⌜ now (out .exit) ≡ zeros (length (now (out .entry))) ⌝ }
-{
-    let mut i = 0;
-    while i < out.len() {
-        out[i] = 0;
-        i += 1;
     }
 }
 
@@ -331,7 +310,7 @@ pub(crate) fn transposed_into(
     requires { ⌜ (length (now out) ≡ length (now starts) - 1) × Vector p (length (now starts) - 1) (now v) ⌝ }
     ensures { λ r. ⌜ now (out .exit) ≡ transposed p (matrix (now (starts .entry)) (now (columns .entry)) (now (values .entry))) (now (v .entry)) ⌝ }
 {
-    clear(out);
+    clear(out, 0, v.len());
     let mut i = 0;
     while i < v.len() {
         scatter(

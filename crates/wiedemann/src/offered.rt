@@ -1,5 +1,6 @@
 // Two checks of a vector that anyone offers: does A take x to b, and is w not zero and taken to zero. Neither needs the solver.
 use crate::matrix::row;
+use crate::slice::is_zero;
 use crate::sums::reciprocal;
 use checks::system_refusal;
 use checks::takes_refusal;
@@ -69,19 +70,6 @@ fn vanishes(
 {
     let n = w.len();
     agrees(p, reciprocal, starts, columns, values, w, &w[n..])
-}
-
-fn is_zero(w: &[u32]) -> bool
-    ensures { λ r. ⌜ r ≡ isZero (now (w .entry)) ⌝ }
-{
-    let mut i = 0;
-    while i < w.len() {
-        if w[i] != 0 {
-            return false;
-        }
-        i += 1;
-    }
-    true
 }
 
 // Whether Ax = b.

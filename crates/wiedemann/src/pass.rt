@@ -1,17 +1,14 @@
 // What a pass does, in a slice whose first three regions of n places hold r and, by turns, its iterates.
 ghost use mathlib.Core.Path.{_≡_};
-ghost use mathlib.Core.Logic.{_⊎_};
 ghost use mathlib.Core.Bool.{true};
 ghost use mathlib.Core.List.{[]};
 ghost use Prim.Native.Nat.{_+_, _-_, _*_, _/_, _≤_, _<_};
 ghost use lib.ListN.{length, getD, set};
-ghost use Rattle.meaning.specs.List.{at};
 ghost use Rattle.meaning.specs.Field.{isModulus};
 ghost use Rattle.meaning.specs.Matrix.{matrix};
 ghost use Rattle.meaning.specs.Solver.{projections, dot};
 ghost use Rattle.wiedemann.specs.Sums.{Summed};
 ghost use Rattle.checks.specs.Valid.{Valid, Vector};
-ghost use Rattle.wiedemann.specs.Written.{Written};
 ghost use Rattle.wiedemann.specs.Region.{part};
 ghost use Rattle.wiedemann.specs.Projection.{Words};
 ghost use Rattle.wiedemann.specs.Turns.{Seat, Other, Turning, Advanced, Sequenced, Leading, Applying, Applied, Generated, Shortened};
@@ -19,6 +16,7 @@ ghost use Rattle.wiedemann.specs.Factor.{cross, productAt, Multiplied, n
 use crate::matrix::step_within;
 use crate::projection::projected;
 use crate::recurrence::shortest;
+use crate::slice::copy;
 use crate::sums::Total;
 use crate::sums::times;
 
@@ -159,18 +157,6 @@ fn horner(
         );
     }
     from
-}
-
-// A copy of the `size` places from `from` on. They may meet those that are written where these stand before them.
-pub(crate) fn copy(work: &mut [u32], from: usize, to: usize, size: usize)
-    requires { ⌜ (from + size ≤ length (now work)) × (to + size ≤ length (now work)) × ((to ≤ from) ⊎ (from + size ≤ to)) ⌝ }
-    ensures { λ _. ⌜ Written (now (work .entry)) to size (λ i. at (now (work .entry)) (from + i)) (now (work .exit)) ⌝ }
-{
-    let mut i = 0;
-    while i < size {
-        work[to + i] = work[from + i];
-        i += 1;
-    }
 }
 
 // r becomes f(A)r.

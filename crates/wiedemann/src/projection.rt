@@ -3,7 +3,7 @@ ghost use mathlib.Core.Path.{_≡_};
 ghost use Prim.Native.Nat.{_+_, _-_, _*_, _/_, _%_, _≤_, _<_};
 ghost use lib.ListN.{length, getD};
 ghost use mathlib.Core.List.{[]};
-ghost use Rattle.meaning.specs.List.{at, sumFrom, table, isZero};
+ghost use Rattle.meaning.specs.List.{at, sumFrom, table};
 ghost use Rattle.meaning.specs.Solver.{dot, projections};
 ghost use Rattle.checks.specs.Valid.{Vector};
 ghost use Rattle.wiedemann.specs.Sums.{Summed};
@@ -51,20 +51,6 @@ fn last(total: Total, from: usize, words: &[u32], v: &[u32]) -> Total
     } else {
         total
     }
-}
-
-// Whether each element is 0.
-pub(crate) fn is_zero(v: &[u32]) -> bool
-    ensures { λ r. ⌜ r ≡ isZero (now (v .entry)) ⌝ }
-{
-    let mut i = 0;
-    while i < v.len() {
-        if v[i] != 0 {
-            return false;
-        }
-        i += 1;
-    }
-    true
 }
 
 // The dot product of the first words, each taken modulo p, with v.

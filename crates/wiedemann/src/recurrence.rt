@@ -4,6 +4,9 @@
 // The contracts cite the crate meaning (Recurrence: the steps and what is shortest; Calls: what a call refuses, answers and leaves) and
 // specs/Recurrence.antt (what regions and register hold).
 use crate::scale;
+use crate::slice::clear;
+use crate::slice::copy;
+use crate::slice::transfer;
 use crate::sums;
 use crate::sums::Total;
 use checks::recurrence_refusal;
@@ -31,30 +34,6 @@ pub(crate) struct Register {
 }
 
 // ---- parts of the slice
-
-// Zeros in `size` places from `from` on.
-fn clear(work: &mut [u32], from: usize, size: usize)
-    requires { ⌜ from + size ≤ length (now work) ⌝ }
-    ensures { λ _. ⌜ Written (now (work .entry)) from size (λ i. 0) (now (work .exit)) ⌝ }
-{
-    let mut i = 0;
-    while i < size {
-        work[from + i] = 0;
-        i += 1;
-    }
-}
-
-// A copy, further up, of the `size` places from `from` on.
-fn copy(work: &mut [u32], from: usize, to: usize, size: usize)
-    requires { ⌜ (from + size ≤ to) × (to + size ≤ length (now work)) ⌝ }
-    ensures { λ _. ⌜ Written (now (work .entry)) to size (λ i. at (now (work .entry)) (from + i)) (now (work .exit)) ⌝ }
-{
-    let mut i = 0;
-    while i < size {
-        work[to + i] = work[from + i];
-        i += 1;
-    }
-}
 
 // q − factor·t in q's place: `size` coefficients of q from `q` on, and of t from `t` on.
 fn subtract(p: u32, factor: u32, work: &mut [u32], q: usize, t: usize, size: usize)
@@ -284,18 +263,6 @@ pub enum Answer {
     Refused(u32),
 }
 
-// A copy of the `size` places of `from` that begin at `start`, at the front of `to`.
-fn transfer(from: &[u32], start: usize, to: &mut [u32], size: usize)
-    requires { ⌜ (start + size ≤ length (now from)) × (size ≤ length (now to)) ⌝ }
-    ensures { λ _. ⌜ Written (now (to .entry)) 0 size (λ i. at (now (from .entry)) (start + i)) (now (to .exit)) ⌝ }
-{
-    let mut i = 0;
-    while i < size {
-        to[i] = from[start + i];
-        i += 1;
-    }
-}
-
 // The shortest recurrence of s: its degree L, and f in the polynomial slice, zeros after it.
 pub fn recurrence(field: Field, s: &[u32], polynomial: &mut [u32], work: &mut [u32]) -> Answer
     ensures { λ r. ⌜ Recurred (field .p) (now (s .entry)) (now (polynomial .entry)) (now (work .entry)) r (now (polynomial .exit)) (now (work .exit)) ⌝ }
@@ -306,8 +273,8 @@ pub fn recurrence(field: Field, s: &[u32], polynomial: &mut [u32], work: &mut [u
         return Answer::Refused(number);
     }
     let count = s.len();
-    transfer(s, 0, work, count);
+    transfer(s, 0, work, 0, count);
     let degree = shortest(p, count, work);
-    transfer(work, count + 2, polynomial, count + 1);
+    transfer(work, count + 2, polynomial, 0, count + 1);
     Answer::Degree(degree)
 }

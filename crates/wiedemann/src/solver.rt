@@ -11,20 +11,20 @@ ghost use Rattle.meaning.specs.Matrix.{matrix};
 ghost use Rattle.meaning.specs.Solver.{projections};
 ghost use Rattle.meaning.specs.Calls.{solverRefusal};
 ghost use Rattle.checks.specs.Valid.{Valid, Vector};
-ghost use Rattle.wiedemann.specs.Written.{Written};
 ghost use Rattle.wiedemann.specs.Region.{part};
 ghost use Rattle.wiedemann.specs.Projection.{Words};
 ghost use Rattle.wiedemann.specs.Factor.{Multiplied};
 ghost use Rattle.wiedemann.specs.Solver.{System, Narrowed, Passing, Passed, Finished, Closable, Inner, Lent, Imaged, none, counted};
 ghost use Rattle.wiedemann.specs.Verdict.{Closed, Solves, Found, closing};
 use crate::pass::applied;
-use crate::pass::copy;
 use crate::pass::multiply;
 use crate::pass::shorten;
-use crate::projection::is_zero;
 use crate::scale::difference;
 use crate::scale::quotient;
 use crate::scale::scaled;
+use crate::slice::copy;
+use crate::slice::is_zero;
+use crate::slice::transfer;
 use crate::sums::reciprocal;
 use checks::solver_refusal;
 use field::Field;
@@ -137,24 +137,12 @@ fn pass(
     count(c, left, t)
 }
 
-// b into the places from `to` on.
-fn load(b: &[u32], work: &mut [u32], to: usize)
-    requires { ⌜ to + length (now b) ≤ length (now work) ⌝ }
-    ensures { λ _. ⌜ Written (now (work .entry)) to (length (now (b .entry))) (at (now (b .entry))) (now (work .exit)) ⌝ }
-{
-    let mut i = 0;
-    while i < b.len() {
-        work[to + i] = b[i];
-        i += 1;
-    }
-}
-
 // r = b, F = 1, D = 0.
 fn begin(b: &[u32], work: &mut [u32]) -> Counts
     requires { ⌜ 16 * length (now b) + 16 ≤ length (now work) ⌝ }
     ensures { λ c. ⌜ (c ≡ none) × (length (now (work .exit)) ≡ length (now (work .entry))) × (at (now (work .exit)) 0 ≡ 1) × (part (length (now (b .entry)) + 1) (length (now (b .entry))) (now (work .exit)) ≡ now (b .entry)) ⌝ }
 {
-    load(b, work, b.len() + 1);
+    transfer(b, 0, work, b.len() + 1, b.len());
     work[0] = 1;
     Counts {
         degree: 0,
@@ -226,7 +214,7 @@ fn image_within(
     ensures { λ _. ⌜ Inner p (matrix (now (starts .entry)) (now (columns .entry)) (now (values .entry))) (now (b .entry)) (now (area .entry)) d (now (area .exit)) ⌝ }
 {
     let r: usize = 0;
-    load(b, area, r);
+    transfer(b, 0, area, r, b.len());
     applied(
         p,
         reciprocal,
@@ -308,18 +296,6 @@ fn spread(work: &[u32], size: usize, out: &mut [u32])
     }
 }
 
-// The places of work from `from` on into out.
-fn deliver(work: &[u32], from: usize, out: &mut [u32])
-    requires { ⌜ from + length (now out) ≤ length (now work) ⌝ }
-    ensures { λ _. ⌜ now (out .exit) ≡ part from (length (now (out .entry))) (now (work .entry)) ⌝ }
-{
-    let mut i = 0;
-    while i < out.len() {
-        out[i] = work[from + i];
-        i += 1;
-    }
-}
-
 // −w × `inverse` for the w from `from` on, into out.
 fn solution(p: u32, inverse: u32, work: &[u32], from: usize, out: &mut [u32])
     requires { ⌜ (inverse < p) × (p ≤ 2147483647) × (from + length (now out) ≤ length (now work)) × Vector p (length (now out)) (part from (length (now out)) (now work)) ⌝ }
@@ -374,7 +350,7 @@ fn finish(
     let constant = work[0];
     image(p, reciprocal, starts, columns, values, b, work, d);
     if constant == 0 {
-        deliver(work, first, vector);
+        transfer(work, first, vector, 0, b.len());
         return Verdict::Singular(closed(c));
     }
     solution(p, inverse_modulo(p, constant), work, first, vector);

@@ -8,8 +8,8 @@ use Rattle.meaning.specs.Matrix.{matrix}
 use Rattle.meaning.specs.Refusal.{first, matrixChecks}
 use Rattle.meaning.specs.Calls.{applyRefusal}
 use Rattle.checks.specs.Valid.{Valid}
-use Rattle.checks.specs.Matrix.{applyChecks, applyRefusal-parts, numbered-matrix, matrix-valid}
-use Rattle.laws.specs.Refusal.{first-append-none, first-append-some}
+use Rattle.checks.specs.Matrix.{applyChecks, applyRefusal-parts, matrix-valid}
+use Rattle.laws.specs.Refusal.{numbered-matrix, first-append-none, first-append-some}
 use borrow.Author.Needs.{needs}
 use Rattle.checks.proofs.apply_refusal.Statement.{statement}
 use Rattle.checks.proofs.apply_refusal.Tie as tie

@@ -9,8 +9,8 @@ use borrow.Author.Tests.{eq-eqb, ne-eqb}
 use Rattle.meaning.specs.Matrix.{matrix}
 use Rattle.meaning.specs.Refusal.{check, first}
 use Rattle.meaning.specs.Calls.{systemChecks, productRefusal}
-use Rattle.checks.specs.Matrix.{Accepted, system-accepted, numbered-system, productRefusal-system}
-use Rattle.laws.specs.Refusal.{first-append-none, first-append-some}
+use Rattle.checks.specs.Matrix.{Accepted, system-accepted, productRefusal-system}
+use Rattle.laws.specs.Refusal.{numbered-system, first-append-none, first-append-some}
 use borrow.Author.Needs.{needs}
 use Rattle.checks.proofs.product_refusal.Statement.{statement}
 use Rattle.checks.proofs.product_refusal.Tie as tie

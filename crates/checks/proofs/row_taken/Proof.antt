@@ -1,72 +1,54 @@
-use mathlib.Core.Path.{_≡_, sym, ap, _∙_}
-use mathlib.Core.Bool.{true}
-use Prim.Native.Nat.{_-_, _≤_}
+use mathlib.Core.Path.{sym, ap, ap₂, _∙_}
+use mathlib.Core.Bool.{_&&_}
 use native.Mathlib.Omega.{arith}
+use lib.Dec.{ltb}
 use denote.Ref.{now}
-use borrow.Author.Tests.{not-true, not-false}
 use Rattle.meaning.specs.List.{allFrom}
-use Rattle.checks.specs.Matrix.{columnTaken, allFrom-none, allFrom-next, allFrom-not}
+use Rattle.checks.specs.Matrix.{columnTaken, allFrom-none, row-last}
 use borrow.Author.Needs.{needs}
 use Rattle.checks.proofs.row_taken.Statement.{statement}
 use Rattle.checks.proofs.row_taken.Tie as tie
 
-abbrev Inv-loop : tie.InvT-loop
-Inv-loop n from end columns k₀ k =
-    (from ≤ k) × (k ≤ end) × (allFrom from k (columnTaken n end columns) ≡ true)
-
-abbrev μ-loop : tie.MeasureT-loop
-μ-loop n from end columns k₀ k = end - k
-
-loop-holds : tie.Need-loop-holds Inv-loop μ-loop
-loop-holds c =
-    let start = c .before in
-    let at = start .args in
-    (omega arith, start .pre .0, allFrom-none (at .from) (columnTaken (at .n) (at .end) (now (at .columns))))
-
-column-taken-requires : tie.Need-column-taken-requires Inv-loop μ-loop
-column-taken-requires c κs = search needs
-
-returns : tie.Need-returns Inv-loop μ-loop
+returns : tie.Need-returns
 returns c =
-    let at = c .before .before .before .before .before .args in
-    let loop = c .before .before .before .loop in
-    sym
-    (allFrom-not (at .from) (columnTaken (at .n) (at .end) (now (at .columns))) (at .end) (loop .k) (loop .inv .0) (c .before .before .loop-test .taken)
-    (sym (c .before .column-taken .ensures) ∙ not-true (c .before .column-taken .result) (c .if1 .taken)))
+    let at = c .before .before .args in
+    let taken = columnTaken (at .n) (at .end) (now (at .columns)) in
+    sym (ap (λ a. allFrom a (at .end) taken) (c .if1 .taken) ∙ allFrom-none (at .end) taken)
 
-add-k : tie.Need-add-k Inv-loop μ-loop
-add-k c = search needs
+sub-columns-rise : tie.Need-sub-columns-rise
+sub-columns-rise c = search needs
 
-loop-less : tie.Need-loop-less Inv-loop μ-loop
-loop-less c = omega (arith, c .before .before .loop-test .taken)
+columns-rise-requires : tie.Need-columns-rise-requires
+columns-rise-requires c κs = search needs
 
-loop-again : tie.Need-loop-again Inv-loop μ-loop
-loop-again c =
-    let at = c .before .before .before .before .before .args in
-    let loop = c .before .before .before .loop in (
-      omega (arith, loop .inv .0),
-      omega (arith, c .before .before .loop-test .taken),
-      allFrom-next (at .from) (columnTaken (at .n) (at .end) (now (at .columns))) (loop .k) (loop .inv .0) (loop .inv .2)
-          (sym (c .before .column-taken .ensures) ∙ not-false (c .before .column-taken .result) (c .if1 .left)),
-    )
+sub-wide : tie.Need-sub-wide
+sub-wide c = search needs
 
-returns-2 : tie.Need-returns-2 Inv-loop μ-loop
+mul-wide : tie.Need-mul-wide
+mul-wide c = search needs
+
+shared-slice-read-wide : tie.Need-shared-slice-read-wide
+shared-slice-read-wide c = search needs
+
+wide-requires : tie.Need-wide-requires
+wide-requires c κs = search needs
+
+returns-2 : tie.Need-returns-2
 returns-2 c =
-    let at = c .before .before .before .args in
-    let loop = c .before .loop in
-    let end : loop .k ≡ at .end = omega (arith, loop .inv .1, c .loop-test .left) in
-    sym (ap (λ k. allFrom (at .from) k (columnTaken (at .n) (at .end) (now (at .columns)))) (sym end) ∙ loop .inv .2)
+    let start = c .before .before .before .before .before in
+    let at = start .args in
+    ap₂ (λ rise last. rise && ltb last (at .n)) (c .before .before .columns-rise .ensures) (c .wide .ensures .0)
+    ∙ sym (row-last (at .n) (at .from) (at .end) (now (at .columns)) (omega (arith, start .pre .0, c .before .before .before .if1 .left)))
 
 pub row-taken-spec : {M : Type 1} → statement M
 row-taken-spec =
     tie.close
     (tie.spec
-    Inv-loop
-    μ-loop
-    loop-holds
-    column-taken-requires
     returns
-    add-k
-    loop-less
-    loop-again
+    sub-columns-rise
+    columns-rise-requires
+    sub-wide
+    mul-wide
+    shared-slice-read-wide
+    wide-requires
     returns-2)

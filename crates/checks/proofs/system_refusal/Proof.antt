@@ -7,8 +7,8 @@ use borrow.Author.Tests.{eq-eqb, ne-eqb, not-true, not-false}
 use Rattle.meaning.specs.Matrix.{matrix}
 use Rattle.meaning.specs.Refusal.{first, matrixChecks}
 use Rattle.meaning.specs.Calls.{systemChecks}
-use Rattle.checks.specs.Matrix.{vectorChecks, systemChecks-parts, numbered-matrix, matrix-valid}
-use Rattle.laws.specs.Refusal.{first-append-none, first-append-some}
+use Rattle.checks.specs.Matrix.{vectorChecks, systemChecks-parts, matrix-valid}
+use Rattle.laws.specs.Refusal.{numbered-matrix, first-append-none, first-append-some}
 use borrow.Author.Needs.{needs}
 use Rattle.checks.proofs.system_refusal.Statement.{statement}
 use Rattle.checks.proofs.system_refusal.Tie as tie

@@ -7,8 +7,8 @@ use borrow.Author.Tests.{eq-eqb, ne-eqb, not-true, not-false}
 use Rattle.meaning.specs.Matrix.{matrix}
 use Rattle.meaning.specs.Refusal.{first, matrixChecks}
 use Rattle.meaning.specs.Calls.{takesRefusal}
-use Rattle.checks.specs.Matrix.{takesChecks, takesRefusal-parts, numbered-matrix, matrix-valid}
-use Rattle.laws.specs.Refusal.{first-append-none, first-append-some}
+use Rattle.checks.specs.Matrix.{takesChecks, takesRefusal-parts, matrix-valid}
+use Rattle.laws.specs.Refusal.{numbered-matrix, first-append-none, first-append-some}
 use borrow.Author.Needs.{needs}
 use Rattle.checks.proofs.takes_refusal.Statement.{statement}
 use Rattle.checks.proofs.takes_refusal.Tie as tie

@@ -14,8 +14,8 @@ Inv-loop buffer₀ memory₀ out₀ work₀ c₀ cases k₀ buffer memory out wo
 abbrev μ-loop : tie.MeasureT-loop
 μ-loop buffer₀ memory₀ out₀ work₀ c₀ cases k₀ buffer memory out work c k = cases - k
 
-number-requires : tie.Need-number-requires Inv-loop μ-loop
-number-requires c κs = search needs
+first-requires : tie.Need-first-requires Inv-loop μ-loop
+first-requires c κs = search needs
 
 loop-holds : tie.Need-loop-holds Inv-loop μ-loop
 loop-holds c = search needs
@@ -53,7 +53,7 @@ all-spec =
     (tie.spec
     Inv-loop
     μ-loop
-    number-requires
+    first-requires
     loop-holds
     one-requires
     add-k

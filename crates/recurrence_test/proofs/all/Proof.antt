@@ -14,8 +14,8 @@ Inv-loop buffer₀ s₀ polynomial₀ work₀ c₀ calls k₀ buffer s polynomia
 abbrev μ-loop : tie.MeasureT-loop
 μ-loop buffer₀ s₀ polynomial₀ work₀ c₀ calls k₀ buffer s polynomial work c k = calls - k
 
-number-requires : tie.Need-number-requires Inv-loop μ-loop
-number-requires c κs = search needs
+first-requires : tie.Need-first-requires Inv-loop μ-loop
+first-requires c κs = search needs
 
 loop-holds : tie.Need-loop-holds Inv-loop μ-loop
 loop-holds c = search needs
@@ -53,7 +53,7 @@ all-spec =
     (tie.spec
     Inv-loop
     μ-loop
-    number-requires
+    first-requires
     loop-holds
     one-requires
     add-k

@@ -16,8 +16,8 @@ Inv-loop buffer₀ starts₀ columns₀ values₀ b₀ words₀ vector₀ polyno
 abbrev μ-loop : tie.MeasureT-loop
 μ-loop buffer₀ starts₀ columns₀ values₀ b₀ words₀ vector₀ polynomial₀ work₀ c₀ calls k₀ buffer starts columns values b words vector polynomial work c k = calls - k
 
-number-requires : tie.Need-number-requires Inv-loop μ-loop
-number-requires c κs = search needs
+first-requires : tie.Need-first-requires Inv-loop μ-loop
+first-requires c κs = search needs
 
 loop-holds : tie.Need-loop-holds Inv-loop μ-loop
 loop-holds c = search needs
@@ -26,7 +26,7 @@ one-requires : tie.Need-one-requires Inv-loop μ-loop
 one-requires c κs = search needs
 
 add-k : tie.Need-add-k Inv-loop μ-loop
-add-k c = omega (arith, c .before .before .before .before .before .before .before .before .before .before .before .before .before .before .before .before .before .before .before .before .before .before .before .before .before .before .before .before .loop-test .taken, c .before .before .before .before .before .before .before .before .before .before .before .before .before .before .before .before .before .before .before .before .before .before .before .before .before .before .before .before .before .before .before .before .number)
+add-k c = omega (arith, c .before .before .before .before .before .before .before .before .before .before .before .before .before .before .before .before .before .before .before .before .before .before .before .before .before .before .before .before .loop-test .taken, c .before .before .before .before .before .before .before .before .before .before .before .before .before .before .before .before .before .before .before .before .before .before .before .before .before .before .before .before .before .before .before .before .first)
 
 loop-less : tie.Need-loop-less Inv-loop μ-loop
 loop-less c = search needs
@@ -70,7 +70,7 @@ all-spec =
     (tie.spec
     Inv-loop
     μ-loop
-    number-requires
+    first-requires
     loop-holds
     one-requires
     add-k

@@ -7,6 +7,7 @@ use denote.Ref.{now}
 use Rattle.meaning.specs.List.{zeros}
 use Rattle.meaning.specs.Matrix.{matrix}
 use Rattle.checks.specs.Valid.{Vector}
+use Rattle.wiedemann.specs.Region.{written-table}
 use Rattle.wiedemann.specs.Transposed.{scattered, gathered, gathered-none, gathered-more, gathered-all, vector-gathered}
 use borrow.Author.Needs.{needs}
 use Rattle.wiedemann.proofs.matrix.transposed_into.Statement.{statement}
@@ -30,14 +31,15 @@ inside : (c : tie.In-loop Inv-loop μ-loop) → c .before .loop .i < length (now
 inside c = omega (arith, c .loop-test .taken, c .before .before .before .before .before .before .before .before .before .before .before .pre .1 .1 .places)
 
 clear-requires : tie.Need-clear-requires Inv-loop μ-loop
-clear-requires c κs = search needs
+clear-requires c κs = let pre = c .before .before .before .before .before .before .pre in omega (arith, pre .1 .0, pre .1 .1 .places)
 
 loop-holds : tie.Need-loop-holds Inv-loop μ-loop
 loop-holds c =
     let start = c .before .before .before .before .before .before .before .before .before in
     let at = start .args in (
       omega arith,
-      c .before .before .clear .ensures ∙ ap zeros (start .pre .1 .0)
+      written-table (now (at .out)) (length (now (at .v))) (λ i. 0) _ (start .pre .1 .0 ∙ sym (start .pre .1 .1 .places)) (c .before .before .clear .ensures)
+          ∙ ap zeros (start .pre .1 .1 .places)
           ∙ gathered-none (at .p) (matrix (now (at .starts)) (now (at .columns)) (now (at .values))) (now (at .v)),
     )
 

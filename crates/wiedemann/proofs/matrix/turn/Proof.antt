@@ -5,21 +5,21 @@ use lib.ListN.{length}
 use denote.Ref.{now}
 use Rattle.meaning.specs.Matrix.{matrix}
 use Rattle.checks.specs.Valid.{Vector}
-use Rattle.wiedemann.specs.Region.{part, written-copy}
+use Rattle.wiedemann.specs.Region.{part, written-copy, written-whole}
 use Rattle.wiedemann.specs.Horner.{step}
 use borrow.Author.Needs.{needs}
 use Rattle.wiedemann.proofs.matrix.turn.Statement.{statement}
 use Rattle.wiedemann.proofs.matrix.turn.Tie as tie
 
-copy-front-requires : tie.Need-copy-front-requires
-copy-front-requires c κs = search needs
+transfer-requires : tie.Need-transfer-requires
+transfer-requires c κs = search needs
 
-front : (c : tie.After-copy-front)
-    → part 0 (length (now (c .before .before .before .before .before .before .before .before .before .args .starts)) - 1) (c .copy-front .last .1 .0) ≡ now (c .before .before .before .before .before .before .before .before .before .args .out)
+front : (c : tie.After-transfer)
+    → part 0 (length (now (c .before .before .before .before .before .before .before .before .before .args .starts)) - 1) (c .transfer .last .1 .1 .0) ≡ now (c .before .before .before .before .before .before .before .before .before .args .out)
 front c =
     let start = c .before .before .before .before .before .before .before .before .before in
-    written-copy (now (start .args .work)) (now (start .args .out)) (length (now (start .args .starts)) - 1) (c .copy-front .last .1 .0)
-    (start .pre .1 .3 .places) (start .pre .1 .2) (c .copy-front .ensures)
+    written-copy (now (start .args .work)) (now (start .args .out)) (length (now (start .args .starts)) - 1) (c .transfer .last .1 .1 .0)
+    (start .pre .1 .3 .places) (start .pre .1 .2) (written-whole (now (start .args .out)) (c .transfer .ensures))
 
 step-from-requires : tie.Need-step-from-requires
 step-from-requires c κs =
@@ -27,7 +27,7 @@ step-from-requires c κs =
     let pre = start .pre in
     let vector = pre .1 .3 in
     let at = start .args in
-    let kept = c .before .before .before .before .copy-front .ensures .same-length in (
+    let kept = c .before .before .before .before .transfer .ensures .same-length in (
       pre .0,
       (
         pre .1 .0,
@@ -52,4 +52,4 @@ returns c =
 
 pub turn-spec : {M : Type 1} → statement M
 turn-spec =
-    tie.close (tie.spec copy-front-requires step-from-requires same-length same-length-2 returns)
+    tie.close (tie.spec transfer-requires step-from-requires same-length same-length-2 returns)

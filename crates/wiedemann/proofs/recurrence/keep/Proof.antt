@@ -1,4 +1,5 @@
 -- `wiedemann::recurrence::keep` meets its contract: the copy's region lies after q's. Assumes nothing.
+use mathlib.Core.Logic.{inr}
 use Prim.Native.Nat.{_+_, _≤_}
 use native.Mathlib.Omega.{arith}
 use denote.Ref.{now}
@@ -33,7 +34,7 @@ copy-requires c κs =
     let w = place-within (a .count) (spare (a .count) (a .c)) (spare-place (a .count) (a .c) (start .pre .3)) in
     let x : a .count + 2 + (a .c .length + 1) ≤ spare (a .count) (a .c) = omega (arith, start .pre .2, w) in
     let y : spare (a .count) (a .c) + (a .c .length + 1) ≤ length (now (a .work)) = omega (arith, start .pre .1, start .pre .2, w) in
-    (x, y)
+    (omega (arith, x, y), y, inr x)
 
 same-length : tie.Need-same-length
 same-length c = search needs

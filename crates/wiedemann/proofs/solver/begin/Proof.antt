@@ -1,7 +1,7 @@
 use lib.Seq.{getD-set-same, getD-set-other}
 use Rattle.laws.specs.List.{table-of}
 use Rattle.wiedemann.specs.Written.{Written}
-use Rattle.wiedemann.specs.Region.{part, part-ext, written-part}
+use Rattle.wiedemann.specs.Region.{part, part-ext, written-part, written-whole}
 use Rattle.meaning.specs.List.{at}
 use denote.Ref.{now}
 use mathlib.Core.List.{List}
@@ -27,11 +27,11 @@ begun W X b room w = (
     long : length (set X 0 1) ≡ length W
     long = length-set X 0 1 ∙ w .same-length
 
-add-load : tie.Need-add-load
-add-load c = search needs
+add-transfer : tie.Need-add-transfer
+add-transfer c = search needs
 
-load-requires : tie.Need-load-requires
-load-requires c κs = search needs
+transfer-requires : tie.Need-transfer-requires
+transfer-requires c κs = search needs
 
 slice-write-work : tie.Need-slice-write-work
 slice-write-work c = search needs
@@ -42,8 +42,8 @@ same-length c = search needs
 returns : tie.Need-returns
 returns c =
     let a = c .before .before .before .before .before .before .args in
-    let g = begun (now (a .work)) _ (now (a .b)) (c .before .before .before .before .before .before .pre) (c .before .before .load .ensures) in
+    let g = begun (now (a .work)) _ (now (a .b)) (c .before .before .before .before .before .before .pre) (written-whole (now (a .b)) (c .before .before .transfer .ensures)) in
     (refl, g .0, g .1, g .2)
 
 pub begin-spec : {M : Type 1} → statement M
-begin-spec = tie.close (tie.spec add-load load-requires slice-write-work same-length returns)
+begin-spec = tie.close (tie.spec add-transfer transfer-requires slice-write-work same-length returns)

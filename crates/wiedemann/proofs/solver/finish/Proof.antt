@@ -3,7 +3,7 @@ use Rattle.bridge.specs.ThirdCondition.{verdict-zero, verdict-singular, verdict
 use Rattle.residue.specs.Inverse.{inverse-lt}
 use Rattle.meaning.specs.Field.{minus, times, inverse}
 use native.Mathlib.Nat.{zero-add, pos-of-ne-zero}
-use Rattle.wiedemann.specs.Region.{part, at-part}
+use Rattle.wiedemann.specs.Region.{part, at-part, written-taken}
 use Rattle.meaning.specs.Solver.{Kind}
 use Rattle.meaning.specs.Matrix.{matrix}
 use Rattle.meaning.specs.List.{at, table, padded, zeros}
@@ -76,8 +76,8 @@ image-requires c κs =
       (pre .0 .1, pos-of-ne-zero (c .before .before .if1 .left), q .found, q .room, q .one),
     )
 
-deliver-requires : tie.Need-deliver-requires
-deliver-requires c κs = search needs
+transfer-requires : tie.Need-transfer-requires
+transfer-requires c κs = search needs
 
 closed-requires-2 : tie.Need-closed-requires-2
 closed-requires-2 c κs =
@@ -101,10 +101,13 @@ returns-2 c =
     let n = length (now (a .starts)) - 1 in
     let W = now (a .work) in
     let F = part 0 (a .c .degree + 1) W in
+    let image = c .before .before .before .before .before .before .before .before .before .image in
+    let W₁ = image .last .1 .1 .1 .1 .1 .1 .0 in
     let said = verdict-singular (a .p) A (now (a .b)) F (a .c .degree) (c .before .before .before .before .before .before .before .before .before .before .before .before .if1 .left) (constant (a .c .degree) W ∙ c .before .before .before .before .before .before .if2 .taken) in
     record {
       ends = (ap (λ (y : Kind × List ℕ). y .0) said, c .closed2 .ensures);
-      vector-is = c .before .before .before .deliver .ensures ∙ ap (λ m. part (n + 1) m (c .before .before .before .before .before .before .before .before .before .image .last .1 .1 .1 .1 .1 .1 .0)) (pre .1 .1) ∙ c .before .before .before .before .before .before .before .before .before .image .ensures .holds ∙ sym (ap (λ (y : Kind × List ℕ). y .1) said);
+      vector-is = written-taken (now (a .vector)) W₁ (n + 1) (length (now (a .b))) _ (pre .1 .1 ∙ sym (pre .0 .0 .accepted .size-b)) (omega (arith, pre .0 .0 .accepted .size-b, pre .1 .0 .room, image .kept .1 .1 .1 .1 .1 .1 .0)) (c .before .before .before .transfer .ensures)
+          ∙ ap (λ m. part (n + 1) m W₁) (pre .0 .0 .accepted .size-b) ∙ image .ensures .holds ∙ sym (ap (λ (y : Kind × List ℕ). y .1) said);
       polynomial-is = c .before .before .before .before .before .before .before .before .before .before .before .before .before .before .before .spread .ensures ∙ ap (λ m. padded m F) (pre .1 .2);
     }
 
@@ -174,7 +177,7 @@ finish-spec =
     returns
     slice-read-constant
     image-requires
-    deliver-requires
+    transfer-requires
     closed-requires-2
     same-length-4
     same-length-5

@@ -1,5 +1,5 @@
 use Rattle.wiedemann.specs.Solver.{inner}
-use Rattle.wiedemann.specs.Region.{written-copy}
+use Rattle.wiedemann.specs.Region.{written-copy, written-whole}
 use Rattle.checks.specs.Valid.{Vector}
 use denote.Ref.{now}
 use lib.ListN.{length}
@@ -10,8 +10,8 @@ use borrow.Author.Needs.{needs}
 use Rattle.wiedemann.proofs.solver.image_within.Statement.{statement}
 use Rattle.wiedemann.proofs.solver.image_within.Tie as tie
 
-load-requires : tie.Need-load-requires
-load-requires c κs = search needs
+transfer-requires : tie.Need-transfer-requires
+transfer-requires c κs = search needs
 
 sub-applied : tie.Need-sub-applied
 sub-applied c = search needs
@@ -27,7 +27,7 @@ applied-requires c κs =
     let a = c .before .before .before .before .before .before .before .before .before .before .args in
     let pre = c .before .before .before .before .before .before .before .before .before .before .pre in
     let n = length (now (a .starts)) - 1 in
-    let w = c .before .before .before .load .ensures in
+    let w = written-whole (now (a .b)) (c .before .before .before .transfer .ensures) in
     let places = pre .0 .1 .places in
     let room = pre .1 .2 in
     let some = pre .1 .1 in (
@@ -48,14 +48,15 @@ same-length c = search needs
 
 returns : tie.Need-returns
 returns c =
+    let a = c .before .before .before .before .before .before .before .before .before .before .before .before .before .args in
     let pre = c .before .before .before .before .before .before .before .before .before .before .before .before .before .pre in
-    inner (pre .1 .1) (pre .1 .2) (pre .0 .1 .places) (c .before .before .before .before .before .before .load .ensures) (c .before .before .applied .ensures)
+    inner (pre .1 .1) (pre .1 .2) (pre .0 .1 .places) (written-whole (now (a .b)) (c .before .before .before .before .before .before .transfer .ensures)) (c .before .before .applied .ensures)
 
 pub image-within-spec : {M : Type 1} → statement M
 image-within-spec =
     tie.close
     (tie.spec
-    load-requires
+    transfer-requires
     sub-applied
     mul-applied
     sub-applied-2
