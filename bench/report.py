@@ -250,7 +250,7 @@ def picture(times):
             y += BAR
         y += GAP
     one = LEFT + WIDTH / MOST
-    parts.append('<line x1="%.1f" y1="48" x2="%.1f" y2="%d" stroke="#444" stroke-dasharray="3 3"/>' % (one, one, y - 8))
+    parts.insert(0, '<line x1="%.1f" y1="48" x2="%.1f" y2="%d" stroke="#444" stroke-dasharray="3 3"/>' % (one, one, y - 8))
     legend, x = [], 16
     for name in times.names():
         legend.append('<rect x="%d" y="28" width="11" height="11" fill="%s"/>' % (x, COLOURS[name]))
@@ -258,7 +258,7 @@ def picture(times):
         x += 34 + 7 * len(name)
     return '\n'.join([
         '<svg xmlns="http://www.w3.org/2000/svg" width="740" height="%d" font-family="sans-serif" font-size="12">' % y,
-        '<style>.number { font-size: 10px; fill: #444 }</style>',
+        '<style>.number { font-size: 10px; fill: #444; paint-order: stroke; stroke: white; stroke-width: 3px }</style>',
         '<rect width="100%" height="100%" fill="white"/>',
         '<text x="16" y="18" font-weight="bold">Time beside %s (= 1), p = %s; shorter is faster</text>' % (
             base, count(LARGE)), *legend, *parts, '</svg>', ''])
