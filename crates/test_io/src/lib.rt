@@ -1,6 +1,10 @@
-// What the test programs share: a reader of decimal numbers from standard input, and slices that are read, filled and printed.
+// What the test programs share: a reader of decimal numbers from standard input, and slices that are read, filled and printed. No contract speaks of what is
+// read and written: a program's output is held to its file.
 use libc::STDIN_FILENO;
 use libc::STDOUT_FILENO;
+ghost use mathlib.Core.Path.{_≡_};
+ghost use Prim.Native.Nat.{ℕ, _+_, _*_, _%_, _<_};
+ghost use lib.ListN.{length, getD, set};
 
 // Where the input is read: bytes `at` to `end` of the buffer are next. `value` is the number so far; `more` says that it may go on.
 pub struct Cursor {
@@ -11,7 +15,9 @@ pub struct Cursor {
 }
 
 // The number with one more digit, modulo 2^32.
-pub fn with_digit(value: u32, byte: u8) -> u32 {
+pub fn with_digit(value: u32, byte: u8) -> u32
+    ensures { λ r. ⌜ r ≡ (value * 10 + byte % 16) % 4294967296 ⌝ }
+{
     ((value as u64 * 10 + (byte % 16) as u64) % 4294967296) as u32
 }
 
@@ -49,7 +55,9 @@ fn next(buffer: &mut [u8], c: Cursor) -> Cursor {
 }
 
 // The next number: its digits, one byte after them, and perhaps a new bufferful.
-pub fn number(buffer: &mut [u8], start: Cursor) -> Cursor {
+pub fn number(buffer: &mut [u8], start: Cursor) -> Cursor
+    ensures { λ _. ⌜ length (now (buffer .exit)) ≡ length (now (buffer .entry)) ⌝ }
+{
     let mut c = Cursor {
         at: start.at,
         end: start.end,
@@ -65,7 +73,9 @@ pub fn number(buffer: &mut [u8], start: Cursor) -> Cursor {
 }
 
 // The first number of the input.
-pub fn first(buffer: &mut [u8]) -> Cursor {
+pub fn first(buffer: &mut [u8]) -> Cursor
+    ensures { λ _. ⌜ length (now (buffer .exit)) ≡ length (now (buffer .entry)) ⌝ }
+{
     let start = Cursor {
         at: 0,
         end: 0,
@@ -76,14 +86,19 @@ pub fn first(buffer: &mut [u8]) -> Cursor {
 }
 
 // A place past the end is left out.
-pub fn store(s: &mut [u32], i: usize, value: u32) {
+pub fn store(s: &mut [u32], i: usize, value: u32)
+    ensures { λ _. ⌜ now (s .exit) ≡ set (now (s .entry)) i value ⌝ }
+{
     if i < s.len() {
         s[i] = value;
     }
 }
 
 // The next numbers, into the places from `from` up to `to`.
-pub fn numbers(buffer: &mut [u8], start: Cursor, s: &mut [u32], from: usize, to: usize) -> Cursor {
+pub fn numbers(buffer: &mut [u8], start: Cursor, s: &mut [u32], from: usize, to: usize) -> Cursor
+    ensures { λ _. ⌜ length (now (buffer .exit)) ≡ length (now (buffer .entry)) ⌝ }
+    ensures { λ _. ⌜ length (now (s .exit)) ≡ length (now (s .entry)) ⌝ }
+{
     let mut c = start;
     let mut i = from;
     while i < to {
@@ -95,14 +110,19 @@ pub fn numbers(buffer: &mut [u8], start: Cursor, s: &mut [u32], from: usize, to:
 }
 
 // The next `count` bytes of the input, into the first places; none where there are fewer places. Not for a program that has a Cursor.
-pub fn read_bytes(s: &mut [u8], count: usize) {
+pub fn read_bytes(s: &mut [u8], count: usize)
+    ensures { λ _. ⌜ length (now (s .exit)) ≡ length (now (s .entry)) ⌝ }
+{
     let z: usize = 0;
     if count <= s.len() {
         io::read_full(STDIN_FILENO, &mut s[z..count]);
     }
 }
 
-pub fn fill(s: &mut [u32], x: u32) {
+pub fn fill(s: &mut [u32], x: u32)
+    ensures { λ _. ⌜ length (now (s .exit)) ≡ length (now (s .entry)) ⌝ }
+    ensures { λ _. ⌜ ((k : ℕ) → k < length (now (s .entry)) → getD (now (s .exit)) k 0 ≡ x) ⌝ }
+{
     let mut i = 0;
     while i < s.len() {
         s[i] = x;
@@ -110,7 +130,10 @@ pub fn fill(s: &mut [u32], x: u32) {
     }
 }
 
-pub fn fill_bytes(s: &mut [u8], x: u8) {
+pub fn fill_bytes(s: &mut [u8], x: u8)
+    ensures { λ _. ⌜ length (now (s .exit)) ≡ length (now (s .entry)) ⌝ }
+    ensures { λ _. ⌜ ((k : ℕ) → k < length (now (s .entry)) → getD (now (s .exit)) k 0 ≡ x) ⌝ }
+{
     let mut i = 0;
     while i < s.len() {
         s[i] = x;
@@ -118,7 +141,9 @@ pub fn fill_bytes(s: &mut [u8], x: u8) {
     }
 }
 
-pub fn show(s: &[u32]) {
+pub fn show(s: &[u32])
+    ensures { λ _. ⊤ₛ }
+{
     let mut i = 0;
     while i < s.len() {
         io::write_all(STDOUT_FILENO, b" ");
@@ -128,7 +153,9 @@ pub fn show(s: &[u32]) {
     io::write_all(STDOUT_FILENO, b"\n");
 }
 
-pub fn show_refused(number: u32) {
+pub fn show_refused(number: u32)
+    ensures { λ _. ⊤ₛ }
+{
     io::write_all(STDOUT_FILENO, b"refused ");
     io::print_decimal(STDOUT_FILENO, number as u64);
 }
