@@ -13,7 +13,7 @@
 --     run-counted          its applications
 --     thirdCondition, sameAnswer      the third condition; two such runs agree
 -- Of `solve`:
---     projections-zero, length-projections      the words' projections are such a list, of R + n
+--     projections-zero     the words' projections are such a list
 --     Accepted p A b, accepted      what the checks of a run say: p is prime, n ≥ 1, b has n elements, all below p
 --     everyRun             the third condition of every run, whatever the words
 --     everyTwoRuns         every two runs on one system give the same kind, vector and polynomial, whatever their words
@@ -21,25 +21,26 @@ use mathlib.Core.Path.{_≡_, refl, sym, ap, ap₂, fun-ext, subst, _∙_}
 use mathlib.Core.Logic.{_≢_, _⊎_, inl, inr, _↔_}
 use mathlib.Core.Bool.{true, false, not, cond, _&&_}
 use mathlib.Core.List.{List}
-use Prim.Native.Nat.{ℕ, zero, suc, _+_, _-_, _*_, _/_, _%_, _≤_, _<_}
+use Prim.Native.Nat.{ℕ, zero, suc, _+_, _-_, _*_, _%_, _≤_, _<_}
 use native.Mathlib.Numerals.{add-one}
 use native.Mathlib.Decide.{ℕ-discrete}
 use native.Mathlib.Omega.{arith}
 use lib.Dec.{eqb, leb}
-use lib.ListN.{length, drop, length-append, length-drop}
+use lib.ListN.{length, drop, length-drop}
 use lib.Seq.{getD-drop}
 use borrow.Author.Tests.{eq-eqb, ne-eqb, eqb-true, leb-true, not-false}
 use Rattle.meaning.specs.List.{at, sum as sumℕ, table, zeros, isZero, every}
 use Rattle.meaning.specs.Field.{isPrime, isModulus, minus, times, inverse}
 use Rattle.meaning.specs.Matrix.{Matrix, size, product, power, apply}
 use Rattle.meaning.specs.Recurrence.{isMonic}
-use Rattle.meaning.specs.Solver.{vectors, units, projections, Run, begin, run, Kind, solved, singular, verdict, close, solve}
+use Rattle.meaning.specs.Solver.{vectorCount, vectors, projections, Run, begin, run, Kind, solved, singular, spent, applications, verdict, close, solve}
 use Rattle.meaning.specs.ThirdCondition.{inSpan, termCost, ThirdCondition, SameAnswer}
 use Rattle.meaning.specs.Refusal.{first, elements, sizeTaken, startsTaken, columnsTaken, valueTaken, matrixChecks}
 use Rattle.meaning.specs.Calls.{systemChecks, runChecks, EveryRun, EveryTwoRuns}
 use Rattle.laws.specs.Bool.{and-left, and-right, test-cases, never}
 use Rattle.laws.specs.List.{length-table}
 use Rattle.laws.specs.Refusal.{first-none}
+use Rattle.laws.specs.Solver.{length-projections, spent-nil}
 use Rattle.algebra.specs.Ring.{Ring, Field, ring-laws}
 use Rattle.algebra.specs.Ring as ring
 use Rattle.algebra.specs.Sum.{sum, sum-ext, sum-zeros}
@@ -308,22 +309,22 @@ module _ (p : ℕ) (h : Prime p) (A : Matrix) (b : List ℕ) (size-b : length b 
   -- ---- runs from the beginning, with any list of projections
 
   pub run-counted : (us : List (List ℕ)) → isZero (run p A us (begin b) .residual) ≡ true
-      → close p A b (run p A us (begin b)) .applications ≡ cond (isZero b) 0 (termCost (size A) (run p A us (begin b) .degrees) + (2 * run p A us (begin b) .found - 1))
+      → applications (close p A b (run p A us (begin b))) ≡ cond (isZero b) 0 (termCost (size A) (run p A us (begin b) .passes) + (2 * run p A us (begin b) .found - 1))
   unfolding close begin
   run-counted us z = go (test-cases (isZero b))
     where
       c : Run
       c = run p A us (begin b)
 
-      go : (isZero b ≡ true) ⊎ (isZero b ≡ false) → c .applications + (c .found - 1) ≡ cond (isZero b) 0 (termCost (size A) (c .degrees) + (2 * c .found - 1))
+      go : (isZero b ≡ true) ⊎ (isZero b ≡ false) → spent (c .passes) + (c .found - 1) ≡ cond (isZero b) 0 (termCost (size A) (c .passes) + (2 * c .found - 1))
       go (inl e) =
-          ap (λ (r : Run). r .applications + (r .found - 1)) (run-rest p h A b us (begin b) e)
-          ∙ ap (λ t. cond t 0 (termCost (size A) (c .degrees) + (2 * c .found - 1))) (sym e)
+          ap (λ (r : Run). spent (r .passes) + (r .found - 1)) (run-rest p h A b us (begin b) e) ∙ omega (arith, spent-nil)
+          ∙ ap (λ t. cond t 0 (termCost (size A) (c .passes) + (2 * c .found - 1))) (sym e)
       go (inr e) =
           omega (arith, run-cost p h A b size-b reduced-b us, end-found c (run-begun p h A b size-b reduced-b us .stands) z e)
-          ∙ ap (λ t. cond t 0 (termCost (size A) (c .degrees) + (2 * c .found - 1))) (sym e)
+          ∙ ap (λ t. cond t 0 (termCost (size A) (c .passes) + (2 * c .found - 1))) (sym e)
 
-  pub thirdCondition : (us : List (List ℕ)) (words : List ℕ) → isZero (run p A us (begin b) .residual) ≡ true → length us ≡ length words / size A + size A
+  pub thirdCondition : (us : List (List ℕ)) (words : List ℕ) → isZero (run p A us (begin b) .residual) ≡ true → length us ≡ vectorCount (size A) words + size A
       → ThirdCondition p A b words (close p A b (run p A us (begin b)))
   unfolding close
   thirdCondition us words z l =
@@ -353,10 +354,6 @@ module _ (p : ℕ) (h : Prime p) (A : Matrix) (b : List ℕ) (size-b : length b 
   pub projections-zero : (words : List ℕ) → isZero (run p A (projections p (size A) words) (begin b) .residual) ≡ true
   unfolding projections
   projections-zero words = units-end p h A b size-b reduced-b (vectors p (size A) words)
-
-pub length-projections : (p n : ℕ) (words : List ℕ) → length (projections p n words) ≡ length words / n + n
-unfolding projections vectors units
-length-projections p n words = simp (length-append, length-table)
 
 -- ---- every run
 

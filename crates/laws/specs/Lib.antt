@@ -2,3 +2,4 @@
 pub mod Bool
 pub mod List
 pub mod Refusal
+pub mod Solver
