@@ -272,6 +272,10 @@ matrix-valid p A e =
     let c7 = first-passed 7 (every (valueTaken p) (A .values)) _ (omega arith) (c6 .1) in
     valid-of p A (c3 .0) (c4 .0) (c5 .0) (c6 .0) (c7 .0)
 
+pub matrix-modulus : (p : ℕ) (A : Matrix) → first (matrixChecks p A) ≡ 0 → isModulus p ≡ true
+unfolding matrixChecks
+matrix-modulus p A e = first-passed 3 (isModulus p) _ (omega arith) e .0
+
 -- ---- the calls' checks
 
 -- a matrix and a vector that were not turned down

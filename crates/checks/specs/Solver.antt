@@ -2,21 +2,24 @@
 --     slicesTaken            11: the slices are as long as stated
 --     refusal-system, refusal-words, refusal-slices, refusal-none      the number, by the first check that turns the input down
 --     run-none               no check of a run turns the input down
+--     words-none, words-multiple, words-broken      10 by a quotient, for any n
 --     not-multiple, too-many, words-fit; vector-off, polynomial-off, work-off, slices-fit      10 and 11 by what the code asks
-use mathlib.Core.Path.{_≡_, sym, ap, _∙_}
+use mathlib.Core.Path.{_≡_, refl, sym, ap, _∙_}
 use mathlib.Core.Logic.{_≢_}
 use mathlib.Core.Bool.{Bool, true, false, not, _&&_}
 use mathlib.Core.List.{List, [], _∷_, _++_}
-use Prim.Native.Nat.{ℕ, _+_, _*_, _%_, _≤_, _<_}
+use Prim.Native.Nat.{ℕ, _+_, _*_, _/_, _%_, _≤_, _<_}
+use native.Mathlib.Nat.{zero-mod, div-add-mod', mul-le-mul}
 use native.Mathlib.Omega.{arith}
 use lib.Dec.{eqb, leb}
 use lib.ListN.{length}
-use borrow.Author.Tests.{eq-eqb, ne-eqb, le-leb, lt-leb}
+use borrow.Author.Tests.{eq-eqb, ne-eqb, le-leb, lt-leb, eqb-true, leb-true}
 use Rattle.meaning.specs.Matrix.{Matrix, size}
 use Rattle.meaning.specs.Refusal.{Check, check, first, wordsTaken}
 use Rattle.meaning.specs.Calls.{systemChecks, runChecks, solverRefusal}
-use Rattle.laws.specs.Bool.{and-both, and-false-left, and-false-right}
+use Rattle.laws.specs.Bool.{and-both, and-right, and-false-left, and-false-right, same-test}
 use Rattle.laws.specs.Refusal.{first-stops, first-past, first-nil, numbered-system, numbered-run, first-append-none, first-append-some}
+use Rattle.laws.specs.Solver.{vectorCount-div, vectorCount-few}
 
 abbrev pub slicesTaken : ℕ → List ℕ → List ℕ → List ℕ → Bool
 slicesTaken n v f w = eqb (length v) n && eqb (length f) (n + 1) && leb (16 * n + 16) (length w)
@@ -73,6 +76,23 @@ module _ (words : List ℕ) {m n : ℕ} (e : m ≡ n) where
   unfolding wordsTaken
   words-fit q l =
       and-both (eq-eqb (length words % n) 0 (ap (λ k. length words % k) (sym e) ∙ q)) (le-leb (length words) (64 * n) (omega (arith, l, e)))
+
+pub words-none : (n : ℕ) (words : List ℕ) → n ≡ 0 → eqb (length words) 0 ≡ wordsTaken n words
+unfolding wordsTaken
+words-none n words e =
+    same-test (eqb (length words) 0) (wordsTaken n words)
+    (λ h. let none = eqb-true (length words) 0 h in words-fit words refl (ap (λ k. k % n) none ∙ zero-mod n) (omega (arith, none)))
+    (λ h. eq-eqb (length words) 0 (omega (arith, e, leb-true (length words) (64 * n) (and-right (eqb (length words % n) 0) (leb (length words) (64 * n)) h))))
+
+pub words-multiple : (n : ℕ) (words : List ℕ) → length words % n ≡ 0 → leb (length words / n) 64 ≡ wordsTaken n words
+words-multiple n words e =
+    same-test (leb (length words / n) 64) (wordsTaken n words)
+    (λ h. words-fit words refl e
+    (omega (arith, div-add-mod' (length words) n, e, mul-le-mul {n₁ = length words / n} {m₁ = n} {n₂ = 64} {m₂ = n} (leb-true (length words / n) 64 h) (omega arith))))
+    (λ h. le-leb (length words / n) 64 (omega (arith, vectorCount-div n words, vectorCount-few n words h)))
+
+pub words-broken : (n : ℕ) (words : List ℕ) → length words % n ≢ 0 → eqb (length words % n) 0 ≡ wordsTaken n words
+words-broken n words q = ne-eqb (length words % n) 0 q ∙ sym (not-multiple words refl q)
 
 module _ (v f w : List ℕ) {m n : ℕ} (e : m ≡ n) where
   pub vector-off : length v ≢ m → slicesTaken n v f w ≡ false

@@ -11,7 +11,7 @@ ghost use lib.Dec.{leb};
 ghost use lib.ListN.{length};
 ghost use Rattle.meaning.specs.List.{at, all, allFrom, every};
 ghost use Rattle.meaning.specs.Matrix.{matrix};
-ghost use Rattle.meaning.specs.Refusal.{first, within, elements, sizeTaken, startsTaken, columnsTaken, valueTaken, matrixChecks};
+ghost use Rattle.meaning.specs.Refusal.{wordsTaken, first, within, elements, sizeTaken, startsTaken, columnsTaken, valueTaken, matrixChecks};
 ghost use Rattle.meaning.specs.Calls.{systemChecks, productRefusal, applyRefusal, takesRefusal, recurrenceRefusal, solverRefusal};
 ghost use Rattle.checks.specs.Matrix.{columnTaken, rises, Ordered};
 
@@ -288,6 +288,16 @@ pub fn recurrence_refusal(p: u32, s: &[u32], polynomial: &[u32], work: &[u32]) -
         return 11;
     }
     0
+}
+
+// 10: the words are a multiple of n, and at most 64 × n.
+pub fn words_taken(n: usize, words: &[u32]) -> bool
+    ensures { λ r. ⌜ r ≡ wordsTaken n (now (words .entry)) ⌝ }
+{
+    if n == 0 {
+        return words.len() == 0;
+    }
+    words.len() % n == 0 && words.len() / n <= 64
 }
 
 // What a run of the solver is refused for.

@@ -11,6 +11,4 @@ pub mod Lent
 pub mod Projection
 pub mod Factor
 pub mod Turns
-pub mod Solver
-pub mod Verdict
-pub mod Taken
+pub mod Pass

@@ -1,5 +1,6 @@
 // Two checks of a vector that anyone offers: does A take x to b, and is w not zero and taken to zero. Neither needs the solver.
 use crate::matrix::row;
+use crate::slice::element;
 use crate::slice::is_zero;
 use crate::sums::reciprocal;
 use checks::system_refusal;
@@ -21,13 +22,6 @@ pub enum Verdict {
     No,
     // The number of the first check that turned the input down.
     Refused(u32),
-}
-
-// Element i of b, 0 past its end.
-fn element(b: &[u32], i: usize) -> u32
-    ensures { λ r. ⌜ r ≡ at (now (b .entry)) i ⌝ }
-{
-    if i < b.len() { b[i] } else { 0 }
 }
 
 // Every element of Ax is that of b, which has zeros after its end.

@@ -8,6 +8,7 @@ ghost use Rattle.meaning.specs.Solver.{dot, projections};
 ghost use Rattle.checks.specs.Valid.{Vector};
 ghost use Rattle.wiedemann.specs.Sums.{Summed};
 ghost use Rattle.wiedemann.specs.Projection.{wordTerm, Raw, Words};
+use crate::slice::element;
 use crate::sums::Total;
 use crate::sums::times;
 
@@ -73,7 +74,7 @@ pub(crate) fn projected(
     j: usize,
     v: &[u32],
 ) -> u32
-    requires { ⌜ (reciprocal ≡ 18446744073709551615 / p) × (0 < p) × (p ≤ 2147483647) × (j < vectors + length (now v)) ⌝ }
+    requires { ⌜ (reciprocal ≡ 18446744073709551615 / p) × (0 < p) × (p ≤ 2147483647) ⌝ }
     requires { ⌜ Words (length (now v)) vectors (now words) × Vector p (length (now v)) (now v) × (length (now v) ≤ 4096) ⌝ }
     ensures { λ r. ⌜ r ≡ dot p (getD (projections p (length (now (v .entry))) (now (words .entry))) j []) (now (v .entry)) ⌝ }
 {
@@ -81,6 +82,6 @@ pub(crate) fn projected(
         let from = j * v.len();
         dot(p, reciprocal, &words[from..], v)
     } else {
-        v[j - vectors]
+        element(v, j - vectors)
     }
 }

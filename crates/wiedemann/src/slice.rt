@@ -55,3 +55,10 @@ pub(crate) fn is_zero(v: &[u32]) -> bool
     }
     true
 }
+
+// Element i of v, 0 past its end.
+pub(crate) fn element(v: &[u32], i: usize) -> u32
+    ensures { λ r. ⌜ r ≡ at (now (v .entry)) i ⌝ }
+{
+    if i < v.len() { v[i] } else { 0 }
+}

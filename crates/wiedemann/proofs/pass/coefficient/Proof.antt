@@ -20,7 +20,7 @@ bounds c = (
 )
 
 -- few enough carries
-few : (h to k s : ℕ) → h ≤ to → to ≤ k + 1 → k ≤ s → s ≤ 8191 → h < 4294967296
+few : (h to k s : ℕ) → h ≤ to → to ≤ k + 1 → k ≤ s → s ≤ 8192 → h < 4294967296
 few h to k s a b d e = omega (arith, a, b, d, e)
 
 add-to : tie.Need-add-to

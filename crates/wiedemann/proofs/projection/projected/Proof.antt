@@ -1,5 +1,6 @@
-use Rattle.wiedemann.specs.Projection.{projection-words, projection-unit, dot-unit}
+use Rattle.wiedemann.specs.Projection.{projection-past}
 use Rattle.laws.specs.List.{table-ext}
+use Rattle.laws.specs.Solver.{vectorCount-div, projection-words}
 use Rattle.meaning.specs.Solver.{dot, projections}
 use mathlib.Core.List.{[], List}
 use lib.Seq.{take-all, getD-drop}
@@ -58,11 +59,8 @@ dot-requires c κs =
       pre .0 .0,
     )
 
-mul-result : tie.Need-mul-result
-mul-result c = search needs
-
-shared-slice-read-result : tie.Need-shared-slice-read-result
-shared-slice-read-result c = search needs
+element-requires : tie.Need-element-requires
+element-requires c κs = search needs
 
 returns : tie.Need-returns
 returns c =
@@ -76,23 +74,13 @@ returns c =
     ∙ ap (λ u. dot (a .p) u v)
     (table-ext n (λ i. at (take (length words - from) (drop from words)) i % a .p) (λ i. at words (from + i) % a .p)
     (λ i l. ap (λ x. x % a .p) (ap (λ w. at w i) (tail words from) ∙ getD-drop from words i 0))
-    ∙ sym (projection-words (a .p) n words (a .j) (subst (λ m. a .j < m) (pre .1 .0 .count) (c .before .before .if1 .taken))))
+    ∙ sym (projection-words (a .p) n words (a .j) (omega (arith, pre .1 .0 .count, vectorCount-div n words, c .before .before .if1 .taken))))
 
 returns-2 : tie.Need-returns-2
 returns-2 c =
     let a = c .before .before .before .before .args in
     let pre = c .before .before .before .before .pre in
-    let v = now (a .v) in
-    let n = length v in
-    let k = a .j - a .vectors in
-    let inside : k < n = omega (arith, pre .0 .3, c .before .if1 .left) in
-    sym
-    (ap (λ u. dot (a .p) u v)
-    (ap (λ m. getD (projections (a .p) n (now (a .words))) m []) (place (a .j) (a .vectors) (length (now (a .words)) / n) (c .before .if1 .left) (pre .1 .0 .count)) ∙ projection-unit (a .p) n (now (a .words)) k inside)
-    ∙ dot-unit (a .p) v k inside (pre .1 .1 .below k inside))
-  where
-    place : (j r s : ℕ) → r ≤ j → r ≡ s → j ≡ s + (j - r)
-    place j r s l e = omega (arith, l, e)
+    c .element .ensures ∙ sym (projection-past (a .p) (now (a .words)) (now (a .v)) (a .j) (a .vectors) (pre .1 .0 .count) (c .before .if1 .left) (pre .1 .1 .below))
 
 pub projected-spec : {M : Type 1} → statement M
 projected-spec =
@@ -104,7 +92,6 @@ projected-spec =
     part-dot-start
     part-dot-end
     dot-requires
-    mul-result
-    shared-slice-read-result
+    element-requires
     returns
     returns-2)

@@ -1,0 +1,311 @@
+use Rattle.wiedemann.specs.Pass.{residualAt, narrowed-from, made, refused-matrix, refused-state, State, state-of}
+use Rattle.wiedemann.specs.Factor.{multiplied-lent}
+use Rattle.wiedemann.specs.Lent.{lent, part-at, part-of-part}
+use Rattle.wiedemann.specs.Region.{part, length-part}
+use Rattle.checks.specs.Valid.{Valid, Vector}
+use Rattle.checks.specs.Matrix.{matrix-valid, matrix-modulus}
+use Rattle.meaning.specs.Matrix.{matrix}
+use Rattle.meaning.specs.Refusal.{first, matrixChecks}
+use Rattle.meaning.specs.Field.{isModulus}
+use denote.Ref.{now}
+use lib.ListN.{length}
+use native.Mathlib.Nat.{add-zero}
+use native.Mathlib.Omega.{arith}
+use Prim.Native.Nat.{_+_, _-_, _*_, _≤_}
+use mathlib.Core.Bool.{true}
+use mathlib.Core.Path.{_≡_, refl, sym, ap, _∙_, subst}
+use borrow.Author.Needs.{needs}
+use Rattle.wiedemann.proofs.pass.make_pass.Statement.{statement}
+use Rattle.wiedemann.proofs.pass.make_pass.Tie as tie
+
+-- nothing is wrong with field and matrix
+passed : (c : tie.Else1) → first (matrixChecks (c .before .before .before .before .before .before .before .args .field .p) (matrix (now (c .before .before .before .before .before .before .before .args .starts)) (now (c .before .before .before .before .before .before .before .args .columns)) (now (c .before .before .before .before .before .before .before .args .values)))) ≡ 0
+passed c = sym (c .before .matrix-refusal .ensures) ∙ c .if1 .left
+
+valid : (c : tie.Else1) → Valid (c .before .before .before .before .before .before .before .args .field .p) (matrix (now (c .before .before .before .before .before .before .before .args .starts)) (now (c .before .before .before .before .before .before .before .args .columns)) (now (c .before .before .before .before .before .before .before .args .values)))
+valid c = matrix-valid (c .before .before .before .before .before .before .before .args .field .p) (matrix (now (c .before .before .before .before .before .before .before .args .starts)) (now (c .before .before .before .before .before .before .before .args .columns)) (now (c .before .before .before .before .before .before .before .args .values))) (passed c)
+
+-- nor with the state
+state : (c : tie.Else2) → State (c .before .before .before .before .before .before .before .before .before .before .args .field .p) (length (now (c .before .before .before .before .before .before .before .before .before .before .args .starts)) - 1) (c .before .before .before .before .before .before .before .before .before .before .args .d) (now (c .before .before .before .before .before .before .before .before .before .before .args .words)) (now (c .before .before .before .before .before .before .before .before .before .before .args .work))
+state c =
+    state-of (c .before .before .before .before .before .before .before .before .before .before .args .field .p) (length (now (c .before .before .before .before .before .before .before .before .before .before .args .starts)) - 1) (c .before .before .before .before .before .before .before .before .before .before .args .d) (now (c .before .before .before .before .before .before .before .before .before .before .args .words)) (now (c .before .before .before .before .before .before .before .before .before .before .args .work))
+    (sym (c .before .state-refusal .ensures) ∙ c .if2 .left)
+
+matrix-refusal-requires : tie.Need-matrix-refusal-requires
+matrix-refusal-requires c κs = search needs
+
+returns : tie.Need-returns
+returns c =
+    let a = c .before .before .before .before .before .before .before .args in
+    let number = c .before .matrix-refusal .ensures in
+    (refused-matrix (a .field .p) (matrix (now (a .starts)) (now (a .columns)) (now (a .values))) (now (a .words)) (a .d) (now (a .work)) (λ z. c .if1 .taken (number ∙ z)) ∙ sym number, c .if1 .taken, refl)
+
+sub-n : tie.Need-sub-n
+sub-n c = omega (arith, valid c .one-more)
+
+state-refusal-requires : tie.Need-state-refusal-requires
+state-refusal-requires c κs = valid (c .before) .sized
+
+same-length : tie.Need-same-length
+same-length c = search needs
+
+returns-2 : tie.Need-returns-2
+returns-2 c =
+    let a = c .before .before .before .before .before .before .before .before .before .before .args in
+    (refused-state (a .field .p) (matrix (now (a .starts)) (now (a .columns)) (now (a .values))) (now (a .words)) (a .d) (now (a .work)) (passed (c .before .before .before)) ∙ sym (c .before .state-refusal .ensures), c .if2 .taken, refl)
+
+sub-left : tie.Need-sub-left
+sub-left c = let below = state c .below in omega (arith, below)
+
+cast-residual-at : tie.Need-cast-residual-at
+cast-residual-at c = omega (arith, valid (c .before .before .before) .sized)
+
+residual-at-requires : tie.Need-residual-at-requires
+residual-at-requires c κs = search needs
+
+reciprocal-requires : tie.Need-reciprocal-requires
+reciprocal-requires c κs = valid (c .before .before .before .before) .positive
+
+div-take-factor : tie.Need-div-take-factor
+div-take-factor c = omega (arith, valid (c .before .before .before .before .before) .some)
+
+mul-take-factor : tie.Need-mul-take-factor
+mul-take-factor c = search needs
+
+sub-take-factor : tie.Need-sub-take-factor
+sub-take-factor c = omega (arith, c .before .residual-at .ensures, state (c .before .before) .room)
+
+part-take-factor-start : tie.Need-part-take-factor-start
+part-take-factor-start c = omega (arith, c .before .residual-at .ensures, state (c .before .before) .room)
+
+part-take-factor-end : tie.Need-part-take-factor-end
+part-take-factor-end c = search needs
+
+take-factor-requires : tie.Need-take-factor-requires
+take-factor-requires c κs =
+    let a = c .before .before .before .before .before .before .before .before .before .before .before .before .before .args in
+    let s = state (c .before .before .before) in
+    let v = valid (c .before .before .before .before .before .before) in
+    let W = now (a .work) in
+    let n = length (now (a .starts)) - 1 in
+    let m = length W - residualAt n in
+    let room = s .room in
+    let fits : residualAt n + m ≤ length W = omega (arith, room) in
+    let long = length-part (residualAt n) m W fits in
+    let below = s .below in
+    let at-r = c .before .before .residual-at .ensures in
+    rw at-r (
+      (v, matrix-modulus (a .field .p) (matrix (now (a .starts)) (now (a .columns)) (now (a .values))) (passed (c .before .before .before .before .before .before))),
+      (
+        (c .before .reciprocal .ensures, omega (arith, below), omega (arith, v .sized), s .words-taken),
+        (
+          omega (arith, long, room, below),
+          subst (λ l. Vector (a .field .p) n l)
+              (sym (part-of-part 0 n (residualAt n) m W (omega (arith, room)) fits ∙ part-at W (residualAt n + 0) n (residualAt n) n (add-zero (residualAt n)) refl)) (s .residual),
+        ),
+      ),
+    )
+
+mul-f : tie.Need-mul-f
+mul-f c = search needs
+
+mul-f-2 : tie.Need-mul-f-2
+mul-f-2 c = search needs
+
+add-f : tie.Need-add-f
+add-f c = search needs
+
+add-f-2 : tie.Need-add-f-2
+add-f-2 c = search needs
+
+add-f-3 : tie.Need-add-f-3
+add-f-3 c = search needs
+
+add-end : tie.Need-add-end
+add-end c =
+    let a = c .before .before .before .before .before .before .before .before .before .before .before .before .before .before .before .before .args in
+    let s = state (c .before .before .before .before .before .before) in
+    let v = valid (c .before .before .before .before .before .before .before .before .before) in
+    let W = now (a .work) in
+    let n = length (now (a .starts)) - 1 in
+    let first = c .before .before .before .before .before .residual-at .result in
+    let place = c .before .before .before .before .before .residual-at .ensures in
+    let m = length W - first in
+    let room = s .room in
+    let below = s .below in
+    let fits : first + m ≤ length W = omega (arith, room, place) in
+    let done =
+    narrowed-from first m place fits (omega (arith, room, place)) (c .before .before .take-factor .kept .1 .1 .1 .1 .1 .1 .1 .1 .0 ∙ length-part first m W fits) (c .before .before .take-factor .ensures) in
+    let short = done .short in
+    let long = done .same-length in
+    let sized = v .sized in
+    omega (arith, short, place, sized, below)
+
+add-end-2 : tie.Need-add-end-2
+add-end-2 c =
+    let a = c .before .before .before .before .before .before .before .before .before .before .before .before .before .before .before .before .args in
+    let s = state (c .before .before .before .before .before .before) in
+    let v = valid (c .before .before .before .before .before .before .before .before .before) in
+    let W = now (a .work) in
+    let n = length (now (a .starts)) - 1 in
+    let first = c .before .before .before .before .before .residual-at .result in
+    let place = c .before .before .before .before .before .residual-at .ensures in
+    let m = length W - first in
+    let room = s .room in
+    let below = s .below in
+    let fits : first + m ≤ length W = omega (arith, room, place) in
+    let done =
+    narrowed-from first m place fits (omega (arith, room, place)) (c .before .before .take-factor .kept .1 .1 .1 .1 .1 .1 .1 .1 .0 ∙ length-part first m W fits) (c .before .before .take-factor .ensures) in
+    let short = done .short in
+    let long = done .same-length in
+    let sized = v .sized in
+    omega (arith, short, place, sized, below)
+
+mul-multiply : tie.Need-mul-multiply
+mul-multiply c = search needs
+
+sub-multiply : tie.Need-sub-multiply
+sub-multiply c = search needs
+
+part-multiply-start : tie.Need-part-multiply-start
+part-multiply-start c = search needs
+
+part-multiply-end : tie.Need-part-multiply-end
+part-multiply-end c =
+    let a = c .before .before .before .before .before .before .before .before .before .before .before .before .before .before .before .before .args in
+    let s = state (c .before .before .before .before .before .before) in
+    let v = valid (c .before .before .before .before .before .before .before .before .before) in
+    let W = now (a .work) in
+    let n = length (now (a .starts)) - 1 in
+    let first = c .before .before .before .before .before .residual-at .result in
+    let place = c .before .before .before .before .before .residual-at .ensures in
+    let m = length W - first in
+    let room = s .room in
+    let below = s .below in
+    let fits : first + m ≤ length W = omega (arith, room, place) in
+    let done =
+    narrowed-from first m place fits (omega (arith, room, place)) (c .before .before .take-factor .kept .1 .1 .1 .1 .1 .1 .1 .1 .0 ∙ length-part first m W fits) (c .before .before .take-factor .ensures) in
+    let short = done .short in
+    let long = done .same-length in
+    let sized = v .sized in
+    omega (arith, short, place, sized, below, long, room)
+
+multiply-requires : tie.Need-multiply-requires
+multiply-requires c κs =
+    let a = c .before .before .before .before .before .before .before .before .before .before .before .before .before .before .before .before .before .args in
+    let s = state (c .before .before .before .before .before .before .before) in
+    let v = valid (c .before .before .before .before .before .before .before .before .before .before) in
+    let W = now (a .work) in
+    let n = length (now (a .starts)) - 1 in
+    let first = c .before .before .before .before .before .before .residual-at .result in
+    let place = c .before .before .before .before .before .before .residual-at .ensures in
+    let m = length W - first in
+    let room = s .room in
+    let below = s .below in
+    let fits : first + m ≤ length W = omega (arith, room, place) in
+    let done =
+    narrowed-from first m place fits (omega (arith, room, place)) (c .before .before .before .take-factor .kept .1 .1 .1 .1 .1 .1 .1 .1 .0 ∙ length-part first m W fits) (c .before .before .before .take-factor .ensures) in
+    let short = done .short in
+    let long = done .same-length in
+    let sized = v .sized in
+    let end = first + (3 * n + (2 * (n - a .d) + 2)) + c .before .before .before .take-factor .result + 1 - 0 in
+    let size = length-part 0 end (lent W first m (c .before .before .before .take-factor .last .1 .1 .1 .1 .1 .1 .1 .1 .0)) (omega (arith, short, place, sized, below, long, room)) in
+    (c .before .before .before .before .before .reciprocal .ensures, v .positive, omega (arith, short, below, sized), omega (arith, short, below, place), omega (arith, size))
+
+mul-t26 : tie.Need-mul-t26
+mul-t26 c = search needs
+
+sub-t21 : tie.Need-sub-t21
+sub-t21 c = let below = state (c .before .before .before .before .before .before .before .before .before .before) .below in omega (arith, below)
+
+add-t25 : tie.Need-add-t25
+add-t25 c =
+    let a = c .before .before .before .before .before .before .before .before .before .before .before .before .before .before .before .before .before .before .before .before .args in
+    let s = state (c .before .before .before .before .before .before .before .before .before .before) in
+    let v = valid (c .before .before .before .before .before .before .before .before .before .before .before .before .before) in
+    let W = now (a .work) in
+    let n = length (now (a .starts)) - 1 in
+    let first = c .before .before .before .before .before .before .before .before .before .residual-at .result in
+    let place = c .before .before .before .before .before .before .before .before .before .residual-at .ensures in
+    let m = length W - first in
+    let room = s .room in
+    let below = s .below in
+    let fits : first + m ≤ length W = omega (arith, room, place) in
+    let done =
+    narrowed-from first m place fits (omega (arith, room, place)) (c .before .before .before .before .before .before .take-factor .kept .1 .1 .1 .1 .1 .1 .1 .1 .0 ∙ length-part first m W fits) (c .before .before .before .before .before .before .take-factor .ensures) in
+    let short = done .short in
+    let long = done .same-length in
+    let sized = v .sized in
+    omega (arith, short, sized, below)
+
+same-length-2 : tie.Need-same-length-2
+same-length-2 c = search needs
+
+returns-3 : tie.Need-returns-3
+returns-3 c =
+    let a = c .before .before .before .before .before .before .before .before .before .before .before .before .before .before .before .before .before .before .before .before .args in
+    let s = state (c .before .before .before .before .before .before .before .before .before .before) in
+    let v = valid (c .before .before .before .before .before .before .before .before .before .before .before .before .before) in
+    let W = now (a .work) in
+    let n = length (now (a .starts)) - 1 in
+    let first = c .before .before .before .before .before .before .before .before .before .residual-at .result in
+    let place = c .before .before .before .before .before .before .before .before .before .residual-at .ensures in
+    let m = length W - first in
+    let room = s .room in
+    let below = s .below in
+    let fits : first + m ≤ length W = omega (arith, room, place) in
+    let done =
+    narrowed-from first m place fits (omega (arith, room, place)) (c .before .before .before .before .before .before .take-factor .kept .1 .1 .1 .1 .1 .1 .1 .1 .0 ∙ length-part first m W fits) (c .before .before .before .before .before .before .take-factor .ensures) in
+    let short = done .short in
+    let long = done .same-length in
+    let sized = v .sized in
+    let A = matrix (now (a .starts)) (now (a .columns)) (now (a .values)) in
+    let f = first + (3 * n + (2 * (n - a .d) + 2)) in
+    let t = c .before .before .before .before .before .before .take-factor .result in
+    let end = f + t + 1 - 0 in
+    let within : end ≤ length W = omega (arith, short, place, sized, below, room) in
+    let product =
+    multiplied-lent end (omega (arith, short, below, place)) (omega arith) (omega (arith, within, long))
+    (c .before .before .multiply .kept .1 .1 .0 ∙ length-part 0 end _ (omega (arith, within, long))) (c .before .before .multiply .ensures) in (
+      refused-state (a .field .p) A (now (a .words)) (a .d) W (passed (c .before .before .before .before .before .before .before .before .before .before .before .before .before)) ∙ sym (c .before .before .before .before .before .before .before .before .before .before .before .state-refusal .ensures) ∙ c .before .before .before .before .before .before .before .before .before .before .if2 .left,
+      product .same-length ∙ long,
+      made (a .d) t below room done f (ap (λ x. x + (3 * n + (2 * (n - a .d) + 2))) place) product,
+    )
+
+pub make-pass-spec : {M : Type 1} → statement M
+make-pass-spec =
+    tie.close
+    (tie.spec
+    matrix-refusal-requires
+    returns
+    sub-n
+    state-refusal-requires
+    same-length
+    returns-2
+    sub-left
+    cast-residual-at
+    residual-at-requires
+    reciprocal-requires
+    div-take-factor
+    mul-take-factor
+    sub-take-factor
+    part-take-factor-start
+    part-take-factor-end
+    take-factor-requires
+    mul-f
+    mul-f-2
+    add-f
+    add-f-2
+    add-f-3
+    add-end
+    add-end-2
+    mul-multiply
+    sub-multiply
+    part-multiply-start
+    part-multiply-end
+    multiply-requires
+    mul-t26
+    sub-t21
+    add-t25
+    same-length-2
+    returns-3)

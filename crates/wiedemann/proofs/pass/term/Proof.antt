@@ -1,0 +1,74 @@
+use Rattle.wiedemann.specs.Lent.{part-at}
+use Rattle.wiedemann.specs.Region.{part, length-part}
+use Rattle.meaning.specs.Solver.{dot, projections}
+use denote.Ref.{now}
+use mathlib.Core.List.{List, []}
+use lib.ListN.{length, getD, set, take, drop}
+use native.Mathlib.Omega.{arith}
+use Prim.Native.Nat.{ℕ, _+_, _-_}
+use mathlib.Core.Path.{_≡_, refl, ap, _∙_}
+use borrow.Author.Needs.{needs}
+use Rattle.wiedemann.proofs.pass.term.Statement.{statement}
+use Rattle.wiedemann.proofs.pass.term.Tie as tie
+
+-- the vector's part, as it is lent
+whole : (from n : ℕ) (W : List ℕ) → take (from + n - from) (drop from W) ≡ part from n W
+whole from n W = part-at W from (from + n - from) from n refl (omega arith)
+
+add-end : tie.Need-add-end
+add-end c = search needs
+
+mul-projected : tie.Need-mul-projected
+mul-projected c = search needs
+
+sub-projected : tie.Need-sub-projected
+sub-projected c = search needs
+
+part-projected-start : tie.Need-part-projected-start
+part-projected-start c = search needs
+
+part-projected-end : tie.Need-part-projected-end
+part-projected-end c = search needs
+
+projected-requires : tie.Need-projected-requires
+projected-requires c κs =
+    let a = c .before .before .before .before .args in
+    let pre = c .before .before .before .before .pre in
+    let W = now (a .area) in
+    let long = length-part (a .from) (a .n) W (pre .1 .1) in
+    rw (whole (a .from) (a .n) W, long) (((pre .0 .0, pre .0 .1, pre .0 .2), (pre .1 .0, pre .1 .3, pre .0 .3)))
+
+mul-area : tie.Need-mul-area
+mul-area c = search needs
+
+slice-write-area : tie.Need-slice-write-area
+slice-write-area c = search needs
+
+same-length : tie.Need-same-length
+same-length c = search needs
+
+returns : tie.Need-returns
+returns c =
+    let a = c .before .before .before .before .before .args in
+    let pre = c .before .before .before .before .before .pre in
+    let W = now (a .area) in
+    let words = now (a .words) in
+    ap (λ v. set W (a .place) v)
+    (c .projected .ensures
+    ∙ ap (λ l. dot (a .p) (getD (projections (a .p) (length l) words) (a .j) []) l) (whole (a .from) (a .n) W)
+    ∙ ap (λ m. dot (a .p) (getD (projections (a .p) m words) (a .j) []) (part (a .from) (a .n) W)) (length-part (a .from) (a .n) W (pre .1 .1)))
+
+pub term-spec : {M : Type 1} → statement M
+term-spec =
+    tie.close
+    (tie.spec
+    add-end
+    mul-projected
+    sub-projected
+    part-projected-start
+    part-projected-end
+    projected-requires
+    mul-area
+    slice-write-area
+    same-length
+    returns)
