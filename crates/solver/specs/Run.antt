@@ -1,9 +1,11 @@
 -- The solver's run in its work slice, which is laid out as a pass has it (wiedemann's Pass).
 --     System             what the checks leave known of a system
 --     none, counted      the counts before the first pass, and after one more
+--     begun              r = b, F = 1, D = 0 in the slice
 --     run-append         a run with projections after others
 --     run-more           one projection more, while r is not zero
 --     run-left           while r is not zero, less than n has been found
+--     vector-elements    elements below p pass check 9
 --     Midway             the run with the first j projections is what is held
 --     midway-begin, midway-less, midway-state, midway-made, midway-next      at the start; r ≢ 0: a projection is left, a pass is not refused, and is made
 --     Finished, midway-end     r = 0: the whole run is what is held
@@ -18,17 +20,17 @@ use native.Mathlib.Decide.{decLt}
 use native.Mathlib.Numerals.{add-one}
 use native.Mathlib.Omega.{arith}
 use lib.Dec.{ltb}
-use lib.ListN.{length, take, drop, getD, length-append, take-append-drop}
-use lib.Seq.{take-suc, take-all}
+use lib.ListN.{length, take, drop, getD, set, length-set, length-append, take-append-drop}
+use lib.Seq.{take-suc, take-all, getD-set-same, getD-set-other}
 use borrow.Author.Tests.{lt-ltb}
-use Rattle.meaning.specs.List.{at, isZero}
+use Rattle.meaning.specs.List.{at, isZero, padded}
 use Rattle.meaning.specs.Field.{isModulus}
 use Rattle.meaning.specs.Matrix.{Matrix, size}
 use Rattle.meaning.specs.Refusal.{first, elements, matrixChecks, wordsTaken}
 use Rattle.meaning.specs.Recurrence.{degree}
 use Rattle.meaning.specs.Solver.{Pass, Run, projections, begin, spent, passTerms, pass, run}
 use Rattle.laws.specs.Bool.{test-cases, never}
-use Rattle.laws.specs.List.{all-of}
+use Rattle.laws.specs.List.{all-of, length-table, table-of}
 use Rattle.laws.specs.Solver.{spent-nil, spent-snoc}
 use Rattle.algebra.specs.Ring.{Field}
 use Rattle.residue.specs.Prime.{Prime}
@@ -43,7 +45,8 @@ use Rattle.checks.specs.Matrix.{all-elements}
 use Rattle.wiedemann.specs.declared.pass.Pass.{Pass as CodePass}
 use Rattle.wiedemann.specs.declared.pass.Passed.{Passed}
 use Rattle.wiedemann.specs.declared.pass.Passed.the-variants.{Made, Refused}
-use Rattle.wiedemann.specs.Region.{part, at-part, length-part}
+use Rattle.wiedemann.specs.Region.{part, at-part, part-ext}
+use Rattle.wiedemann.specs.Lent.{lent, length-lent, part-lent, part-at, part-cons}
 use Rattle.wiedemann.specs.Turns.{monic-leading}
 use Rattle.wiedemann.specs.Pass.{residualAt, held, passOf, passRefusal, Passes, refused-state, state-0}
 use Rattle.solver.specs.declared.Counts.{Counts}
@@ -59,6 +62,36 @@ none = record { degree = 0; passes = 0; applications = 0 }
 
 abbrev pub counted : Counts → CodePass → Counts
 counted c q = record { degree = c .degree + q .degree; passes = c .passes + 1; applications = c .applications + q .applications }
+
+-- b in r's place, which was lent, and 1 in F's first: the run's beginning
+pub begun : (W b : List ℕ) (from m : ℕ) (Y : List ℕ) → from ≡ residualAt (length b) → m ≡ length b → from + m ≤ length W → Y ≡ padded m b
+    → (length (set (lent W from m Y) 0 1) ≡ length W) × (held (length b) (set (lent W from m Y) 0 1) 0 [] ≡ begin b)
+unfolding begin
+begun W b from m Y e f fits y = (long, ap₂ {C = Run} (λ r F. record { residual = r; factor = F; found = 0; passes = [] }) residual factor)
+  where
+    same : length Y ≡ m
+    same = ap length y ∙ length-table m (λ i. at b i)
+
+    X : List ℕ
+    X = lent W from m Y
+
+    long : length (set (lent W from m Y) 0 1) ≡ length W
+    long = length-set (lent W from m Y) 0 1 ∙ length-lent W from m Y fits same
+
+    whole : padded m b ≡ b
+    whole = ap (λ k. padded k b) f ∙ sym (table-of 0 b (length b) (at b) refl (λ i l. refl))
+
+    residual : part (residualAt (length b)) (length b) (set X 0 1) ≡ b
+    residual =
+        part-at (set X 0 1) (residualAt (length b)) (length b) from m (sym e) (sym f)
+        ∙ part-ext from m (set X 0 1) X (omega (arith, long, fits)) (omega (arith, length-lent W from m Y fits same, fits))
+        (λ i l. getD-set-other X 0 (from + i) 1 0 (λ q. omega (arith, q, e)))
+        ∙ part-lent W from m Y fits same ∙ y ∙ whole
+
+    factor : part 0 (0 + 1) (set X 0 1) ≡ 1 ∷ []
+    factor =
+        part-cons 0 0 (set X 0 1) (omega (arith, long, fits, e))
+        ∙ ap (λ x. x ∷ []) (getD-set-same X 0 1 0 (omega (arith, length-lent W from m Y fits same, fits, e)))
 
 -- ---- the run
 
@@ -147,7 +180,7 @@ pass-cost p A u c r q e g =
     last = record { left = size A - c .found; degree = t; applications = 2 * (size A - c .found) - 1 + t }
 
 -- elements below p pass check 9
-vector-elements : (p n : ℕ) (v : List ℕ) → Vector p n v → elements p v ≡ true
+pub vector-elements : (p n : ℕ) (v : List ℕ) → Vector p n v → elements p v ≡ true
 vector-elements p n v h =
     all-elements p v ∙ all-of (length v) (λ i. ltb (at v i) p) (λ i l. lt-ltb (at v i) p (h .below i (omega (arith, l, h .places))))
 
@@ -205,24 +238,24 @@ module _ {p : ℕ} {A : Matrix} {b words W : List ℕ} {j : ℕ} {c : Counts} (s
       refused-state p A words (c .degree) W (s .checked)
       ∙ state-0 p (size A) (c .degree) words W (below z) t (m .room) (vector-elements p (size A) (part (residualAt (size A)) (size A) W) residual)
 
-  pub midway-made : isZero (part (residualAt (size A)) (size A) W) ≡ false → wordsTaken (size A) words ≡ true → {W′ : List ℕ} (k : ℕ)
+  pub midway-made : isZero (part (residualAt (size A)) (size A) W) ≡ false → wordsTaken (size A) words ≡ true → (W′ : List ℕ) (k : ℕ)
       → Passes p A words j (c .degree) W (Refused k) W′ → ⊥
-  midway-made z t k q = q .1 (sym (q .0) ∙ midway-state z t)
+  midway-made z t W′ k q = q .1 (sym (q .0) ∙ midway-state z t)
 
   -- the counts that a pass adds
-  pub midway-fits : isZero (part (residualAt (size A)) (size A) W) ≡ false → {W′ : List ℕ} (q : CodePass) → Passes p A words j (c .degree) W (Made q) W′
+  pub midway-fits : isZero (part (residualAt (size A)) (size A) W) ≡ false → (W′ : List ℕ) (q : CodePass) → Passes p A words j (c .degree) W (Made q) W′
       → (c .degree ≤ 4096) × (c .passes < 65536) × (c .applications < 4294967296) × (q .degree ≤ 8192) × (q .applications ≤ 16384)
-  midway-fits z {W′} q made =
+  midway-fits z W′ q made =
       let sized = s .valid .sized in
       let now : held (size A) W′ (c .degree + q .degree) (m .made ++ (passOf q ∷ [])) ≡ run p A (take (j + 1) (projections p (size A) words)) (begin b) = made .2 (m .made) ∙ sym (next z) in
       let found : c .degree + q .degree ≤ size A = subst (λ (r : Run). r .found ≤ size A) (sym now) (run-found p (s .accepted .prime) A b (s .accepted .size-b) (s .accepted .reduced-b) (take (j + 1) (projections p (size A) words))) in
       let cost : q .applications ≡ 2 * (size A - c .degree) - 1 + (c .degree + q .degree - c .degree) = pass-cost p A (getD (projections p (size A) words) j []) (held (size A) W (c .degree) (m .made)) (held (size A) W′ (c .degree + q .degree) (m .made ++ (passOf q ∷ []))) (passOf q) refl (made .2 (m .made)) in
       (omega (arith, found, sized), omega (arith, m .passes, m .used, m .within, most), omega (arith, m .few, m .within, most), omega (arith, found, sized), omega (arith, cost, found, sized))
 
-  pub midway-next : isZero (part (residualAt (size A)) (size A) W) ≡ false → {W′ : List ℕ} (q : CodePass) → Passes p A words j (c .degree) W (Made q) W′
+  pub midway-next : isZero (part (residualAt (size A)) (size A) W) ≡ false → (W′ : List ℕ) (q : CodePass) → Passes p A words j (c .degree) W (Made q) W′
       → Midway p A b words W′ (j + 1) (counted c q)
-  midway-next z {W′} q made =
-      let fits = midway-fits z q made in
+  midway-next z W′ q made =
+      let fits = midway-fits z W′ q made in
       record {
         made = m .made ++ (passOf q ∷ []);
         passes = ap (λ k. k + 1) (m .passes) ∙ sym (length-append (m .made) (passOf q ∷ []));

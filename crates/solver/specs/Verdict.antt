@@ -5,30 +5,37 @@
 --     kindOf, SameRun, same-run      two runs on one system, whatever their words and slices, agree in kind, vector and f
 --     closing            the counts at the end, with the applications of G(A)b
 --     Ends, Closed       what is made of F when r is zero
+--     constant, coefficients, image      F[0] and G in the polynomial slice, and G(A)b in the vector slice
 --     closed             so it is the meaning's `solve`
 --     refused, taken     a call that was refused, and one that was not
 use mathlib.Core.Path.{_≡_, refl, sym, ap, _∙_, subst}
 use mathlib.Core.Logic.{_≢_}
 use mathlib.Core.Bool.{true, false, not, cond, _&&_}
 use mathlib.Core.List.{List, [], _∷_}
-use Prim.Native.Nat.{ℕ, _+_, _-_, _*_}
+use Prim.Native.Nat.{ℕ, _+_, _-_, _*_, _<_}
+use native.Mathlib.Omega.{arith}
 use lib.Dec.{eqb, leb}
-use lib.ListN.{length}
-use borrow.Author.Tests.{eq-eqb, ne-eqb}
-use Rattle.meaning.specs.List.{padded}
-use Rattle.meaning.specs.Matrix.{Matrix, size}
+use lib.ListN.{length, take, drop, length-drop}
+use lib.Seq.{take-all, getD-drop}
+use borrow.Author.Tests.{eq-eqb, ne-eqb, le-leb}
+use Rattle.meaning.specs.List.{at, padded}
+use Rattle.meaning.specs.Matrix.{Matrix, size, apply}
 use Rattle.meaning.specs.Solver.{Run, Kind, solved, singular, Outcome, passCount, applications, verdict, close, solve}
 use Rattle.meaning.specs.ThirdCondition.{ThirdCondition, SameAnswer}
-use Rattle.meaning.specs.Refusal.{check, first}
-use Rattle.meaning.specs.Calls.{runChecks, solverRefusal, vectorAfter, polynomialAfter}
+use Rattle.meaning.specs.Refusal.{check, first, matrixChecks}
+use Rattle.meaning.specs.Calls.{applyRefusal, applyAfter, runChecks, solverRefusal, vectorAfter, polynomialAfter}
 use Rattle.bridge.specs.ThirdCondition.{everyRun, everyTwoRuns}
 use Rattle.solver.specs.declared.Counts.{Counts}
 use Rattle.solver.specs.declared.Verdict.{Verdict}
 use Rattle.solver.specs.declared.Verdict.the-variants.{Solved, Singular, Refused}
-use Rattle.wiedemann.specs.Region.{part}
+use Rattle.wiedemann.specs.Region.{part, at-part, length-part}
+use Rattle.wiedemann.specs.Lent.{part-of-take, take-padded}
 use Rattle.wiedemann.specs.Pass.{held}
-use Rattle.laws.specs.Refusal.{numbered-run, first-append-zero}
-use Rattle.solver.specs.Run.{Finished}
+use Rattle.laws.specs.Bool.{and-both}
+use Rattle.laws.specs.List.{length-table, getD-table}
+use Rattle.laws.specs.Refusal.{first-nil, first-pass, first-append-none, first-append-zero, numbered-matrix, numbered-run, unlessRefused-none}
+use Rattle.checks.specs.Matrix.{applyChecks, applyRefusal-parts}
+use Rattle.solver.specs.Run.{System, Closable, Finished, vector-elements}
 
 pub record Counted (c : Counts) (o : Outcome) : Type 0 where
   pub degree : c .degree ≡ o .degree
@@ -121,6 +128,60 @@ pub record Closed (p : ℕ) (A : Matrix) (b W : List ℕ) (c : Counts) (r : Verd
   pub ends : Ends r (verdict p A b (part 0 (c .degree + 1) W) (c .degree) .0) (closing c)
   pub vector-is : vector ≡ verdict p A b (part 0 (c .degree + 1) W) (c .degree) .1
   pub polynomial-is : polynomial ≡ padded (size A + 1) (part 0 (c .degree + 1) W)
+
+-- ---- G(A)b
+
+module _ {p : ℕ} {A : Matrix} {b W : List ℕ} {c : Counts} (s : System p A b) (q : Closable p A W c) (P : List ℕ)
+    (e : P ≡ padded (size A + 1) (part 0 (c .degree + 1) W)) where
+  sized : length (part 0 (c .degree + 1) W) ≡ c .degree + 1
+  sized = length-part 0 (c .degree + 1) W (omega (arith, q .found, q .room))
+
+  -- F[0] stands in the polynomial slice's first place
+  pub constant : at P 0 ≡ at (part 0 (c .degree + 1) W) 0
+  constant = ap (λ l. at l 0) e ∙ getD-table (size A + 1) (λ i. at (part 0 (c .degree + 1) W) i) 0 0 (omega arith)
+
+  -- G stands behind it
+  pub coefficients : part 1 (c .degree) P ≡ drop 1 (part 0 (c .degree + 1) W)
+  coefficients =
+      sym (part-of-take 1 (c .degree) (c .degree + 1) P (omega arith) (omega (arith, ap length e, length-table (size A + 1) (λ i. at (part 0 (c .degree + 1) W) i), q .found)))
+      ∙ ap (part 1 (c .degree)) front
+      ∙ take-all (c .degree) (drop 1 (part 0 (c .degree + 1) W)) (omega (arith, length-drop 1 (part 0 (c .degree + 1) W), sized))
+    where
+      front : take (c .degree + 1) P ≡ part 0 (c .degree + 1) W
+      front =
+          ap (take (c .degree + 1)) e ∙ ap (λ k. take k (padded (size A + 1) (part 0 (c .degree + 1) W))) (sym sized)
+          ∙ take-padded (size A + 1) (part 0 (c .degree + 1) W) (omega (arith, sized, q .found))
+
+  below : (i : ℕ) → i < c .degree → at (part 1 (c .degree) P) i < p
+  below i l =
+      subst (λ g. at g i < p) (sym coefficients)
+      (subst (λ x. x < p) (sym (getD-drop 1 (part 0 (c .degree + 1) W) i 0 ∙ at-part 0 (c .degree + 1) W (1 + i) (omega (arith, l))))
+      (q .elements (0 + (1 + i)) (omega (arith, l))))
+
+  module _ (some : c .degree ≢ 0) (out work : List ℕ) (places : length out ≡ size A) (room : length work ≡ length W) where
+    long : length (part 1 (c .degree) P) ≡ c .degree
+    long = ap length coefficients ∙ length-drop 1 (part 0 (c .degree + 1) W) ∙ omega (arith, sized)
+
+    not-refused : applyRefusal p A (part 1 (c .degree) P) b out work ≡ 0
+    not-refused =
+        applyRefusal-parts p A (part 1 (c .degree) P) b out work
+        ∙ first-append-none (matrixChecks p A) (applyChecks p A (part 1 (c .degree) P) b out work) (numbered-matrix p A) (s .checked)
+        ∙ first-pass 8 _ _
+        (and-both
+        (and-both (le-leb 1 (length (part 1 (c .degree) P)) (omega (arith, long, some))) (le-leb (length (part 1 (c .degree) P)) (size A + 1) (omega (arith, long, q .found))))
+        (eq-eqb (length b) (size A) (s .accepted .size-b)))
+        (first-pass 9 _ _
+        (and-both
+        (vector-elements p (c .degree) (part 1 (c .degree) P) (record { places = long; below = below }))
+        (vector-elements p (length b) b (record { places = refl; below = s .accepted .reduced-b })))
+        (first-pass 11 _ [] (and-both (eq-eqb (length out) (size A) places) (le-leb (2 * size A) (length work) (omega (arith, room, q .room)))) first-nil))
+
+    -- what g(A)b leaves in the vector slice
+    pub image : (m : ℕ) → m ≡ c .degree → applyAfter p A (part 1 m P) b out work ≡ apply p A (drop 1 (part 0 (c .degree + 1) W)) b
+    image m h =
+        ap (λ k. applyAfter p A (part 1 k P) b out work) h
+        ∙ unlessRefused-none (applyRefusal p A (part 1 (c .degree) P) b out work) _ _ not-refused
+        ∙ ap (λ g. apply p A g b) coefficients
 
 -- what the whole run found
 pub record Found (p : ℕ) (A : Matrix) (b words : List ℕ) (r : Verdict) (vector polynomial : List ℕ) : Type 0 where

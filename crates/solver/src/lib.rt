@@ -153,7 +153,7 @@ fn run(
     ensures { λ c. ⌜ Finished (field .p) (matrix (now (starts .entry)) (now (columns .entry)) (now (values .entry)))
         (now (b .entry)) (now (words .entry)) (now (work .exit)) c ⌝ }
 {
-    let n = b.len();
+    let n = starts.len() - 1;
     let mut c = begin(b, work);
     let mut j = 0;
     while !is_settled(n, work) {

@@ -3,6 +3,8 @@
 // five hold. Writes what each call answers, and the vector and polynomial slices, which held 4,294,967,295 in every place. generate.py makes
 // the calls and the answers.
 use libc::STDOUT_FILENO;
+use solver::Counts;
+use solver::Verdict;
 use test_io::Cursor;
 use test_io::fill;
 use test_io::first;
@@ -10,8 +12,6 @@ use test_io::number;
 use test_io::numbers;
 use test_io::show;
 use test_io::show_refused;
-use wiedemann::solver::Counts;
-use wiedemann::solver::Verdict;
 
 // The places of a call's slices.
 struct Places {
@@ -62,7 +62,7 @@ fn call(
     polynomial: &mut [u32],
     work: &mut [u32],
 ) {
-    let v = wiedemann::solver::solve(
+    let v = solver::solve(
         field::Field { p },
         starts,
         columns,
