@@ -52,7 +52,7 @@ up-to-root p l h = record { two-le = l; no-divisor = none }
     none d a b z = cofactor d (p / d) a b (sym (add-zero (p / d * d)) ∙ ap (λ x. p / d * d + x) (sym z) ∙ div-add-mod' p d) z (decLe (d * d) p)
 
 -- a divisor of a divisor of p divides p
-divisor-of-divisor : (c d p : ℕ) → d % c ≡ 0 → p % d ≡ 0 → p % c ≡ 0
+pub divisor-of-divisor : (c d p : ℕ) → d % c ≡ 0 → p % d ≡ 0 → p % c ≡ 0
 divisor-of-divisor c d p a b = mod-eq-zero-of-dvd c (dvd-trans c (dvd-of-mod-eq-zero c a) (dvd-of-mod-eq-zero d b))
 
 pub by-wheel : (p : ℕ) → 3 < p → p % 2 ≢ 0 → p % 3 ≢ 0
@@ -122,7 +122,7 @@ isPrime-Prime p = (to, from)
         and-both (le-leb 2 p (h .two-le))
         (all-of (p - 2) tried (λ i k. ap not (ne-eqb (p % (i + 2)) 0 (h .no-divisor (i + 2) (omega arith) (omega arith)))))
 
-refuted : (p : ℕ) → (Prime p → ⊥) → isPrime p ≡ false
+pub refuted : (p : ℕ) → (Prime p → ⊥) → isPrime p ≡ false
 refuted p f = answer (isPrime p) refl
   where
     answer : (x : Bool) → isPrime p ≡ x → isPrime p ≡ false
