@@ -3,8 +3,9 @@
 --     Prime-prop       two proofs that p is prime are equal
 --     up-to-root       no divisor d with d · d ≤ p: then p is prime
 --     by-wheel         neither 2 nor 3 nor a d = 6k ± 1 with d · d ≤ p divides p: then p is prime
+--     divisor-of-divisor      a divisor of a divisor of p divides p
 --     WheelFree p d    no 6k ± 1 from 5 to d − 1 divides p; wheel-start, wheel-turn and wheel-end for a loop that tries d and d + 2
---     isPrime-Prime    the meaning's isPrime, a test of all p − 2 candidates, says Prime p; isPrime-small, isPrime-divided: it says no to 0, 1 and any p with a divisor
+--     isPrime-Prime    the meaning's isPrime, a test of all p − 2 candidates, says Prime p; refuted, isPrime-small, isPrime-divided: it says no to what is not Prime, 0, 1 and any p with a divisor
 --     isModulus-prime, isModulus-Prime, isModulus-le, isModulus-small, isModulus-large      the meaning's isModulus: prime, and at most 2³¹ − 1
 --     trial p n d      no e from d on with e · e ≤ p divides p, as a test of at most n numbers e
 --     primeTest p      trial division by 2, 3, 4 .. up to the root
@@ -51,8 +52,7 @@ up-to-root p l h = record { two-le = l; no-divisor = none }
     none : (d : ℕ) → 2 ≤ d → d < p → p % d ≢ 0
     none d a b z = cofactor d (p / d) a b (sym (add-zero (p / d * d)) ∙ ap (λ x. p / d * d + x) (sym z) ∙ div-add-mod' p d) z (decLe (d * d) p)
 
--- a divisor of a divisor of p divides p
-divisor-of-divisor : (c d p : ℕ) → d % c ≡ 0 → p % d ≡ 0 → p % c ≡ 0
+pub divisor-of-divisor : (c d p : ℕ) → d % c ≡ 0 → p % d ≡ 0 → p % c ≡ 0
 divisor-of-divisor c d p a b = mod-eq-zero-of-dvd c (dvd-trans c (dvd-of-mod-eq-zero c a) (dvd-of-mod-eq-zero d b))
 
 pub by-wheel : (p : ℕ) → 3 < p → p % 2 ≢ 0 → p % 3 ≢ 0
@@ -122,7 +122,7 @@ isPrime-Prime p = (to, from)
         and-both (le-leb 2 p (h .two-le))
         (all-of (p - 2) tried (λ i k. ap not (ne-eqb (p % (i + 2)) 0 (h .no-divisor (i + 2) (omega arith) (omega arith)))))
 
-refuted : (p : ℕ) → (Prime p → ⊥) → isPrime p ≡ false
+pub refuted : (p : ℕ) → (Prime p → ⊥) → isPrime p ≡ false
 refuted p f = answer (isPrime p) refl
   where
     answer : (x : Bool) → isPrime p ≡ x → isPrime p ≡ false

@@ -2,33 +2,11 @@
 ghost use mathlib.Core.Path.{_≡_};
 ghost use mathlib.Core.Logic.{_≢_};
 ghost use Prim.Native.Nat.{_%_, _<_, _≤_};
-ghost use Rattle.meaning.specs.Field.{isPrime, isModulus};
-
-// Whether p is a prime from 2 to 2,147,483,647.
-pub fn is_modulus(p: u32) -> bool
-    ensures { λ r. ⌜ r ≡ isModulus p ⌝ }
-{
-    if p < 2 {
-        return false;
-    }
-    if p > 2147483647 {
-        return false;
-    }
-    if p < 4 {
-        return true;
-    }
-    if p % 2 == 0 {
-        return false;
-    }
-    if p % 3 == 0 {
-        return false;
-    }
-    wheel(p)
-}
+ghost use Rattle.meaning.specs.Field.{isPrime};
 
 // Whether p is prime, where neither 2 nor 3 divides it: a prime above 3 leaves 1 or 5 modulo 6, so that d = 5, 11, 17, .. and d + 2 are
 // tried, up to the root.
-fn wheel(p: u32) -> bool
+pub(crate) fn prime_by_wheel(p: u32) -> bool
     requires { ⌜ (3 < p) × (p ≤ 2147483647) × (p % 2 ≢ 0) × (p % 3 ≢ 0) ⌝ }
     ensures { λ r. ⌜ r ≡ isPrime p ⌝ }
 {

@@ -1,4 +1,4 @@
--- `field::prime::wheel` meets its contract. The loop's invariant: d leaves 5 modulo 6, is at most 6 past the root of the largest modulus, and no
+-- `primality::wheel::prime_by_wheel` meets its contract. The loop's invariant: d leaves 5 modulo 6, is at most 6 past the root of the largest modulus, and no
 -- 6k ± 1 from 5 to d − 1 divides p. Assumes nothing.
 use mathlib.Core.Path.{_≡_, sym}
 use Prim.Native.Nat.{ℕ, _+_, _*_, _-_, _%_, _≤_, _<_}
@@ -6,8 +6,8 @@ use native.Mathlib.Nat.{mul-le-mul, mul-le-mul-left}
 use native.Mathlib.Decide.{decLe}
 use native.Mathlib.Omega.{arith}
 use Rattle.residue.specs.Prime.{WheelFree, wheel-start, wheel-turn, wheel-end, isPrime-Prime, isPrime-divided}
-use Rattle.field.proofs.prime.wheel.Statement.{statement}
-use Rattle.field.proofs.prime.wheel.Tie as tie
+use Rattle.primality.proofs.wheel.prime_by_wheel.Statement.{statement}
+use Rattle.primality.proofs.wheel.prime_by_wheel.Tie as tie
 
 abbrev Inv-loop : tie.InvT-loop
 Inv-loop p d₀ d = (d % 6 ≡ 5) × (d ≤ 46346) × WheelFree p d
@@ -69,8 +69,8 @@ returns-3 c =
     let pre = c .before .before .pre in
     sym (isPrime-Prime _ .1 (wheel-end _ _ (pre .0) (pre .2) (pre .3) (c .before .loop .inv .2) (c .loop-test .left)))
 
-pub wheel-spec : {M : Type 1} → statement M
-wheel-spec =
+pub prime-by-wheel-spec : {M : Type 1} → statement M
+prime-by-wheel-spec =
     tie.close
     (tie.spec
     Inv-loop
