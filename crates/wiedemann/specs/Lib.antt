@@ -1,5 +1,6 @@
 -- what the contracts cite
 pub mod Sums
+pub mod Convolution
 pub mod Written
 pub mod Region
 pub mod Horner

@@ -1,4 +1,5 @@
 // Sparse matrices modulo a prime: their products and polynomials, shortest recurrences, the solver and the checks of offered answers.
+mod convolution;
 pub mod matrix;
 pub mod offered;
 mod pass;

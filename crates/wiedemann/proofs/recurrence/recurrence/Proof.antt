@@ -1,10 +1,10 @@
--- `wiedemann::recurrence::recurrence` meets its contract: a refusal leaves everything, and 0 hands the core what it asks. Assumes nothing.
+-- `wiedemann::recurrence::recurrence` meets its contract: a refusal leaves everything, and 0 hands the core what it asks.
 use mathlib.Core.Path.{sym, _∙_}
 use native.Mathlib.Omega.{arith}
 use denote.Ref.{now}
 use borrow.Author.Needs.{needs}
 use Rattle.checks.specs.Recurrence.{Accepted, accepted}
-use Rattle.wiedemann.proofs.Recurred.{recurred-refused, ready, recurred-found}
+use Rattle.wiedemann.proofs.Recurred.{recurred-refused, ready, recurred-generator}
 use Rattle.wiedemann.proofs.recurrence.recurrence.Statement.{statement}
 use Rattle.wiedemann.proofs.recurrence.recurrence.Tie as tie
 
@@ -62,7 +62,7 @@ returns-2 : tie.Need-returns-2
 returns-2 c =
     let core = c .before .before .before .before .before .before .before in
     let copied = core .before .before .before .before in
-    recurred-found (taken (copied .before .before)) (copied .transfer .ensures) (core .shortest .ensures) (c .before .before .transfer2 .ensures)
+    recurred-generator (taken (copied .before .before)) (copied .transfer .ensures) (core .shortest .ensures) (c .before .before .transfer2 .ensures)
 
 pub recurrence-spec : {M : Type 1} → statement M
 recurrence-spec =

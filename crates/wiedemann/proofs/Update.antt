@@ -1,4 +1,4 @@
--- A turn of document 01's steps, coefficient by coefficient.
+-- The last of document 01's steps, coefficient by coefficient.
 --     at-update              the coefficients of q − (d/e)·z·t
 --     steps-at               the steps for 1 to r end with what is done for r
 use mathlib.Core.Path.{_≡_, sym, ap, ap₂, _∙_}

@@ -1,8 +1,8 @@
--- The end of the steps: L, and q turned round into f.
+-- The end of the steps: L, and f, which is q in reverse order.
 --     at-generator-within, at-generator-past     the coefficients of f
 --     degree-at                                  L is that of the last steps
---     found                                      q turned round in its region is f, with zeros after it
---     found-at                                   f in its region, coefficient by coefficient
+--     holds-generator                            q reversed in its region is f, with zeros after it
+--     generator-at                               f in its region, coefficient by coefficient
 use mathlib.Core.Path.{_≡_, sym, ap, _∙_, subst}
 use mathlib.Core.Logic.{⊎-elim}
 use mathlib.Core.List.{List}
@@ -16,10 +16,9 @@ use Rattle.laws.specs.List.{table-of, getD-table, getD-table-past}
 use Rattle.residue.specs.Prime.{Prime, isModulus-Prime}
 use Rattle.bridge.specs.Recurrence.{steps-above, steps-within}
 use Rattle.wiedemann.specs.declared.recurrence.Register.{Register}
-use Rattle.wiedemann.specs.Written.{Turned}
-use Rattle.wiedemann.specs.Recurrence.{Ready, Stepped, Found}
+use Rattle.wiedemann.specs.Recurrence.{Ready, AfterSteps, Reversed, HoldsGenerator}
 use Rattle.wiedemann.proofs.Elements.{lt-or-ge}
-use Rattle.wiedemann.proofs.Stepped.{front}
+use Rattle.wiedemann.proofs.AfterSteps.{front}
 
 module _ (p : ℕ) (s : List ℕ) (n : ℕ) (e : length s ≡ n) where
   pub degree-at : degree p s ≡ steps p s n .L
@@ -37,9 +36,9 @@ module _ (p : ℕ) (s : List ℕ) (n : ℕ) (e : length s ≡ n) where
   at-generator-past i l =
       getD-table-past (degree p s + 1) (λ k. at (steps p s (length s) .q) (degree p s - k)) i 0 (omega (arith, degree-at))
 
-pub found : {p count r : ℕ} {W W₁ W′ : List ℕ} {c : Register} → Ready p count W → r ≡ count → Stepped p count r W W₁ c
-    → Turned W₁ (count + 2) (c .length) W′ → Found p count W W′ (c .length)
-found {p} {count} {r} {W} {W₁} {W′} {c} ready end b turned =
+pub holds-generator : {p count r : ℕ} {W W₁ W′ : List ℕ} {c : Register} → Ready p count W → r ≡ count → AfterSteps p count r W W₁ c
+    → Reversed W₁ (count + 2) (c .length) W′ → HoldsGenerator p count W W′ (c .length)
+holds-generator {p} {count} {r} {W} {W₁} {W′} {c} ready end b turned =
     record {
       answer = a .holds .L ∙ sym (degree-at p s count size);
       f = table-of 0 (take (count + 2) (drop (count + 2) W′)) (count + 2) (λ i. at (generator p s) i)
@@ -49,8 +48,8 @@ found {p} {count} {r} {W} {W₁} {W′} {c} ready end b turned =
           front (count + 2) W₁ W′ (turned .same-length) (omega (arith, a .room, ready .room)) (λ k l. turned .before k l) ∙ a .terms;
     }
   where
-    a : Stepped p count count W W₁ c
-    a = subst (λ n. Stepped p count n W W₁ c) end b
+    a : AfterSteps p count count W W₁ c
+    a = subst (λ n. AfterSteps p count n W W₁ c) end b
 
     s : List ℕ
     s = take count W
@@ -78,8 +77,8 @@ found {p} {count} {r} {W} {W₁} {W′} {c} ready end b turned =
         ∙ sym (at-generator-within p s count size i (subst (λ x. i ≤ x) (a .holds .L) inside)))
         (lt-or-ge (c .length) i)
 
-pub found-at : {p count : ℕ} {W W′ : List ℕ} {L : ℕ} → Found p count W W′ L → (i : ℕ) → i < count + 2
+pub generator-at : {p count : ℕ} {W W′ : List ℕ} {L : ℕ} → HoldsGenerator p count W W′ L → (i : ℕ) → i < count + 2
     → at W′ (count + 2 + i) ≡ at (generator p (take count W)) i
-found-at {p} {count} {W} {W′} {L} found i l =
-    sym (getD-take (count + 2) (drop (count + 2) W′) i 0 l ∙ getD-drop (count + 2) W′ i 0) ∙ ap (λ x. at x i) (found .f)
+generator-at {p} {count} {W} {W′} {L} held i l =
+    sym (getD-take (count + 2) (drop (count + 2) W′) i 0 l ∙ getD-drop (count + 2) W′ i 0) ∙ ap (λ x. at x i) (held .f)
     ∙ getD-table (count + 2) (λ k. at (generator p (take count W)) k) i 0 l

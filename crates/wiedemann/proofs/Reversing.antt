@@ -1,8 +1,8 @@
 -- A reversal in place on its way, from both ends.
---     Turning W a L i j W′     of the L + 1 places from a on those below i and above j are in reverse order, the others as they were
---     turning-none             at the start
---     turning-more             after the places i and j were exchanged
---     turning-all              at the end, where i and j have met
+--     Reversing W a L i j W′     of the L + 1 places from a on those below i and above j are in reverse order, the others as they were
+--     reversing-none             at the start
+--     reversing-more             after the places i and j were exchanged
+--     reversing-all              at the end, where i and j have met
 use mathlib.Core.Path.{_≡_, refl, sym, ap, _∙_}
 use mathlib.Core.Logic.{_≢_, ⊎-elim}
 use mathlib.Core.List.{List}
@@ -12,10 +12,10 @@ use native.Mathlib.Omega.{arith}
 use lib.ListN.{length, set, length-set}
 use lib.Seq.{getD-set-same, getD-set-other}
 use Rattle.meaning.specs.List.{at}
-use Rattle.wiedemann.specs.Written.{Turned}
+use Rattle.wiedemann.specs.Recurrence.{Reversed}
 use Rattle.wiedemann.proofs.Elements.{lt-or-ge}
 
-pub record Turning (W : List ℕ) (a L i j : ℕ) (W′ : List ℕ) : Type 0 where
+pub record Reversing (W : List ℕ) (a L i j : ℕ) (W′ : List ℕ) : Type 0 where
   pub ends : i + j ≡ L
   pub met : i ≤ j + 1
   pub same-length : length W′ ≡ length W
@@ -25,8 +25,8 @@ pub record Turning (W : List ℕ) (a L i j : ℕ) (W′ : List ℕ) : Type 0 whe
   pub before : (k : ℕ) → k < a → at W′ k ≡ at W k
   pub after : (k : ℕ) → a + L < k → at W′ k ≡ at W k
 
-pub turning-none : (W : List ℕ) (a L : ℕ) → Turning W a L 0 L W
-turning-none W a L =
+pub reversing-none : (W : List ℕ) (a L : ℕ) → Reversing W a L 0 L W
+reversing-none W a L =
     record {
       ends = omega arith;
       met = omega arith;
@@ -38,7 +38,7 @@ turning-none W a L =
       after = λ k h. refl;
     }
 
-module _ (W : List ℕ) (a L i j : ℕ) (W′ : List ℕ) (t : Turning W a L i j W′) (l : i < j) (fits : a + L < length W) where
+module _ (W : List ℕ) (a L i j : ℕ) (W′ : List ℕ) (t : Reversing W a L i j W′) (l : i < j) (fits : a + L < length W) where
   abbrev exchanged : List ℕ
   exchanged = set (set W′ (a + i) (at W′ (a + j))) (a + j) (at W′ (a + i))
 
@@ -56,8 +56,8 @@ module _ (W : List ℕ) (a L i j : ℕ) (W′ : List ℕ) (t : Turning W a L i j
       getD-set-same (set W′ (a + i) (at W′ (a + j))) (a + j) (at W′ (a + i)) 0 (simp length-set (omega arith))
       ∙ t .middle i (omega arith) (omega arith)
 
-  pub turning-more : Turning W a L (i + 1) (j - 1) exchanged
-  turning-more =
+  pub reversing-more : Reversing W a L (i + 1) (j - 1) exchanged
+  reversing-more =
       record {
         ends = omega arith;
         met = omega arith;
@@ -75,8 +75,8 @@ module _ (W : List ℕ) (a L i j : ℕ) (W′ : List ℕ) (t : Turning W a L i j
         after = λ k h. other k (omega arith) (omega arith) ∙ t .after k h;
       }
 
-pub turning-all : {W W′ : List ℕ} {a L i j : ℕ} → Turning W a L i j W′ → j ≤ i → Turned W a L W′
-turning-all {W} {W′} {a} {L} {i} {j} t met =
+pub reversing-all : {W W′ : List ℕ} {a L i j : ℕ} → Reversing W a L i j W′ → j ≤ i → Reversed W a L W′
+reversing-all {W} {W′} {a} {L} {i} {j} t met =
     record {
       same-length = t .same-length;
       inside = λ k h. ⊎-elim
