@@ -1,10 +1,11 @@
 // Sparse matrices modulo a prime: their products and polynomials, shortest recurrences, the solver and the checks of offered answers.
 pub mod matrix;
+mod modulus;
+mod multiplier;
 pub mod offered;
 mod pass;
 mod projection;
 pub mod recurrence;
-mod scale;
 mod slice;
 pub mod solver;
 mod sums;

@@ -3,7 +3,8 @@
 //
 // The contracts cite the crate meaning (Recurrence: the steps and what is shortest; Calls: what a call refuses, answers and leaves) and
 // specs/Recurrence.antt (what regions and register hold).
-use crate::scale;
+use crate::modulus::Modulus;
+use crate::multiplier::Multiplier;
 use crate::slice::clear;
 use crate::slice::copy;
 use crate::slice::transfer;
@@ -12,10 +13,11 @@ use crate::sums::Total;
 use checks::recurrence_refusal;
 use field::Field;
 ghost use mathlib.Core.Path.{_≡_};
-ghost use Prim.Native.Nat.{ℕ, _+_, _-_, _*_, _/_, _%_, _≤_, _<_};
+ghost use Prim.Native.Nat.{ℕ, _+_, _-_, _*_, _%_, _≤_, _<_};
 ghost use lib.ListN.{length};
 ghost use Rattle.meaning.specs.List.{at, sum, sumFrom};
 ghost use Rattle.meaning.specs.Field.{minus, times};
+ghost use Rattle.wiedemann.specs.Modulus.{Modular};
 ghost use Rattle.wiedemann.specs.Sums.{Summed};
 ghost use Rattle.wiedemann.specs.Written.{Written, Turned};
 ghost use Rattle.wiedemann.specs.Recurrence.{Pairs, paired, nothing, Ready, Place, Turn, Stepped, Found, Recurred, spare, movedOn, grown};
@@ -36,16 +38,16 @@ pub(crate) struct Register {
 // ---- parts of the slice
 
 // q − factor·t in q's place: `size` coefficients of q from `q` on, and of t from `t` on.
-fn subtract(p: u32, factor: u32, work: &mut [u32], q: usize, t: usize, size: usize)
-    requires { ⌜ (factor < p) × (p ≤ 2147483647) × (q + size ≤ t) × (t + size ≤ length (now work)) ⌝ }
-    requires { ⌜ ((i : ℕ) → i < size → at (now work) (q + i) < p) ⌝ }
+fn subtract(m: Modulus, factor: u32, work: &mut [u32], q: usize, t: usize, size: usize)
+    requires { ⌜ (factor < m .p) × Modular m × (q + size ≤ t) × (t + size ≤ length (now work)) ⌝ }
+    requires { ⌜ ((i : ℕ) → i < size → at (now work) (q + i) < m .p) ⌝ }
     ensures { λ _. ⌜ Written (now (work .entry)) q size
-        (λ i. minus p (at (now (work .entry)) (q + i)) (times p factor (at (now (work .entry)) (t + i)))) (now (work .exit)) ⌝ }
+        (λ i. minus (m .p) (at (now (work .entry)) (q + i)) (times (m .p) factor (at (now (work .entry)) (t + i)))) (now (work .exit)) ⌝ }
 {
-    let w = scale::quotient(p, factor);
+    let k = Multiplier::of(m.p, factor);
     let mut i = 0;
     while i < size {
-        work[q + i] = scale::difference(p, work[q + i], scale::scaled(p, factor, w, work[t + i]));
+        work[q + i] = m.difference(work[q + i], k.times(m.p, work[t + i]));
         i += 1;
     }
 }
@@ -116,22 +118,14 @@ fn ones(total: Total, work: &[u32], q: usize, last: usize, from: usize, to: usiz
 }
 
 // The sum of q[i] × s[last − i] over i = 0 to `length`, modulo p.
-fn discrepancy(p: u32, reciprocal: u64, work: &[u32], q: usize, last: usize, length: usize) -> u32
-    requires { ⌜ Pairs (now work) q last × (length ≤ last) × (0 < p) × (reciprocal ≡ 18446744073709551615 / p) ⌝ }
-    ensures { λ d. ⌜ d ≡ sum (length + 1) (paired (now (work .entry)) q last) % p ⌝ }
+fn discrepancy(m: Modulus, work: &[u32], q: usize, last: usize, length: usize) -> u32
+    requires { ⌜ Pairs (now work) q last × (length ≤ last) × Modular m ⌝ }
+    ensures { λ d. ⌜ d ≡ sum (length + 1) (paired (now (work .entry)) q last) % m .p ⌝ }
 {
     let to = length + 1;
     let middle = to - to % 4;
     let most = fours(work, q, last, middle);
-    ones(most, work, q, last, middle, to).residue(p, reciprocal)
-}
-
-// a × b modulo p.
-fn product(p: u32, a: u32, b: u32) -> u32
-    requires { ⌜ 0 < p ⌝ }
-    ensures { λ r. ⌜ r ≡ times p a b ⌝ }
-{
-    (sums::times(a, b) % (p as u64)) as u32
+    ones(most, work, q, last, middle, to).residue(m)
 }
 
 // ---- the steps
@@ -175,17 +169,17 @@ fn keep(count: usize, work: &mut [u32], c: Register)
 }
 
 // q − (d/e)·z·t in q's place.
-fn update(p: u32, count: usize, work: &mut [u32], d: u32, c: Register)
-    requires { ⌜ (1 < p) × (p ≤ 2147483647) × (count ≤ 8192) × (4 * count + 8 ≤ length (now work)) ⌝ }
+fn update(m: Modulus, count: usize, work: &mut [u32], d: u32, c: Register)
+    requires { ⌜ (1 < m .p) × Modular m × (count ≤ 8192) × (4 * count + 8 ≤ length (now work)) ⌝ }
     requires { ⌜ (c .shift + c .held ≤ count + 2) × Place count (c .t) ⌝ }
-    requires { ⌜ ((i : ℕ) → i < count + 2 → at (now work) (count + 2 + i) < p) ⌝ }
+    requires { ⌜ ((i : ℕ) → i < count + 2 → at (now work) (count + 2 + i) < m .p) ⌝ }
     ensures { λ _. ⌜ Written (now (work .entry)) (count + 2 + c .shift) (c .held)
-        (λ i. minus p (at (now (work .entry)) (count + 2 + c .shift + i)) (times p (times p d (c .inverse)) (at (now (work .entry)) (c .t + i))))
+        (λ i. minus (m .p) (at (now (work .entry)) (count + 2 + c .shift + i)) (times (m .p) (times (m .p) d (c .inverse)) (at (now (work .entry)) (c .t + i))))
         (now (work .exit)) ⌝ }
 {
     subtract(
-        p,
-        product(p, d, c.inverse),
+        m,
+        m.product(d, c.inverse),
         work,
         count + 2 + c.shift,
         c.t,
@@ -212,27 +206,20 @@ pub(crate) fn start(p: u32, count: usize, work: &mut [u32]) -> Register
 }
 
 // What is done for r: the discrepancy, the update, the length.
-pub(crate) fn step(
-    p: u32,
-    reciprocal: u64,
-    count: usize,
-    work: &mut [u32],
-    r: usize,
-    c: Register,
-) -> Register
-    requires { ⌜ Turn p count r (now work) c × (reciprocal ≡ 18446744073709551615 / p) ⌝ }
-    ensures { λ next. ⌜ Stepped p count r (now (work .entry)) (now (work .exit)) next ⌝ }
+pub(crate) fn step(m: Modulus, count: usize, work: &mut [u32], r: usize, c: Register) -> Register
+    requires { ⌜ Turn (m .p) count r (now work) c × Modular m ⌝ }
+    ensures { λ next. ⌜ Stepped (m .p) count r (now (work .entry)) (now (work .exit)) next ⌝ }
 {
-    let d = discrepancy(p, reciprocal, work, count + 2, r - 1, c.length);
+    let d = discrepancy(m, work, count + 2, r - 1, c.length);
     if d == 0 {
         return moved(c);
     }
     if 2 * c.length < r {
         keep(count, work, c);
-        update(p, count, work, d, c);
-        lengthened(p, count, r, d, c)
+        update(m, count, work, d, c);
+        lengthened(m.p, count, r, d, c)
     } else {
-        update(p, count, work, d, c);
+        update(m, count, work, d, c);
         moved(c)
     }
 }
@@ -242,12 +229,12 @@ pub(crate) fn shortest(p: u32, count: usize, work: &mut [u32]) -> usize
     requires { ⌜ Ready p count (now work) ⌝ }
     ensures { λ L. ⌜ Found p count (now (work .entry)) (now (work .exit)) L ⌝ }
 {
-    let reciprocal = sums::reciprocal(p);
+    let m = Modulus::of(p);
     let mut c = start(p, count, work);
     let mut r = 0;
     while r < count {
         r += 1;
-        c = step(p, reciprocal, count, work, r, c);
+        c = step(m, count, work, r, c);
     }
     reverse(work, count + 2, c.length);
     c.length

@@ -35,7 +35,7 @@ generate-requires c κs =
       omega (arith, pre .1 .0 .3),
       omega (arith, pre .0 .0 .sized),
       omega (arith, done .same-length, pre .1 .1 .0),
-      rw (done .terms) (vector-terms (a .p) A (a .left) _ _ (pre .0 .0 .positive)),
+      rw (done .terms) (vector-terms (a .m .p) A (a .left) _ _ (pre .0 .0 .positive)),
     )
 
 mul-applied : tie.Need-mul-applied
@@ -67,7 +67,7 @@ applied-requires c κs =
           room = omega (arith, found .same-length, long, found .short, room);
           one = found .monic;
           elements =
-              subst (λ l. Vector (a .p) n l)
+              subst (λ l. Vector (a .m .p) n l)
               (sym (same-take 0 n (3 * n) _ _ (omega arith) (omega (arith, long, room)) (found .same-length) (found .before) ∙ done .front)) (pre .1 .1 .1);
         },
       ),

@@ -32,7 +32,7 @@ ones-requires c κs =
 residue-requires : tie.Need-residue-requires
 residue-requires c κs =
     let pre = c .before .before .before .pre in
-    (pre .2, pre .3, omega (arith, c .ones .ensures .carries, pre .1, pre .0 .few))
+    (pre .2, omega (arith, c .ones .ensures .carries, pre .1, pre .0 .few))
 
 returns : tie.Need-returns
 returns c =
@@ -41,7 +41,7 @@ returns c =
     let to = a .length + 1 in
     let middle = to - to % 4 in
     c .residue .ensures
-    ∙ ap (λ x. x % a .p)
+    ∙ ap (λ x. x % a .m .p)
     (summed-both nothing (c .before .before .fours .result) (c .before .ones .result) 0 middle to f (omega arith) (omega arith)
     (c .before .before .fours .ensures) (c .before .ones .ensures) .sum
     ∙ zero-add (sumFrom 0 to f) ∙ sumFrom-zero to f)

@@ -15,7 +15,7 @@ sub-discrepancy c = search needs
 discrepancy-requires : tie.Need-discrepancy-requires
 discrepancy-requires c κs =
     let pre = c .before .before .pre in
-    (turn.pairs (pre .0), turn.within (pre .0), turn.positive (pre .0), pre .1)
+    (turn.pairs (pre .0), turn.within (pre .0), pre .1)
 
 moved-requires : tie.Need-moved-requires
 moved-requires c κs = search needs
@@ -40,7 +40,7 @@ update-requires c κs =
     let start = c .before .before .before .before .before .before .before .before .before .before .before in
     let t = start .pre .0 in
     let w = c .before .before .before .keep .ensures in (
-      (turn.two t, turn.most t, t .ready .few, omega (arith, w .same-length, t .ready .room)),
+      (turn.two t, start .pre .1, t .ready .few, omega (arith, w .same-length, t .ready .room)),
       ((omega (arith, t .holds .t-short, t .low, t .high), t .holds .t-place), turn.copied-element t w),
     )
 
@@ -58,7 +58,7 @@ update-requires-2 : tie.Need-update-requires-2
 update-requires-2 c κs =
     let start = c .before .before .before .before .before .before .before in
     let t = start .pre .0 in (
-      (turn.two t, turn.most t, t .ready .few, t .ready .room),
+      (turn.two t, start .pre .1, t .ready .few, t .ready .room),
       ((omega (arith, t .holds .t-short, t .low, t .high), t .holds .t-place), turn.q-element t),
     )
 

@@ -34,13 +34,13 @@ subtract-requires c κs =
     let a = start .args in
     let w = place-within (a .count) (a .c .t) (start .pre .1 .0 .1) in
     let k = c .before .before .product in
-    let b : k .result < a .p = rw (k .ensures) (times-lt (a .p) (a .d) (a .c .inverse) (omega (arith, start .pre .0 .0))) in
+    let b : k .result < a .m .p = rw (k .ensures) (times-lt (a .m .p) (a .d) (a .c .inverse) (omega (arith, start .pre .0 .0))) in
     let x : a .count + 2 + a .c .shift + a .c .held ≤ a .c .t = omega (arith, start .pre .1 .0 .0, w) in
     let y : a .c .t + a .c .held ≤ length (now (a .work)) = omega (arith, start .pre .0 .3, start .pre .1 .0 .0, w) in (
       (b, start .pre .0 .1, x, y),
       (λ i l.
           let e : a .count + 2 + (a .c .shift + i) ≡ a .count + 2 + a .c .shift + i = omega arith in
-          subst (λ k. at (now (a .work)) k < a .p) e (start .pre .1 .1 (a .c .shift + i) (omega (arith, start .pre .1 .0 .0)))),
+          subst (λ k. at (now (a .work)) k < a .m .p) e (start .pre .1 .1 (a .c .shift + i) (omega (arith, start .pre .1 .0 .0)))),
     )
 
 same-length : tie.Need-same-length
@@ -50,7 +50,7 @@ returns : tie.Need-returns
 returns c =
     let k = c .before .before .before .before .before .product in
     let a = c .before .before .before .before .before .before .before .args in
-    exchange (a .p) (a .c .t) (k .ensures) (c .before .before .subtract .ensures)
+    exchange (a .m .p) (a .c .t) (k .ensures) (c .before .before .subtract .ensures)
 
 pub update-spec : {M : Type 1} → statement M
 update-spec =
