@@ -4,7 +4,7 @@
 --     after-start                the start
 --     after-both, after-own      steps one after the other, and from where they left off
 --     before-step                after r − 1 steps the slice is ready for r
---     positive, most, within, shift-few, crossing, carries-few      what the callees ask of p, L, t and the discrepancy's products
+--     within, shift-few, crossing, carries-few      what the callees ask of p, L, t and the discrepancy's products
 --     Kept, kept-same, kept-copied     the slice where the update begins: as it was, but for a copy of q where the length is to change
 --     copying, subtracting       what the copy and the update ask
 --     discrepancy-is             the sum of the products is the discrepancy
@@ -120,10 +120,10 @@ module _ {p count r : ℕ} {W : List ℕ} {c : Register} (ask : BeforeStep p cou
   prime : Prime p
   prime = isModulus-Prime p (ready .modulus)
 
-  pub positive : 0 < p
+  positive : 0 < p
   positive = omega (arith, prime .two-le)
 
-  pub most : p ≤ 2147483647
+  most : p ≤ 2147483647
   most = isModulus-le p (ready .modulus)
 
   pub within : c .length ≤ r - 1
@@ -199,16 +199,13 @@ module _ {p count r : ℕ} {W : List ℕ} {c : Register} (ask : BeforeStep p cou
       }
 
   module _ {W₁ : List ℕ} (kept : Kept p count r W W₁ c) (d k : ℕ) (constant : k ≡ times p d (c .inverse)) where
-    pub subtracting : ((k < p) × (p ≤ 2147483647) × (count + 2 + c .shift + c .held ≤ c .t) × (c .t + c .held ≤ length W₁))
+    pub subtracting : (k < p) × (count + 2 + c .shift + c .held ≤ c .t) × (c .t + c .held ≤ length W₁)
         × ((i : ℕ) → i < c .held → at W₁ (count + 2 + c .shift + i) < p)
     subtracting =
         let b = t-within count (c .t) (c .spare) (holds .places) in (
-          (
-            subst (λ x. x < p) (sym constant) (times-lt p d (c .inverse) positive),
-            most,
-            omega (arith, b .0, holds .t-short, low, high),
-            omega (arith, b .1, holds .t-short, low, high, ready .room, kept .before .room),
-          ),
+          subst (λ x. x < p) (sym constant) (times-lt p d (c .inverse) positive),
+          omega (arith, b .0, holds .t-short, low, high),
+          omega (arith, b .1, holds .t-short, low, high, ready .room, kept .before .room),
           (λ i l.
               let e : count + 2 + (c .shift + i) ≡ count + 2 + c .shift + i = omega arith in
               subst (λ x. at W₁ x < p) e

@@ -55,10 +55,10 @@ module _ {p : ℕ} {s polynomial work W₁ : List ℕ} (input : Accepted p s pol
       ext-getD 0 (take (length s) W₁) s size
       (λ i l. let b : i < length s = omega arith in getD-take (length s) W₁ i 0 b ∙ terms i b)
 
-  pub recurred-generator : {W₂ polynomial′ : List ℕ} {L : ℕ} → HoldsGenerator p (length s) W₁ W₂ L
+  pub recurred-generator : {W₂ polynomial′ : List ℕ} {L m : ℕ} → m ≡ p → HoldsGenerator m (length s) W₁ W₂ L
       → Written polynomial 0 (length s + 1) (λ i. at W₂ (length s + 2 + i)) polynomial′
       → Recurred p s polynomial work (Degree L) polynomial′ W₂
-  recurred-generator {W₂} {polynomial′} {L} found written =
+  recurred-generator {W₂} {polynomial′} {L} {m} same-modulus holds written =
       record {
         gives = (input .none, ap (λ b. cond b (degree p s) 0) zero ∙ sym answer);
         after =
@@ -68,6 +68,9 @@ module _ {p : ℕ} {s polynomial work W₁ : List ℕ} (input : Accepted p s pol
         shortest = λ L′ e. let same : L ≡ L′ = cc in subst (λ n. IsShortest p s n (take (n + 1) polynomial′)) same shortest;
       }
     where
+      found : HoldsGenerator p (length s) W₁ W₂ L
+      found = subst (λ n. HoldsGenerator n (length s) W₁ W₂ L) same-modulus holds
+
       zero : eqb (recurrenceRefusal p s polynomial work) 0 ≡ true
       zero = eq-eqb (recurrenceRefusal p s polynomial work) 0 (input .none)
 

@@ -1,4 +1,5 @@
 -- what the contracts cite
+pub mod Modulus
 pub mod Sums
 pub mod Convolution
 pub mod Written

@@ -4,18 +4,19 @@
 // The contracts cite the crate meaning (Recurrence: the steps and what is shortest; Calls: what a call refuses, answers and leaves) and
 // specs/Recurrence.antt (what regions and register hold).
 use crate::convolution::crossed;
-use crate::scale;
+use crate::modulus::Modulus;
+use crate::multiplier::Multiplier;
 use crate::slice::clear;
 use crate::slice::copy;
 use crate::slice::transfer;
-use crate::sums;
 use checks::recurrence_refusal;
 use field::Field;
 ghost use mathlib.Core.Path.{_≡_};
-ghost use Prim.Native.Nat.{ℕ, _+_, _-_, _*_, _/_, _%_, _≤_, _<_};
+ghost use Prim.Native.Nat.{ℕ, _+_, _-_, _*_, _≤_, _<_};
 ghost use lib.ListN.{length};
 ghost use Rattle.meaning.specs.List.{at};
 ghost use Rattle.meaning.specs.Field.{minus, times};
+ghost use Rattle.wiedemann.specs.Modulus.{Modular};
 ghost use Rattle.wiedemann.specs.Written.{Written};
 ghost use Rattle.wiedemann.specs.Recurrence.{Ready, BeforeStep, AfterSteps, HoldsGenerator, Recurred, Reversed, shifted, lengthened};
 
@@ -37,16 +38,16 @@ pub(crate) struct Register {
 // ---- parts of the slice
 
 // q − factor·t in q's place: `size` coefficients of q from `q` on, and of t from `t` on.
-fn subtract(p: u32, factor: u32, work: &mut [u32], q: usize, t: usize, size: usize)
-    requires { ⌜ (factor < p) × (p ≤ 2147483647) × (q + size ≤ t) × (t + size ≤ length (now work)) ⌝ }
-    requires { ⌜ ((i : ℕ) → i < size → at (now work) (q + i) < p) ⌝ }
+fn subtract(m: Modulus, factor: u32, work: &mut [u32], q: usize, t: usize, size: usize)
+    requires { ⌜ (factor < m .p) × Modular m × (q + size ≤ t) × (t + size ≤ length (now work)) ⌝ }
+    requires { ⌜ ((i : ℕ) → i < size → at (now work) (q + i) < m .p) ⌝ }
     ensures { λ _. ⌜ Written (now (work .entry)) q size
-        (λ i. minus p (at (now (work .entry)) (q + i)) (times p factor (at (now (work .entry)) (t + i)))) (now (work .exit)) ⌝ }
+        (λ i. minus (m .p) (at (now (work .entry)) (q + i)) (times (m .p) factor (at (now (work .entry)) (t + i)))) (now (work .exit)) ⌝ }
 {
-    let w = scale::quotient(p, factor);
+    let k = Multiplier::of(m.p, factor);
     let mut i = 0;
     while i < size {
-        work[q + i] = scale::difference(p, work[q + i], scale::scaled(p, factor, w, work[t + i]));
+        work[q + i] = m.difference(work[q + i], k.times(m.p, work[t + i]));
         i += 1;
     }
 }
@@ -65,14 +66,6 @@ fn reverse(work: &mut [u32], from: usize, length: usize)
         i += 1;
         j -= 1;
     }
-}
-
-// a × b modulo p.
-fn product(p: u32, a: u32, b: u32) -> u32
-    requires { ⌜ 0 < p ⌝ }
-    ensures { λ r. ⌜ r ≡ times p a b ⌝ }
-{
-    (sums::times(a, b) % (p as u64)) as u32
 }
 
 // ---- the steps
@@ -129,19 +122,12 @@ pub(crate) fn start(p: u32, count: usize, work: &mut [u32]) -> Register
 }
 
 // What is done for r: the discrepancy, the update, the length.
-pub(crate) fn step(
-    p: u32,
-    reciprocal: u64,
-    count: usize,
-    work: &mut [u32],
-    r: usize,
-    c: Register,
-) -> Register
-    requires { ⌜ BeforeStep p count r (now work) c × (reciprocal ≡ 18446744073709551615 / p) ⌝ }
-    ensures { λ next. ⌜ AfterSteps p count r (now (work .entry)) (now (work .exit)) next ⌝ }
+pub(crate) fn step(m: Modulus, count: usize, work: &mut [u32], r: usize, c: Register) -> Register
+    requires { ⌜ BeforeStep (m .p) count r (now work) c × Modular m ⌝ }
+    ensures { λ next. ⌜ AfterSteps (m .p) count r (now (work .entry)) (now (work .exit)) next ⌝ }
 {
     let q = count + 2;
-    let d = crossed(work, q, r - 1, 0, c.length + 1).residue(p, reciprocal);
+    let d = crossed(work, q, r - 1, 0, c.length + 1).residue(m);
     if d == 0 {
         return shifted(c);
     }
@@ -150,25 +136,24 @@ pub(crate) fn step(
     if longer {
         copy(work, q, c.spare, c.length + 1);
     }
-    subtract(p, product(p, d, c.inverse), work, q + c.shift, c.t, c.held);
+    subtract(m, m.product(d, c.inverse), work, q + c.shift, c.t, c.held);
     if longer {
-        lengthened(p, r, d, c)
+        lengthened(m.p, r, d, c)
     } else {
         shifted(c)
     }
 }
 
 // The shortest recurrence of the `count` terms at the front of `work`: its degree L, and f in the second region, zeros after it.
-pub(crate) fn shortest(p: u32, count: usize, work: &mut [u32]) -> usize
-    requires { ⌜ Ready p count (now work) ⌝ }
-    ensures { λ L. ⌜ HoldsGenerator p count (now (work .entry)) (now (work .exit)) L ⌝ }
+pub(crate) fn shortest(m: Modulus, count: usize, work: &mut [u32]) -> usize
+    requires { ⌜ Ready (m .p) count (now work) × Modular m ⌝ }
+    ensures { λ L. ⌜ HoldsGenerator (m .p) count (now (work .entry)) (now (work .exit)) L ⌝ }
 {
-    let reciprocal = sums::reciprocal(p);
-    let mut c = start(p, count, work);
+    let mut c = start(m.p, count, work);
     let mut r = 0;
     while r < count {
         r += 1;
-        c = step(p, reciprocal, count, work, r, c);
+        c = step(m, count, work, r, c);
     }
     reverse(work, count + 2, c.length);
     c.length
@@ -195,7 +180,7 @@ pub fn recurrence(field: Field, s: &[u32], polynomial: &mut [u32], work: &mut [u
     }
     let count = s.len();
     transfer(s, 0, work, 0, count);
-    let degree = shortest(p, count, work);
+    let degree = shortest(Modulus::of(p), count, work);
     transfer(work, count + 2, polynomial, 0, count + 1);
     Answer::Degree(degree)
 }

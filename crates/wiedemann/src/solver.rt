@@ -2,7 +2,7 @@
 // recurrence's part. The vector and polynomial slices are written at the very end.
 ghost use mathlib.Core.Path.{_≡_};
 ghost use mathlib.Core.List.{[]};
-ghost use Prim.Native.Nat.{_+_, _-_, _*_, _/_, _≤_, _<_};
+ghost use Prim.Native.Nat.{_+_, _-_, _*_, _≤_, _<_};
 ghost use lib.ListN.{length, getD};
 ghost use Rattle.meaning.specs.List.{at, table, padded, isZero};
 ghost use mathlib.Core.Bool.{true};
@@ -11,21 +11,20 @@ ghost use Rattle.meaning.specs.Matrix.{matrix};
 ghost use Rattle.meaning.specs.Solver.{projections};
 ghost use Rattle.meaning.specs.Calls.{solverRefusal};
 ghost use Rattle.checks.specs.Valid.{Valid, Vector};
+ghost use Rattle.wiedemann.specs.Modulus.{Modular};
 ghost use Rattle.wiedemann.specs.Region.{part};
 ghost use Rattle.wiedemann.specs.Projection.{Words};
 ghost use Rattle.wiedemann.specs.Factor.{Multiplied};
 ghost use Rattle.wiedemann.specs.Solver.{System, Narrowed, Passing, Passed, Finished, Closable, Inner, Lent, Imaged, none, counted};
 ghost use Rattle.wiedemann.specs.Verdict.{Closed, Solves, Found, closing};
+use crate::modulus::Modulus;
+use crate::multiplier::Multiplier;
 use crate::pass::applied;
 use crate::pass::multiply;
 use crate::pass::shorten;
-use crate::scale::difference;
-use crate::scale::quotient;
-use crate::scale::scaled;
 use crate::slice::copy;
 use crate::slice::is_zero;
 use crate::slice::transfer;
-use crate::sums::reciprocal;
 use checks::solver_refusal;
 use field::Field;
 use field::inverse_modulo;
@@ -47,8 +46,7 @@ pub enum Verdict {
 
 // Terms, recurrence and f(A)r: the part from r on is lent. The answer is f's degree.
 fn narrow(
-    p: u32,
-    reciprocal: u64,
+    m: Modulus,
     starts: &[u32],
     columns: &[u32],
     values: &[u32],
@@ -58,15 +56,14 @@ fn narrow(
     work: &mut [u32],
     left: usize,
 ) -> usize
-    requires { ⌜ Valid p (matrix (now starts) (now columns) (now values)) × (isModulus p ≡ true) ⌝ }
-    requires { ⌜ (reciprocal ≡ 18446744073709551615 / p) × (j < vectors + (length (now starts) - 1)) × (0 < left) × (left ≤ length (now starts) - 1) × Words (length (now starts) - 1) vectors (now words) ⌝ }
-    requires { ⌜ (16 * (length (now starts) - 1) + 16 ≤ length (now work)) × Vector p (length (now starts) - 1) (part (length (now starts) - 1 + 1) (length (now starts) - 1) (now work)) ⌝ }
-    ensures { λ t. ⌜ Narrowed p (matrix (now (starts .entry)) (now (columns .entry)) (now (values .entry))) left (getD (projections p (length (now (starts .entry)) - 1) (now (words .entry))) j []) (now (work .entry)) (now (work .exit)) t ⌝ }
+    requires { ⌜ Valid (m .p) (matrix (now starts) (now columns) (now values)) × (isModulus (m .p) ≡ true) ⌝ }
+    requires { ⌜ Modular m × (j < vectors + (length (now starts) - 1)) × (0 < left) × (left ≤ length (now starts) - 1) × Words (length (now starts) - 1) vectors (now words) ⌝ }
+    requires { ⌜ (16 * (length (now starts) - 1) + 16 ≤ length (now work)) × Vector (m .p) (length (now starts) - 1) (part (length (now starts) - 1 + 1) (length (now starts) - 1) (now work)) ⌝ }
+    ensures { λ t. ⌜ Narrowed (m .p) (matrix (now (starts .entry)) (now (columns .entry)) (now (values .entry))) left (getD (projections (m .p) (length (now (starts .entry)) - 1) (now (words .entry))) j []) (now (work .entry)) (now (work .exit)) t ⌝ }
 {
     let first = starts.len() - 1 + 1;
     shorten(
-        p,
-        reciprocal,
+        m,
         starts,
         columns,
         values,
@@ -79,13 +76,13 @@ fn narrow(
 }
 
 // F becomes F × f: the part with F and f is lent.
-fn enlarge(p: u32, reciprocal: u64, work: &mut [u32], d: usize, f: usize, t: usize)
-    requires { ⌜ (reciprocal ≡ 18446744073709551615 / p) × (0 < p) × (d + t ≤ 8191) × (d + t < f) × (f + t < length (now work)) ⌝ }
-    ensures { λ _. ⌜ Multiplied p (now (work .entry)) d f t (now (work .exit)) ⌝ }
+fn enlarge(m: Modulus, work: &mut [u32], d: usize, f: usize, t: usize)
+    requires { ⌜ Modular m × (0 < m .p) × (d + t ≤ 8191) × (d + t < f) × (f + t < length (now work)) ⌝ }
+    ensures { λ _. ⌜ Multiplied (m .p) (now (work .entry)) d f t (now (work .exit)) ⌝ }
 {
     let front: usize = 0;
     let end = f + t + 1;
-    multiply(p, reciprocal, &mut work[front..end], d, f, t);
+    multiply(m, &mut work[front..end], d, f, t);
 }
 
 // The counts after a pass of degree t.
@@ -102,8 +99,7 @@ fn count(c: Counts, left: usize, t: usize) -> Counts
 
 // A pass with projection j: r becomes f(A)r, F becomes F × f.
 fn pass(
-    p: u32,
-    reciprocal: u64,
+    m: Modulus,
     starts: &[u32],
     columns: &[u32],
     values: &[u32],
@@ -113,27 +109,16 @@ fn pass(
     work: &mut [u32],
     c: Counts,
 ) -> Counts
-    requires { ⌜ Valid p (matrix (now starts) (now columns) (now values)) × (isModulus p ≡ true) ⌝ }
-    requires { ⌜ (reciprocal ≡ 18446744073709551615 / p) × (j < vectors + (length (now starts) - 1)) × Words (length (now starts) - 1) vectors (now words) ⌝ }
-    requires { ⌜ Passing p (matrix (now starts) (now columns) (now values)) (getD (projections p (length (now starts) - 1) (now words)) j []) (now work) c ⌝ }
-    ensures { λ r. ⌜ Passed p (matrix (now (starts .entry)) (now (columns .entry)) (now (values .entry))) (getD (projections p (length (now (starts .entry)) - 1) (now (words .entry))) j []) (now (work .entry)) c (now (work .exit)) r ⌝ }
+    requires { ⌜ Valid (m .p) (matrix (now starts) (now columns) (now values)) × (isModulus (m .p) ≡ true) ⌝ }
+    requires { ⌜ Modular m × (j < vectors + (length (now starts) - 1)) × Words (length (now starts) - 1) vectors (now words) ⌝ }
+    requires { ⌜ Passing (m .p) (matrix (now starts) (now columns) (now values)) (getD (projections (m .p) (length (now starts) - 1) (now words)) j []) (now work) c ⌝ }
+    ensures { λ r. ⌜ Passed (m .p) (matrix (now (starts .entry)) (now (columns .entry)) (now (values .entry))) (getD (projections (m .p) (length (now (starts .entry)) - 1) (now (words .entry))) j []) (now (work .entry)) c (now (work .exit)) r ⌝ }
 {
     let n = starts.len() - 1;
     let d = c.degree;
     let left = n - d;
-    let t = narrow(
-        p,
-        reciprocal,
-        starts,
-        columns,
-        values,
-        words,
-        vectors,
-        j,
-        work,
-        left,
-    );
-    enlarge(p, reciprocal, work, d, n + 1 + (3 * n + (2 * left + 2)), t);
+    let t = narrow(m, starts, columns, values, words, vectors, j, work, left);
+    enlarge(m, work, d, n + 1 + (3 * n + (2 * left + 2)), t);
     count(c, left, t)
 }
 
@@ -163,8 +148,7 @@ fn is_settled(n: usize, work: &[u32]) -> bool
 
 // While r is not zero, a pass with the next projection.
 fn run(
-    p: u32,
-    reciprocal: u64,
+    m: Modulus,
     starts: &[u32],
     columns: &[u32],
     values: &[u32],
@@ -173,26 +157,15 @@ fn run(
     vectors: usize,
     work: &mut [u32],
 ) -> Counts
-    requires { ⌜ System p (matrix (now starts) (now columns) (now values)) (now b) ⌝ }
-    requires { ⌜ (reciprocal ≡ 18446744073709551615 / p) × Words (length (now starts) - 1) vectors (now words) × (16 * (length (now starts) - 1) + 16 ≤ length (now work)) ⌝ }
-    ensures { λ c. ⌜ Finished p (matrix (now (starts .entry)) (now (columns .entry)) (now (values .entry))) (now (b .entry)) (now (words .entry)) (now (work .exit)) c ⌝ }
+    requires { ⌜ System (m .p) (matrix (now starts) (now columns) (now values)) (now b) ⌝ }
+    requires { ⌜ Modular m × Words (length (now starts) - 1) vectors (now words) × (16 * (length (now starts) - 1) + 16 ≤ length (now work)) ⌝ }
+    ensures { λ c. ⌜ Finished (m .p) (matrix (now (starts .entry)) (now (columns .entry)) (now (values .entry))) (now (b .entry)) (now (words .entry)) (now (work .exit)) c ⌝ }
 {
     let n = starts.len() - 1;
     let mut c = begin(b, work);
     let mut j = 0;
     while !is_settled(n, work) {
-        c = pass(
-            p,
-            reciprocal,
-            starts,
-            columns,
-            values,
-            words,
-            vectors,
-            j,
-            work,
-            c,
-        );
+        c = pass(m, starts, columns, values, words, vectors, j, work, c);
         j += 1;
     }
     c
@@ -200,8 +173,7 @@ fn run(
 
 // In the part from r on: b into r's place, and G(A)b for the d coefficients of G behind the three regions.
 fn image_within(
-    p: u32,
-    reciprocal: u64,
+    m: Modulus,
     starts: &[u32],
     columns: &[u32],
     values: &[u32],
@@ -209,15 +181,14 @@ fn image_within(
     area: &mut [u32],
     d: usize,
 )
-    requires { ⌜ Valid p (matrix (now starts) (now columns) (now values)) × Vector p (length (now starts) - 1) (now b) ⌝ }
-    requires { ⌜ (reciprocal ≡ 18446744073709551615 / p) × (0 < d) × (3 * (length (now starts) - 1) + d ≤ length (now area)) × (at (now area) (3 * (length (now starts) - 1) + (d - 1)) ≡ 1) ⌝ }
-    ensures { λ _. ⌜ Inner p (matrix (now (starts .entry)) (now (columns .entry)) (now (values .entry))) (now (b .entry)) (now (area .entry)) d (now (area .exit)) ⌝ }
+    requires { ⌜ Valid (m .p) (matrix (now starts) (now columns) (now values)) × Vector (m .p) (length (now starts) - 1) (now b) ⌝ }
+    requires { ⌜ Modular m × (0 < d) × (3 * (length (now starts) - 1) + d ≤ length (now area)) × (at (now area) (3 * (length (now starts) - 1) + (d - 1)) ≡ 1) ⌝ }
+    ensures { λ _. ⌜ Inner (m .p) (matrix (now (starts .entry)) (now (columns .entry)) (now (values .entry))) (now (b .entry)) (now (area .entry)) d (now (area .exit)) ⌝ }
 {
     let r: usize = 0;
     transfer(b, 0, area, r, b.len());
     applied(
-        p,
-        reciprocal,
+        m,
         starts,
         columns,
         values,
@@ -229,8 +200,7 @@ fn image_within(
 
 // The part from r on is lent to that.
 fn image_lent(
-    p: u32,
-    reciprocal: u64,
+    m: Modulus,
     starts: &[u32],
     columns: &[u32],
     values: &[u32],
@@ -238,27 +208,17 @@ fn image_lent(
     work: &mut [u32],
     d: usize,
 )
-    requires { ⌜ Valid p (matrix (now starts) (now columns) (now values)) × Vector p (length (now starts) - 1) (now b) ⌝ }
-    requires { ⌜ (reciprocal ≡ 18446744073709551615 / p) × (0 < d) × (d ≤ length (now starts) - 1) × (16 * (length (now starts) - 1) + 16 ≤ length (now work)) × (at (part (length (now starts) - 1 + 1) (length (now work) - (length (now starts) - 1 + 1)) (now work)) (3 * (length (now starts) - 1) + (d - 1)) ≡ 1) ⌝ }
-    ensures { λ _. ⌜ Lent (matrix (now (starts .entry)) (now (columns .entry)) (now (values .entry))) p (now (b .entry)) (now (work .entry)) d (now (work .exit)) ⌝ }
+    requires { ⌜ Valid (m .p) (matrix (now starts) (now columns) (now values)) × Vector (m .p) (length (now starts) - 1) (now b) ⌝ }
+    requires { ⌜ Modular m × (0 < d) × (d ≤ length (now starts) - 1) × (16 * (length (now starts) - 1) + 16 ≤ length (now work)) × (at (part (length (now starts) - 1 + 1) (length (now work) - (length (now starts) - 1 + 1)) (now work)) (3 * (length (now starts) - 1) + (d - 1)) ≡ 1) ⌝ }
+    ensures { λ _. ⌜ Lent (matrix (now (starts .entry)) (now (columns .entry)) (now (values .entry))) (m .p) (now (b .entry)) (now (work .entry)) d (now (work .exit)) ⌝ }
 {
     let first = starts.len() - 1 + 1;
-    image_within(
-        p,
-        reciprocal,
-        starts,
-        columns,
-        values,
-        b,
-        &mut work[first..],
-        d,
-    );
+    image_within(m, starts, columns, values, b, &mut work[first..], d);
 }
 
 // G(A)b in r's place, for G = (F − F[0]) / z: d − 1 products.
 fn image(
-    p: u32,
-    reciprocal: u64,
+    m: Modulus,
     starts: &[u32],
     columns: &[u32],
     values: &[u32],
@@ -266,14 +226,14 @@ fn image(
     work: &mut [u32],
     d: usize,
 )
-    requires { ⌜ Valid p (matrix (now starts) (now columns) (now values)) × Vector p (length (now starts) - 1) (now b) ⌝ }
-    requires { ⌜ (reciprocal ≡ 18446744073709551615 / p) × (0 < d) × (d ≤ length (now starts) - 1) × (16 * (length (now starts) - 1) + 16 ≤ length (now work)) × (at (now work) d ≡ 1) ⌝ }
-    ensures { λ _. ⌜ Imaged p (matrix (now (starts .entry)) (now (columns .entry)) (now (values .entry))) (now (b .entry)) (now (work .entry)) d (now (work .exit)) ⌝ }
+    requires { ⌜ Valid (m .p) (matrix (now starts) (now columns) (now values)) × Vector (m .p) (length (now starts) - 1) (now b) ⌝ }
+    requires { ⌜ Modular m × (0 < d) × (d ≤ length (now starts) - 1) × (16 * (length (now starts) - 1) + 16 ≤ length (now work)) × (at (now work) d ≡ 1) ⌝ }
+    ensures { λ _. ⌜ Imaged (m .p) (matrix (now (starts .entry)) (now (columns .entry)) (now (values .entry))) (now (b .entry)) (now (work .entry)) d (now (work .exit)) ⌝ }
 {
     let n = starts.len() - 1;
     let one: usize = 1;
     copy(work, one, n + 1 + 3 * n, d);
-    image_lent(p, reciprocal, starts, columns, values, b, work, d);
+    image_lent(m, starts, columns, values, b, work, d);
 }
 
 // Coefficient i of the first `size`, 0 after them.
@@ -297,14 +257,14 @@ fn spread(work: &[u32], size: usize, out: &mut [u32])
 }
 
 // −w × `inverse` for the w from `from` on, into out.
-fn solution(p: u32, inverse: u32, work: &[u32], from: usize, out: &mut [u32])
-    requires { ⌜ (inverse < p) × (p ≤ 2147483647) × (from + length (now out) ≤ length (now work)) × Vector p (length (now out)) (part from (length (now out)) (now work)) ⌝ }
-    ensures { λ _. ⌜ now (out .exit) ≡ table (length (now (out .entry))) (λ i. times p (minus p 0 (at (part from (length (now (out .entry))) (now (work .entry))) i)) inverse) ⌝ }
+fn solution(m: Modulus, inverse: u32, work: &[u32], from: usize, out: &mut [u32])
+    requires { ⌜ (inverse < m .p) × Modular m × (from + length (now out) ≤ length (now work)) × Vector (m .p) (length (now out)) (part from (length (now out)) (now work)) ⌝ }
+    ensures { λ _. ⌜ now (out .exit) ≡ table (length (now (out .entry))) (λ i. times (m .p) (minus (m .p) 0 (at (part from (length (now (out .entry))) (now (work .entry))) i)) inverse) ⌝ }
 {
-    let w = quotient(p, inverse);
+    let k = Multiplier::of(m.p, inverse);
     let mut i = 0;
     while i < out.len() {
-        out[i] = scaled(p, inverse, w, difference(p, 0, work[from + i]));
+        out[i] = k.times(m.p, m.difference(0, work[from + i]));
         i += 1;
     }
 }
@@ -325,8 +285,7 @@ fn closed(c: Counts) -> Counts
 
 // When r is zero: what F makes of b.
 fn finish(
-    p: u32,
-    reciprocal: u64,
+    m: Modulus,
     starts: &[u32],
     columns: &[u32],
     values: &[u32],
@@ -336,9 +295,9 @@ fn finish(
     vector: &mut [u32],
     polynomial: &mut [u32],
 ) -> Verdict
-    requires { ⌜ System p (matrix (now starts) (now columns) (now values)) (now b) × (reciprocal ≡ 18446744073709551615 / p) ⌝ }
-    requires { ⌜ Closable p (matrix (now starts) (now columns) (now values)) (now work) c × (length (now vector) ≡ length (now starts) - 1) × (length (now polynomial) ≡ length (now starts) - 1 + 1) ⌝ }
-    ensures { λ r. ⌜ Closed p (matrix (now (starts .entry)) (now (columns .entry)) (now (values .entry))) (now (b .entry)) (now (work .entry)) c r (now (vector .exit)) (now (polynomial .exit)) ⌝ }
+    requires { ⌜ System (m .p) (matrix (now starts) (now columns) (now values)) (now b) × Modular m ⌝ }
+    requires { ⌜ Closable (m .p) (matrix (now starts) (now columns) (now values)) (now work) c × (length (now vector) ≡ length (now starts) - 1) × (length (now polynomial) ≡ length (now starts) - 1 + 1) ⌝ }
+    ensures { λ r. ⌜ Closed (m .p) (matrix (now (starts .entry)) (now (columns .entry)) (now (values .entry))) (now (b .entry)) (now (work .entry)) c r (now (vector .exit)) (now (polynomial .exit)) ⌝ }
 {
     let d = c.degree;
     let first = starts.len() - 1 + 1;
@@ -348,12 +307,12 @@ fn finish(
         return Verdict::Solved(closed(c));
     }
     let constant = work[0];
-    image(p, reciprocal, starts, columns, values, b, work, d);
+    image(m, starts, columns, values, b, work, d);
     if constant == 0 {
         transfer(work, first, vector, 0, b.len());
         return Verdict::Singular(closed(c));
     }
-    solution(p, inverse_modulo(p, constant), work, first, vector);
+    solution(m, inverse_modulo(m.p, constant), work, first, vector);
     Verdict::Solved(closed(c))
 }
 
@@ -372,31 +331,10 @@ fn solve_accepted(
     requires { ⌜ solverRefusal p (matrix (now starts) (now columns) (now values)) (now b) (now words) (now vector) (now polynomial) (now work) ≡ 0 ⌝ }
     ensures { λ r. ⌜ Found p (matrix (now (starts .entry)) (now (columns .entry)) (now (values .entry))) (now (b .entry)) (now (words .entry)) r (now (vector .exit)) (now (polynomial .exit)) ⌝ }
 {
-    let reciprocal = reciprocal(p);
+    let m = Modulus::of(p);
     let vectors = words.len() / (starts.len() - 1);
-    let c = run(
-        p,
-        reciprocal,
-        starts,
-        columns,
-        values,
-        b,
-        words,
-        vectors,
-        work,
-    );
-    finish(
-        p,
-        reciprocal,
-        starts,
-        columns,
-        values,
-        b,
-        work,
-        c,
-        vector,
-        polynomial,
-    )
+    let c = run(m, starts, columns, values, b, words, vectors, work);
+    finish(m, starts, columns, values, b, work, c, vector, polynomial)
 }
 
 // Solves Ax = b, or finds a vector that is not zero and that A takes to zero, by passes with the random words and then the unit vectors. Whatever

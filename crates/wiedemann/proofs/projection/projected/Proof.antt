@@ -52,9 +52,8 @@ dot-requires c κs =
           (record {
             few = pre .1 .2;
             enough = omega (arith, within (c .before), length-drop from words);
-            element = λ i l. omega (arith, pre .1 .1 .below i l, pre .0 .2);
+            element = λ i l. omega (arith, pre .1 .1 .below i l, pre .0 .0 .small);
           }),
-      pre .0 .1,
       pre .0 .0,
     )
 
@@ -73,10 +72,10 @@ returns c =
     let n = length v in
     let from = a .j * n in
     c .dot .ensures
-    ∙ ap (λ u. dot (a .p) u v)
-    (table-ext n (λ i. at (take (length words - from) (drop from words)) i % a .p) (λ i. at words (from + i) % a .p)
-    (λ i l. ap (λ x. x % a .p) (ap (λ w. at w i) (tail words from) ∙ getD-drop from words i 0))
-    ∙ sym (projection-words (a .p) n words (a .j) (subst (λ m. a .j < m) (pre .1 .0 .count) (c .before .before .if1 .taken))))
+    ∙ ap (λ u. dot (a .m .p) u v)
+    (table-ext n (λ i. at (take (length words - from) (drop from words)) i % a .m .p) (λ i. at words (from + i) % a .m .p)
+    (λ i l. ap (λ x. x % a .m .p) (ap (λ w. at w i) (tail words from) ∙ getD-drop from words i 0))
+    ∙ sym (projection-words (a .m .p) n words (a .j) (subst (λ m. a .j < m) (pre .1 .0 .count) (c .before .before .if1 .taken))))
 
 returns-2 : tie.Need-returns-2
 returns-2 c =
@@ -85,11 +84,11 @@ returns-2 c =
     let v = now (a .v) in
     let n = length v in
     let k = a .j - a .vectors in
-    let inside : k < n = omega (arith, pre .0 .3, c .before .if1 .left) in
+    let inside : k < n = omega (arith, pre .0 .1, c .before .if1 .left) in
     sym
-    (ap (λ u. dot (a .p) u v)
-    (ap (λ m. getD (projections (a .p) n (now (a .words))) m []) (place (a .j) (a .vectors) (length (now (a .words)) / n) (c .before .if1 .left) (pre .1 .0 .count)) ∙ projection-unit (a .p) n (now (a .words)) k inside)
-    ∙ dot-unit (a .p) v k inside (pre .1 .1 .below k inside))
+    (ap (λ u. dot (a .m .p) u v)
+    (ap (λ m. getD (projections (a .m .p) n (now (a .words))) m []) (place (a .j) (a .vectors) (length (now (a .words)) / n) (c .before .if1 .left) (pre .1 .0 .count)) ∙ projection-unit (a .m .p) n (now (a .words)) k inside)
+    ∙ dot-unit (a .m .p) v k inside (pre .1 .1 .below k inside))
   where
     place : (j r s : ℕ) → r ≤ j → r ≡ s → j ≡ s + (j - r)
     place j r s l e = omega (arith, l, e)

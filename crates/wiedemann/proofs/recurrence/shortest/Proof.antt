@@ -3,7 +3,6 @@ use mathlib.Core.Path.{_≡_}
 use Prim.Native.Nat.{_-_, _≤_}
 use native.Mathlib.Omega.{arith}
 use borrow.Author.Needs.{needs}
-use Rattle.residue.specs.Prime.{isModulus-Prime}
 use Rattle.wiedemann.specs.Recurrence.{AfterSteps}
 use Rattle.wiedemann.proofs.AfterSteps.{after-both, after-own, before-step}
 use Rattle.wiedemann.proofs.HoldsGenerator.{holds-generator}
@@ -11,13 +10,10 @@ use Rattle.wiedemann.proofs.recurrence.shortest.Statement.{statement}
 use Rattle.wiedemann.proofs.recurrence.shortest.Tie as tie
 
 abbrev Inv-loop : tie.InvT-loop
-Inv-loop p count work₀ reciprocal c₀ r₀ work c r = (r ≤ count) × AfterSteps p count r work₀ work c
+Inv-loop m count work₀ c₀ r₀ work c r = (r ≤ count) × AfterSteps (m .p) count r work₀ work c
 
 abbrev μ-loop : tie.MeasureT-loop
-μ-loop p count work₀ reciprocal c₀ r₀ work c r = count - r
-
-reciprocal-requires : tie.Need-reciprocal-requires Inv-loop μ-loop
-reciprocal-requires c κs = omega (arith, isModulus-Prime (c .before .args .p) (c .before .pre .modulus) .two-le)
+μ-loop m count work₀ c₀ r₀ work c r = count - r
 
 start-requires : tie.Need-start-requires Inv-loop μ-loop
 start-requires c κs = search needs
@@ -32,8 +28,8 @@ step-requires : tie.Need-step-requires Inv-loop μ-loop
 step-requires c κs =
     let loop = c .before .before in
     let begun = loop .before .before .before in
-    let start = begun .before .before .before .before in
-    (before-step (start .pre) (after-both (begun .start .ensures) (loop .loop .inv .1)) (c .before .loop-test .taken), begun .before .before .reciprocal .ensures)
+    let start = begun .before .before .before in
+    (before-step (start .pre .0) (after-both (begun .start .ensures) (loop .loop .inv .1)) (c .before .loop-test .taken), start .pre .1)
 
 loop-less : tie.Need-loop-less Inv-loop μ-loop
 loop-less c = search needs
@@ -54,9 +50,9 @@ returns : tie.Need-returns Inv-loop μ-loop
 returns c =
     let loop = c .before .before .before .before .before in
     let begun = loop .before .before .before in
-    let start = begun .before .before .before .before in
+    let start = begun .before .before .before in
     let end : loop .loop .r ≡ start .args .count = omega (arith, loop .loop .inv .0, c .before .before .before .before .loop-test .left) in
-    holds-generator (start .pre) end (after-both (begun .start .ensures) (loop .loop .inv .1)) (c .before .before .reverse .ensures)
+    holds-generator (start .pre .0) end (after-both (begun .start .ensures) (loop .loop .inv .1)) (c .before .before .reverse .ensures)
 
 pub shortest-spec : {M : Type 1} → statement M
 shortest-spec =
@@ -64,7 +60,6 @@ shortest-spec =
     (tie.spec
     Inv-loop
     μ-loop
-    reciprocal-requires
     start-requires
     loop-holds
     add-r

@@ -16,7 +16,7 @@ use Rattle.wiedemann.proofs.recurrence.step.Tie as tie
 abbrev KeptAt : tie.Joined2 → List ℕ → Type 0
 KeptAt c W =
     let a = c .before .before .before .before .before .before .before .before .args in
-    Kept (a .p) (a .count) (a .r) (now (a .work)) W (a .c)
+    Kept (a .m .p) (a .count) (a .r) (now (a .work)) W (a .c)
 
 kept : (c : tie.Joined2) → KeptAt c (c .if2 .work)
 kept c =
@@ -43,7 +43,7 @@ crossed-requires c κs = after.crossing (c .before .before .before .pre .0)
 residue-requires : tie.Need-residue-requires
 residue-requires c κs =
     let pre = c .before .before .before .before .pre in
-    (after.positive (pre .0), pre .1, after.carries-few (pre .0) (c .crossed .ensures))
+    (pre .1, after.carries-few (pre .0) (c .crossed .ensures))
 
 shifted-requires : tie.Need-shifted-requires
 shifted-requires c κs = after.shift-few (c .before .before .before .before .before .before .pre .0)
@@ -73,7 +73,7 @@ copy-requires : tie.Need-copy-requires
 copy-requires c κs = after.copying (c .before .before .before .before .before .before .before .before .before .before .pre .0)
 
 product-requires : tie.Need-product-requires
-product-requires c κs = after.positive (c .before .before .before .before .before .before .before .before .pre .0)
+product-requires c κs = c .before .before .before .before .before .before .before .before .pre .1
 
 add-subtract : tie.Need-add-subtract
 add-subtract c =
@@ -85,7 +85,8 @@ subtract-requires c κs =
     let made = c .before .before in
     let found = made .before .before .before .before in
     let start = found .before .before .before .before .before in
-    after.subtracting (start .pre .0) (kept (made .before)) (found .residue .result) (made .product .result) (made .product .ensures)
+    let s = after.subtracting (start .pre .0) (kept (made .before)) (found .residue .result) (made .product .result) (made .product .ensures) in
+    ((s .0, start .pre .1, s .1, s .2), s .3)
 
 lengthened-requires : tie.Need-lengthened-requires
 lengthened-requires c κs =

@@ -40,7 +40,7 @@ returns c =
     let W = now (a .work) in
     let m = a .f + a .t + 1 - 0 in
     let within : m ≤ length W = omega (arith, pre .4) in
-    multiplied-lent m (pre .3) (omega arith) within (c .before .before .multiply .kept .1 .1 .0 ∙ length-part 0 m W (omega (arith, within))) (c .before .before .multiply .ensures)
+    multiplied-lent m (pre .3) (omega arith) within (c .before .before .multiply .kept .1 .0 ∙ length-part 0 m W (omega (arith, within))) (c .before .before .multiply .ensures)
 
 pub enlarge-spec : {M : Type 1} → statement M
 enlarge-spec =

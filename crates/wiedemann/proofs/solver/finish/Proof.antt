@@ -58,7 +58,7 @@ returns c =
     let n = length (now (a .starts)) - 1 in
     let W = now (a .work) in
     let F = part 0 (a .c .degree + 1) W in
-    let said = verdict-zero (a .p) A (now (a .b)) F (a .c .degree) (c .before .before .before .before .before .before .if1 .taken) in
+    let said = verdict-zero (a .m .p) A (now (a .b)) F (a .c .degree) (c .before .before .before .before .before .before .if1 .taken) in
     record {
       ends = (ap (λ (y : Kind × List ℕ). y .0) said, c .closed .ensures);
       vector-is = c .before .before .before .spread2 .ensures ∙ ap zeros (pre .1 .1) ∙ sym (ap (λ (y : Kind × List ℕ). y .1) said);
@@ -102,11 +102,11 @@ returns-2 c =
     let W = now (a .work) in
     let F = part 0 (a .c .degree + 1) W in
     let image = c .before .before .before .before .before .before .before .before .before .image in
-    let W₁ = image .last .1 .1 .1 .1 .1 .1 .0 in
-    let said = verdict-singular (a .p) A (now (a .b)) F (a .c .degree) (c .before .before .before .before .before .before .before .before .before .before .before .before .if1 .left) (constant (a .c .degree) W ∙ c .before .before .before .before .before .before .if2 .taken) in
+    let W₁ = image .last .1 .1 .1 .1 .1 .0 in
+    let said = verdict-singular (a .m .p) A (now (a .b)) F (a .c .degree) (c .before .before .before .before .before .before .before .before .before .before .before .before .if1 .left) (constant (a .c .degree) W ∙ c .before .before .before .before .before .before .if2 .taken) in
     record {
       ends = (ap (λ (y : Kind × List ℕ). y .0) said, c .closed2 .ensures);
-      vector-is = written-taken (now (a .vector)) W₁ (n + 1) (length (now (a .b))) _ (pre .1 .1 ∙ sym (pre .0 .0 .accepted .size-b)) (omega (arith, pre .0 .0 .accepted .size-b, pre .1 .0 .room, image .kept .1 .1 .1 .1 .1 .1 .0)) (c .before .before .before .transfer .ensures)
+      vector-is = written-taken (now (a .vector)) W₁ (n + 1) (length (now (a .b))) _ (pre .1 .1 ∙ sym (pre .0 .0 .accepted .size-b)) (omega (arith, pre .0 .0 .accepted .size-b, pre .1 .0 .room, image .kept .1 .1 .1 .1 .1 .0)) (c .before .before .before .transfer .ensures)
           ∙ ap (λ m. part (n + 1) m W₁) (pre .0 .0 .accepted .size-b) ∙ image .ensures .holds ∙ sym (ap (λ (y : Kind × List ℕ). y .1) said);
       polynomial-is = c .before .before .before .before .before .before .before .before .before .before .before .before .before .before .before .spread .ensures ∙ ap (λ m. padded m F) (pre .1 .2);
     }
@@ -122,10 +122,10 @@ solution-requires c κs =
     let A = matrix (now (a .starts)) (now (a .columns)) (now (a .values)) in
     let n = length (now (a .starts)) - 1 in
     let done = c .before .before .before .before .before .before .image .ensures in (
-      rw (c .before .before .inverse-modulo .ensures) (inverse-lt (a .p) (pre .0 .0 .accepted .prime) (at (now (a .work)) 0) (pos-of-ne-zero (c .before .before .before .if2 .left)) (q .elements 0 (omega arith))),
-      pre .0 .0 .valid .small,
+      rw (c .before .before .inverse-modulo .ensures) (inverse-lt (a .m .p) (pre .0 .0 .accepted .prime) (at (now (a .work)) 0) (pos-of-ne-zero (c .before .before .before .if2 .left)) (q .elements 0 (omega arith))),
+      pre .0 .1,
       omega (arith, done .same-length, q .room, pre .1 .1),
-      rw (pre .1 .1, done .holds) (vector-apply (a .p) A _ _ (pre .0 .0 .valid .positive)),
+      rw (pre .1 .1, done .holds) (vector-apply (a .m .p) A _ _ (pre .0 .0 .valid .positive)),
     )
 
 closed-requires-3 : tie.Need-closed-requires-3
@@ -151,12 +151,12 @@ returns-3 c =
     let W = now (a .work) in
     let F = part 0 (a .c .degree + 1) W in
     let first = constant (a .c .degree) W in
-    let said = verdict-solved (a .p) A (now (a .b)) F (a .c .degree) (c .before .before .before .before .before .before .before .before .before .before .before .before .before .if1 .left) (λ z. c .before .before .before .before .before .before .before .if2 .left (sym first ∙ z)) in
+    let said = verdict-solved (a .m .p) A (now (a .b)) F (a .c .degree) (c .before .before .before .before .before .before .before .before .before .before .before .before .before .if1 .left) (λ z. c .before .before .before .before .before .before .before .if2 .left (sym first ∙ z)) in
     record {
       ends = (ap (λ (y : Kind × List ℕ). y .0) said, c .closed3 .ensures);
       vector-is =
-          c .before .before .before .solution .ensures ∙ ap (λ m. table m (λ i. times (a .p) (minus (a .p) 0 (at (part (n + 1) m (c .before .before .before .before .before .before .before .before .before .before .image .last .1 .1 .1 .1 .1 .1 .0)) i)) (c .before .before .before .before .before .before .inverse-modulo .result))) (pre .1 .1)
-          ∙ ap₂ (λ w v. table n (λ i. times (a .p) (minus (a .p) 0 (at w i)) v)) (c .before .before .before .before .before .before .before .before .before .before .image .ensures .holds) (c .before .before .before .before .before .before .inverse-modulo .ensures ∙ ap (inverse (a .p)) (sym first))
+          c .before .before .before .solution .ensures ∙ ap (λ m. table m (λ i. times (a .m .p) (minus (a .m .p) 0 (at (part (n + 1) m (c .before .before .before .before .before .before .before .before .before .before .image .last .1 .1 .1 .1 .1 .0)) i)) (c .before .before .before .before .before .before .inverse-modulo .result))) (pre .1 .1)
+          ∙ ap₂ (λ w v. table n (λ i. times (a .m .p) (minus (a .m .p) 0 (at w i)) v)) (c .before .before .before .before .before .before .before .before .before .before .image .ensures .holds) (c .before .before .before .before .before .before .inverse-modulo .ensures ∙ ap (inverse (a .m .p)) (sym first))
           ∙ sym (ap (λ (y : Kind × List ℕ). y .1) said);
       polynomial-is = c .before .before .before .before .before .before .before .before .before .before .before .before .before .before .before .before .spread .ensures ∙ ap (λ m. padded m F) (pre .1 .2);
     }

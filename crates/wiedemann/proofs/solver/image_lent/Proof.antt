@@ -40,9 +40,9 @@ returns c =
     let n = length (now (a .starts)) - 1 in
     let m = length W - (n + 1) in
     record {
-      part-after = c .before .before .image-within .last .1 .1 .1 .1 .1 .1 .0;
+      part-after = c .before .before .image-within .last .1 .1 .1 .1 .1 .0;
       whole = refl;
-      same-length = c .before .before .image-within .kept .1 .1 .1 .1 .1 .1 .0 ∙ length-part (n + 1) m W (omega (arith, pre .1 .3));
+      same-length = c .before .before .image-within .kept .1 .1 .1 .1 .1 .0 ∙ length-part (n + 1) m W (omega (arith, pre .1 .3));
       within = c .before .before .image-within .ensures;
     }
 

@@ -38,7 +38,7 @@ applied-requires c κs =
           above = omega arith;
           room = omega (arith, w .same-length, room, some);
           one = w .after (3 * n + (a .d - 1)) (omega (arith, places)) ∙ pre .1 .3;
-          elements = subst (λ l. Vector (a .p) n l) (sym (written-copy (now (a .area)) (now (a .b)) n _ places (omega (arith, places, room)) w)) (pre .0 .1);
+          elements = subst (λ l. Vector (a .m .p) n l) (sym (written-copy (now (a .area)) (now (a .b)) n _ places (omega (arith, places, room)) w)) (pre .0 .1);
         },
       ),
     )

@@ -45,7 +45,7 @@ shorten-requires c κs =
         (pre .1 .0 .0, pre .1 .0 .1, pre .1 .0 .2, omega (arith, pre .1 .0 .3, pre .0 .0 .sized), pre .1 .0 .4),
         (
           omega (arith, long, room, pre .1 .0 .3),
-          subst (λ l. Vector (a .p) n l)
+          subst (λ l. Vector (a .m .p) n l)
               (sym (part-of-part 0 n (n + 1) m W (omega (arith, room)) fits ∙ part-at W (n + 1 + 0) n (n + 1) n (add-zero (n + 1)) refl)) (pre .1 .1 .1),
         ),
       ),
@@ -63,7 +63,7 @@ returns c =
     let m = length W - (n + 1) in
     let room = pre .1 .1 .0 in
     let fits : n + 1 + m ≤ length W = omega (arith, room) in
-    narrowed m fits (omega (arith, room, pre .1 .0 .3)) (c .before .before .shorten .kept .1 .1 .1 .1 .1 .1 .1 .1 .0 ∙ length-part (n + 1) m W fits) (c .before .before .shorten .ensures)
+    narrowed m fits (omega (arith, room, pre .1 .0 .3)) (c .before .before .shorten .kept .1 .1 .1 .1 .1 .1 .1 .0 ∙ length-part (n + 1) m W fits) (c .before .before .shorten .ensures)
 
 pub narrow-spec : {M : Type 1} → statement M
 narrow-spec =

@@ -16,10 +16,10 @@ use Rattle.wiedemann.proofs.solver.run.Statement.{statement}
 use Rattle.wiedemann.proofs.solver.run.Tie as tie
 
 abbrev Inv-loop : tie.InvT-loop
-Inv-loop p reciprocal starts columns values b words vectors work₀ n c₀ j₀ work c j = Midway p (matrix starts columns values) b words work j c × (length work ≡ length work₀)
+Inv-loop m starts columns values b words vectors work₀ n c₀ j₀ work c j = Midway (m .p) (matrix starts columns values) b words work j c × (length work ≡ length work₀)
 
 abbrev μ-loop : tie.MeasureT-loop
-μ-loop p reciprocal starts columns values b words vectors work₀ n c₀ j₀ work c j = length (projections p (length starts - 1) words) - j
+μ-loop m starts columns values b words vectors work₀ n c₀ j₀ work c j = length (projections (m .p) (length starts - 1) words) - j
 
 -- "R from 0 to 64", and n at most 4,096
 most : (p n vectors : ℕ) (words : List ℕ) → Words n vectors words → n ≤ 4096 → length (projections p n words) ≤ 8192
@@ -41,7 +41,7 @@ loop-holds c =
     let b = now (a .b) in
     let X = c .before .before .begin .last .1 .0 in
     let same = pre .0 .accepted .size-b in (
-      subst (λ k. Midway (a .p) A b (now (a .words)) X 0 k) (sym (e .0))
+      subst (λ k. Midway (a .m .p) A b (now (a .words)) X 0 k) (sym (e .0))
           (midway-begin (pre .0) (omega (arith, e .1, pre .1 .2)) (part-at X (n + 1) n (length b + 1) (length b) (ap (λ m. m + 1) (sym same)) (sym same) ∙ e .3) (e .2)),
       refl,
     )
@@ -56,23 +56,23 @@ pass-requires c κs =
     let n = length (now (a .starts)) - 1 in
     let words = now (a .words) in
     let m = c .before .before .before .before .loop .inv .0 in
-    let few = most (a .p) n (a .vectors) words (pre .1 .1) (pre .0 .valid .sized) in
+    let few = most (a .m .p) n (a .vectors) words (pre .1 .1) (pre .0 .valid .sized) in
     let z = sym (c .before .before .is-settled .ensures) ∙ not-true _ (c .before .if1 .taken) in (
       (pre .0 .valid, pre .0 .modulus),
-      ((pre .1 .0, omega (arith, midway-less (pre .0) few m z, length-projections (a .p) n words, pre .1 .1 .count), pre .1 .1), midway-passing (pre .0) few m z),
+      ((pre .1 .0, omega (arith, midway-less (pre .0) few m z, length-projections (a .m .p) n words, pre .1 .1 .count), pre .1 .1), midway-passing (pre .0) few m z),
     )
 
 add-j : tie.Need-add-j Inv-loop μ-loop
 add-j c =
     let a = c .before .before .before .before .before .before .before .before .before .before .before .before .before .before .before .before .before .before .args in
     let pre = c .before .before .before .before .before .before .before .before .before .before .before .before .before .before .before .before .before .before .pre in
-    omega (arith, c .before .before .before .before .before .before .before .loop .inv .0 .within, most (a .p) (length (now (a .starts)) - 1) (a .vectors) (now (a .words)) (pre .1 .1) (pre .0 .valid .sized))
+    omega (arith, c .before .before .before .before .before .before .before .loop .inv .0 .within, most (a .m .p) (length (now (a .starts)) - 1) (a .vectors) (now (a .words)) (pre .1 .1) (pre .0 .valid .sized))
 
 loop-less : tie.Need-loop-less Inv-loop μ-loop
 loop-less c =
     let a = c .before .before .before .before .before .before .before .before .before .before .before .before .before .before .before .before .before .before .args in
     let pre = c .before .before .before .before .before .before .before .before .before .before .before .before .before .before .before .before .before .before .pre in
-    let few = most (a .p) (length (now (a .starts)) - 1) (a .vectors) (now (a .words)) (pre .1 .1) (pre .0 .valid .sized) in
+    let few = most (a .m .p) (length (now (a .starts)) - 1) (a .vectors) (now (a .words)) (pre .1 .1) (pre .0 .valid .sized) in
     let z = sym (c .before .before .before .before .before .is-settled .ensures) ∙ not-true _ (c .before .before .before .before .if1 .taken) in
     omega (arith, midway-less (pre .0) few (c .before .before .before .before .before .before .before .loop .inv .0) z)
 
@@ -80,7 +80,7 @@ loop-again : tie.Need-loop-again Inv-loop μ-loop
 loop-again c =
     let a = c .before .before .before .before .before .before .before .before .before .before .before .before .before .before .before .before .before .before .args in
     let pre = c .before .before .before .before .before .before .before .before .before .before .before .before .before .before .before .before .before .before .pre in
-    let few = most (a .p) (length (now (a .starts)) - 1) (a .vectors) (now (a .words)) (pre .1 .1) (pre .0 .valid .sized) in
+    let few = most (a .m .p) (length (now (a .starts)) - 1) (a .vectors) (now (a .words)) (pre .1 .1) (pre .0 .valid .sized) in
     let z = sym (c .before .before .before .before .before .is-settled .ensures) ∙ not-true _ (c .before .before .before .before .if1 .taken) in
     (midway-next (pre .0) few (c .before .before .before .before .before .before .before .loop .inv .0) z (c .before .before .pass .ensures), c .before .before .pass .ensures .same-length ∙ c .before .before .before .before .before .before .before .loop .inv .1)
 
@@ -91,7 +91,7 @@ returns : tie.Need-returns Inv-loop μ-loop
 returns c =
     let a = c .before .before .before .before .before .before .before .before .before .before .before .before .before .before .args in
     let pre = c .before .before .before .before .before .before .before .before .before .before .before .before .before .before .pre in
-    let few = most (a .p) (length (now (a .starts)) - 1) (a .vectors) (now (a .words)) (pre .1 .1) (pre .0 .valid .sized) in
+    let few = most (a .m .p) (length (now (a .starts)) - 1) (a .vectors) (now (a .words)) (pre .1 .1) (pre .0 .valid .sized) in
     midway-end (pre .0) few (c .before .before .before .loop .inv .0) (sym (c .before .is-settled .ensures) ∙ not-false _ (c .if1 .left))
 
 pub run-spec : {M : Type 1} → statement M

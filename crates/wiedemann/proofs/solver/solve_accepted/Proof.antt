@@ -13,8 +13,10 @@ use Rattle.wiedemann.proofs.solver.solve_accepted.Tie as tie
 fine : (c : tie.Start) → Taken (c .args .p) (matrix (now (c .args .starts)) (now (c .args .columns)) (now (c .args .values))) (now (c .args .b)) (now (c .args .words)) (now (c .args .vector)) (now (c .args .polynomial)) (now (c .args .work))
 fine c = taken-of (c .args .p) (matrix (now (c .args .starts)) (now (c .args .columns)) (now (c .args .values))) (now (c .args .b)) (now (c .args .words)) (now (c .args .vector)) (now (c .args .polynomial)) (now (c .args .work)) (c .pre)
 
-reciprocal-requires : tie.Need-reciprocal-requires
-reciprocal-requires c κs = fine (c .before .before .before .before .before .before .before .before) .system .valid .positive
+of-requires : tie.Need-of-requires
+of-requires c κs =
+    let valid = fine (c .before .before .before .before .before .before .before .before) .system .valid in
+    (valid .positive, valid .small)
 
 sub-vectors : tie.Need-sub-vectors
 sub-vectors c =
@@ -29,12 +31,13 @@ div-vectors c =
 run-requires : tie.Need-run-requires
 run-requires c κs =
     let t = fine (c .before .before .before .before .before .before .before .before .before .before) in
-    (t .system, (c .before .reciprocal .ensures, t .words-taken, t .room))
+    (rw (c .before .of .ensures .0) (t .system), (c .before .of .ensures .1, t .words-taken, t .room))
 
 finish-requires : tie.Need-finish-requires
 finish-requires c κs =
     let t = fine (c .before .before .before .before .before .before .before .before .before .before .before .before .before .before .before .before) in
-    ((t .system, c .before .before .before .before .before .before .before .reciprocal .ensures), (closable (t .system) (c .before .before .before .before .before .run .ensures), t .vector-size, t .polynomial-size))
+    let m = c .before .before .before .before .before .before .before .of .ensures in
+    ((rw (m .0) (t .system), m .1), (closable (rw (m .0) (t .system)) (c .before .before .before .before .before .run .ensures), t .vector-size, t .polynomial-size))
 
 same-length : tie.Need-same-length
 same-length c = search needs
@@ -46,13 +49,14 @@ same-length-3 : tie.Need-same-length-3
 same-length-3 c = search needs
 
 returns : tie.Need-returns
-returns c = closed (c .before .before .before .before .before .before .before .before .before .before .before .before .run .ensures) (c .before .before .before .before .before .before .finish .ensures)
+returns c =
+    rw (← c .before .before .before .before .before .before .before .before .before .before .before .before .before .before .of .ensures .0) (closed (c .before .before .before .before .before .before .before .before .before .before .before .before .run .ensures) (c .before .before .before .before .before .before .finish .ensures))
 
 pub solve-accepted-spec : {M : Type 1} → statement M
 solve-accepted-spec =
     tie.close
     (tie.spec
-    reciprocal-requires
+    of-requires
     sub-vectors
     div-vectors
     run-requires

@@ -1,10 +1,10 @@
--- `wiedemann::sums::upper` meets its contract: the law of the halves at B = 2³². Assumes nothing.
+-- `wiedemann::modulus::upper` meets its contract: the law of the halves at B = 2³².
 use Prim.Native.Nat.{ℕ, _*_, _/_, _%_, _≤_}
 use native.Mathlib.Nat.{mul-le-mul}
 use native.Mathlib.Omega.{arith}
 use Rattle.wiedemann.proofs.Upper.{upper-div}
-use Rattle.wiedemann.proofs.sums.upper.Statement.{statement}
-use Rattle.wiedemann.proofs.sums.upper.Tie as tie
+use Rattle.wiedemann.proofs.modulus.upper.Statement.{statement}
+use Rattle.wiedemann.proofs.modulus.upper.Tie as tie
 
 module _ (c : tie.Start) where
   abbrev front : ℕ

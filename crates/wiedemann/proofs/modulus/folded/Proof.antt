@@ -1,12 +1,12 @@
--- `wiedemann::scale::folded` meets its contract: the top bit of the difference says whether it wrapped. Assumes nothing.
+-- `wiedemann::modulus::folded` meets its contract: the top bit of the difference says whether it wrapped.
 use mathlib.Core.Path.{_≡_, _∙_}
 use Prim.Native.Nat.{_%_, _≤_, _<_}
 use native.Mathlib.Nat.{mod-lt}
 use native.Mathlib.Omega.{arith}
 use Rattle.wiedemann.proofs.Wrapped.{wrapped-fits, wrapped-mod}
 use borrow.Author.Needs.{needs}
-use Rattle.wiedemann.proofs.scale.folded.Statement.{statement}
-use Rattle.wiedemann.proofs.scale.folded.Tie as tie
+use Rattle.wiedemann.proofs.modulus.folded.Statement.{statement}
+use Rattle.wiedemann.proofs.modulus.folded.Tie as tie
 
 narrow : (c : tie.Start) → c .args .p ≤ 4294967295
 narrow c = omega (arith, c .fits .p)
