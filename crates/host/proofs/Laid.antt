@@ -13,12 +13,12 @@ use Rattle.meaning.specs.Solver.{Kind, Outcome, passCount, applications}
 use Rattle.wiedemann.specs.declared.recurrence.Answer.{Answer}
 use Rattle.wiedemann.specs.declared.recurrence.Answer.the-variants.{Degree, Refused}
 use Rattle.solver.specs.declared.Counts.{Counts}
-use Rattle.wiedemann.specs.Recurrence.{Gives}
+use Rattle.wiedemann.specs.Recurrence.{GivesDegree}
 use Rattle.solver.specs.Verdict.{Counted}
 use Rattle.host.specs.declared.runs.Verdict.{Verdict}
 use Rattle.host.specs.Answers.{kindNumber, verdictOf, systemOf}
 
-pub degree-answered : (a : Answer) (number L : ℕ) → Gives a number L → number ≡ 0 → a ≡ Degree L
+pub degree-answered : (a : Answer) (number L : ℕ) → GivesDegree a number L → number ≡ 0 → a ≡ Degree L
 degree-answered (Degree k) number L g e = ap Degree (sym (g .1))
 degree-answered (Refused k) number L g e = absurd (g .1 (sym (g .0) ∙ e))
 

@@ -1,6 +1,6 @@
 -- What the call `recurrence` answers.
 --     recurred-refused           the answer of a refusal, and slices left as they were
---     recurred-found             the answer of an accepted call, from the core's
+--     recurred-generator             the answer of an accepted call, from the core's
 use mathlib.Core.Path.{_≡_, refl, sym, ap, _∙_, subst}
 use mathlib.Core.Logic.{_≢_}
 use mathlib.Core.Bool.{true, false, cond}
@@ -20,9 +20,9 @@ use Rattle.residue.specs.Prime.{isModulus-Prime}
 use Rattle.bridge.specs.Recurrence.{degree-within, length-generator, isShortest}
 use Rattle.checks.specs.Recurrence.{Accepted}
 use Rattle.wiedemann.specs.Written.{Written}
-use Rattle.wiedemann.specs.Recurrence.{Ready, Found, Recurred}
+use Rattle.wiedemann.specs.Recurrence.{Ready, HoldsGenerator, Recurred}
 use Rattle.wiedemann.specs.declared.recurrence.Answer.the-variants.{Degree, Refused}
-use Rattle.wiedemann.proofs.Found.{found-at}
+use Rattle.wiedemann.proofs.HoldsGenerator.{generator-at}
 
 pub recurred-refused : (p : ℕ) (s polynomial work : List ℕ) (k : ℕ) → k ≡ recurrenceRefusal p s polynomial work → k ≢ 0
     → Recurred p s polynomial work (Refused k) polynomial work
@@ -55,10 +55,10 @@ module _ {p : ℕ} {s polynomial work W₁ : List ℕ} (input : Accepted p s pol
       ext-getD 0 (take (length s) W₁) s size
       (λ i l. let b : i < length s = omega arith in getD-take (length s) W₁ i 0 b ∙ terms i b)
 
-  pub recurred-found : {W₂ polynomial′ : List ℕ} {L : ℕ} → Found p (length s) W₁ W₂ L
+  pub recurred-generator : {W₂ polynomial′ : List ℕ} {L m : ℕ} → m ≡ p → HoldsGenerator m (length s) W₁ W₂ L
       → Written polynomial 0 (length s + 1) (λ i. at W₂ (length s + 2 + i)) polynomial′
       → Recurred p s polynomial work (Degree L) polynomial′ W₂
-  recurred-found {W₂} {polynomial′} {L} found written =
+  recurred-generator {W₂} {polynomial′} {L} {m} same-modulus holds written =
       record {
         gives = (input .none, ap (λ b. cond b (degree p s) 0) zero ∙ sym answer);
         after =
@@ -68,6 +68,9 @@ module _ {p : ℕ} {s polynomial work W₁ : List ℕ} (input : Accepted p s pol
         shortest = λ L′ e. let same : L ≡ L′ = cc in subst (λ n. IsShortest p s n (take (n + 1) polynomial′)) same shortest;
       }
     where
+      found : HoldsGenerator p (length s) W₁ W₂ L
+      found = subst (λ n. HoldsGenerator n (length s) W₁ W₂ L) same-modulus holds
+
       zero : eqb (recurrenceRefusal p s polynomial work) 0 ≡ true
       zero = eq-eqb (recurrenceRefusal p s polynomial work) 0 (input .none)
 
@@ -76,7 +79,7 @@ module _ {p : ℕ} {s polynomial work W₁ : List ℕ} (input : Accepted p s pol
 
       coefficient : (i : ℕ) → i < length s + 1 → at polynomial′ i ≡ at (generator p s) i
       coefficient i l =
-          ap (at polynomial′) (sym (zero-add i)) ∙ written .inside i l ∙ found-at found i (omega arith)
+          ap (at polynomial′) (sym (zero-add i)) ∙ written .inside i l ∙ generator-at found i (omega arith)
           ∙ ap (λ x. at (generator p x) i) same
 
       within : L ≤ length s

@@ -1,5 +1,7 @@
 -- what the contracts cite
+pub mod Modulus
 pub mod Sums
+pub mod Convolution
 pub mod Written
 pub mod Region
 pub mod Horner

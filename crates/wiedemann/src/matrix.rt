@@ -1,10 +1,11 @@
 // Sparse matrices: the product of a row, and what is made of it.
 ghost use mathlib.Core.Path.{_≡_};
 ghost use mathlib.Core.Logic.{_≢_};
-ghost use Prim.Native.Nat.{ℕ, _+_, _-_, _/_, _%_, _≤_, _<_};
+ghost use Prim.Native.Nat.{ℕ, _+_, _-_, _%_, _≤_, _<_};
 ghost use lib.ListN.{length};
 ghost use Rattle.meaning.specs.List.{at, sumFrom, table};
 ghost use Rattle.meaning.specs.Field.{times};
+ghost use Rattle.wiedemann.specs.Modulus.{Modular};
 ghost use Rattle.wiedemann.specs.Sums.{Summed};
 ghost use Rattle.meaning.specs.Matrix.{matrix, product, apply, transposed};
 ghost use Rattle.meaning.specs.Calls.{productRefusal, productAfter, applyRefusal, applyAfter};
@@ -14,13 +15,11 @@ ghost use Rattle.wiedemann.specs.Written.{Written};
 ghost use Rattle.wiedemann.specs.Region.{part, Regions};
 ghost use Rattle.wiedemann.specs.Transposed.{scattered};
 ghost use Rattle.wiedemann.specs.Answers.{Writes};
-use crate::scale::added;
-use crate::scale::quotient;
-use crate::scale::scaled;
+use crate::modulus::Modulus;
+use crate::multiplier::Multiplier;
 use crate::slice::clear;
 use crate::slice::transfer;
 use crate::sums::Total;
-use crate::sums::reciprocal;
 use crate::sums::times;
 use checks::apply_refusal;
 use checks::product_refusal;
@@ -81,8 +80,7 @@ fn ones(total: Total, from: usize, to: usize, columns: &[u32], values: &[u32], v
 
 // start plus the product of row i with v, modulo p: element i of Av if start is 0. One reduction for a row.
 pub(crate) fn row(
-    p: u32,
-    reciprocal: u64,
+    m: Modulus,
     start: u64,
     i: usize,
     starts: &[u32],
@@ -90,9 +88,9 @@ pub(crate) fn row(
     values: &[u32],
     v: &[u32],
 ) -> u32
-    requires { ⌜ Valid p (matrix (now starts) (now columns) (now values)) ⌝ }
-    requires { ⌜ (reciprocal ≡ 18446744073709551615 / p) × (i < length (now starts) - 1) × Vector p (length (now starts) - 1) (now v) ⌝ }
-    ensures { λ r. ⌜ r ≡ (start + rowProduct (matrix (now (starts .entry)) (now (columns .entry)) (now (values .entry))) (now (v .entry)) i) % p ⌝ }
+    requires { ⌜ Valid (m .p) (matrix (now starts) (now columns) (now values)) ⌝ }
+    requires { ⌜ Modular m × (i < length (now starts) - 1) × Vector (m .p) (length (now starts) - 1) (now v) ⌝ }
+    ensures { λ r. ⌜ r ≡ (start + rowProduct (matrix (now (starts .entry)) (now (columns .entry)) (now (values .entry))) (now (v .entry)) i) % m .p ⌝ }
 {
     let from = wide(starts[i]);
     let to = wide(starts[i + 1]);
@@ -102,13 +100,12 @@ pub(crate) fn row(
         high: 0,
     };
     let most = fours(total, from, middle, columns, values, v);
-    ones(most, middle, to, columns, values, v).residue(p, reciprocal)
+    ones(most, middle, to, columns, values, v).residue(m)
 }
 
 // Horner's step: c × x plus the product with v, into out. It is the product if c is 0.
 pub(crate) fn step(
-    p: u32,
-    reciprocal: u64,
+    m: Modulus,
     c: u32,
     x: &[u32],
     starts: &[u32],
@@ -117,22 +114,21 @@ pub(crate) fn step(
     v: &[u32],
     out: &mut [u32],
 )
-    requires { ⌜ Valid p (matrix (now starts) (now columns) (now values)) ⌝ }
-    requires { ⌜ (reciprocal ≡ 18446744073709551615 / p) × (length (now out) ≡ length (now starts) - 1) × (length (now x) ≡ length (now starts) - 1) × Vector p (length (now starts) - 1) (now v) ⌝ }
-    ensures { λ r. ⌜ now (out .exit) ≡ step p (matrix (now (starts .entry)) (now (columns .entry)) (now (values .entry))) c (now (x .entry)) (now (v .entry)) ⌝ }
+    requires { ⌜ Valid (m .p) (matrix (now starts) (now columns) (now values)) ⌝ }
+    requires { ⌜ Modular m × (length (now out) ≡ length (now starts) - 1) × (length (now x) ≡ length (now starts) - 1) × Vector (m .p) (length (now starts) - 1) (now v) ⌝ }
+    ensures { λ r. ⌜ now (out .exit) ≡ step (m .p) (matrix (now (starts .entry)) (now (columns .entry)) (now (values .entry))) c (now (x .entry)) (now (v .entry)) ⌝ }
 {
     let rows = starts.len() - 1;
     let mut i = 0;
     while i < rows {
-        out[i] = row(p, reciprocal, times(c, x[i]), i, starts, columns, values, v);
+        out[i] = row(m, times(c, x[i]), i, starts, columns, values, v);
         i += 1;
     }
 }
 
 // The row with the part of `work` from `source` on.
 fn row_within(
-    p: u32,
-    reciprocal: u64,
+    m: Modulus,
     start: u64,
     i: usize,
     starts: &[u32],
@@ -141,27 +137,17 @@ fn row_within(
     work: &[u32],
     source: usize,
 ) -> u32
-    requires { ⌜ Valid p (matrix (now starts) (now columns) (now values)) ⌝ }
-    requires { ⌜ (reciprocal ≡ 18446744073709551615 / p) × (i < length (now starts) - 1) × (source + (length (now starts) - 1) ≤ length (now work)) × Vector p (length (now starts) - 1) (part source (length (now starts) - 1) (now work)) ⌝ }
-    ensures { λ r. ⌜ r ≡ (start + rowProduct (matrix (now (starts .entry)) (now (columns .entry)) (now (values .entry))) (part source (length (now (starts .entry)) - 1) (now (work .entry))) i) % p ⌝ }
+    requires { ⌜ Valid (m .p) (matrix (now starts) (now columns) (now values)) ⌝ }
+    requires { ⌜ Modular m × (i < length (now starts) - 1) × (source + (length (now starts) - 1) ≤ length (now work)) × Vector (m .p) (length (now starts) - 1) (part source (length (now starts) - 1) (now work)) ⌝ }
+    ensures { λ r. ⌜ r ≡ (start + rowProduct (matrix (now (starts .entry)) (now (columns .entry)) (now (values .entry))) (part source (length (now (starts .entry)) - 1) (now (work .entry))) i) % m .p ⌝ }
 {
     let end = source + (starts.len() - 1);
-    row(
-        p,
-        reciprocal,
-        start,
-        i,
-        starts,
-        columns,
-        values,
-        &work[source..end],
-    )
+    row(m, start, i, starts, columns, values, &work[source..end])
 }
 
 // Horner's step within one slice: c × the part from `origin` on plus the product with the part from `source` on, into the part from `target` on.
 pub(crate) fn step_within(
-    p: u32,
-    reciprocal: u64,
+    m: Modulus,
     c: u32,
     starts: &[u32],
     columns: &[u32],
@@ -171,25 +157,15 @@ pub(crate) fn step_within(
     source: usize,
     target: usize,
 )
-    requires { ⌜ Valid p (matrix (now starts) (now columns) (now values)) ⌝ }
-    requires { ⌜ (reciprocal ≡ 18446744073709551615 / p) × Regions p (length (now starts) - 1) origin source target (now work) ⌝ }
-    ensures { λ r. ⌜ Written (now (work .entry)) target (length (now (starts .entry)) - 1) (stepAt p (matrix (now (starts .entry)) (now (columns .entry)) (now (values .entry))) c (part origin (length (now (starts .entry)) - 1) (now (work .entry))) (part source (length (now (starts .entry)) - 1) (now (work .entry)))) (now (work .exit)) ⌝ }
+    requires { ⌜ Valid (m .p) (matrix (now starts) (now columns) (now values)) ⌝ }
+    requires { ⌜ Modular m × Regions (m .p) (length (now starts) - 1) origin source target (now work) ⌝ }
+    ensures { λ r. ⌜ Written (now (work .entry)) target (length (now (starts .entry)) - 1) (stepAt (m .p) (matrix (now (starts .entry)) (now (columns .entry)) (now (values .entry))) c (part origin (length (now (starts .entry)) - 1) (now (work .entry))) (part source (length (now (starts .entry)) - 1) (now (work .entry)))) (now (work .exit)) ⌝ }
 {
     let n = starts.len() - 1;
     let mut i = 0;
     while i < n {
         let start = times(c, work[origin + i]);
-        work[target + i] = row_within(
-            p,
-            reciprocal,
-            start,
-            i,
-            starts,
-            columns,
-            values,
-            work,
-            source,
-        );
+        work[target + i] = row_within(m, start, i, starts, columns, values, work, source);
         i += 1;
     }
 }
@@ -199,18 +175,17 @@ fn multiple(p: u32, c: u32, v: &[u32], out: &mut [u32])
     requires { ⌜ (c < p) × (p ≤ 2147483647) × (length (now out) ≡ length (now v)) ⌝ }
     ensures { λ r. ⌜ now (out .exit) ≡ table (length (now (v .entry))) (λ i. times p c (at (now (v .entry)) i)) ⌝ }
 {
-    let w = quotient(p, c);
+    let k = Multiplier::of(p, c);
     let mut i = 0;
     while i < v.len() {
-        out[i] = scaled(p, c, w, v[i]);
+        out[i] = k.times(p, v[i]);
         i += 1;
     }
 }
 
 // The step from the front of work.
 fn step_from(
-    p: u32,
-    reciprocal: u64,
+    m: Modulus,
     c: u32,
     x: &[u32],
     starts: &[u32],
@@ -219,29 +194,18 @@ fn step_from(
     work: &[u32],
     out: &mut [u32],
 )
-    requires { ⌜ Valid p (matrix (now starts) (now columns) (now values)) ⌝ }
-    requires { ⌜ (reciprocal ≡ 18446744073709551615 / p) × (length (now out) ≡ length (now starts) - 1) × (length (now x) ≡ length (now starts) - 1) × (length (now out) ≤ length (now work)) × Vector p (length (now starts) - 1) (part 0 (length (now starts) - 1) (now work)) ⌝ }
-    ensures { λ r. ⌜ now (out .exit) ≡ step p (matrix (now (starts .entry)) (now (columns .entry)) (now (values .entry))) c (now (x .entry)) (part 0 (length (now (starts .entry)) - 1) (now (work .entry))) ⌝ }
+    requires { ⌜ Valid (m .p) (matrix (now starts) (now columns) (now values)) ⌝ }
+    requires { ⌜ Modular m × (length (now out) ≡ length (now starts) - 1) × (length (now x) ≡ length (now starts) - 1) × (length (now out) ≤ length (now work)) × Vector (m .p) (length (now starts) - 1) (part 0 (length (now starts) - 1) (now work)) ⌝ }
+    ensures { λ r. ⌜ now (out .exit) ≡ step (m .p) (matrix (now (starts .entry)) (now (columns .entry)) (now (values .entry))) c (now (x .entry)) (part 0 (length (now (starts .entry)) - 1) (now (work .entry))) ⌝ }
 {
     let z: usize = 0;
     let n = out.len();
-    step(
-        p,
-        reciprocal,
-        c,
-        x,
-        starts,
-        columns,
-        values,
-        &work[z..n],
-        out,
-    );
+    step(m, c, x, starts, columns, values, &work[z..n], out);
 }
 
 // out becomes c × x plus the product with out.
 fn turn(
-    p: u32,
-    reciprocal: u64,
+    m: Modulus,
     c: u32,
     x: &[u32],
     starts: &[u32],
@@ -250,18 +214,17 @@ fn turn(
     out: &mut [u32],
     work: &mut [u32],
 )
-    requires { ⌜ Valid p (matrix (now starts) (now columns) (now values)) ⌝ }
-    requires { ⌜ (reciprocal ≡ 18446744073709551615 / p) × (length (now x) ≡ length (now starts) - 1) × (length (now out) ≤ length (now work)) × Vector p (length (now starts) - 1) (now out) ⌝ }
-    ensures { λ r. ⌜ now (out .exit) ≡ step p (matrix (now (starts .entry)) (now (columns .entry)) (now (values .entry))) c (now (x .entry)) (now (out .entry)) ⌝ }
+    requires { ⌜ Valid (m .p) (matrix (now starts) (now columns) (now values)) ⌝ }
+    requires { ⌜ Modular m × (length (now x) ≡ length (now starts) - 1) × (length (now out) ≤ length (now work)) × Vector (m .p) (length (now starts) - 1) (now out) ⌝ }
+    ensures { λ r. ⌜ now (out .exit) ≡ step (m .p) (matrix (now (starts .entry)) (now (columns .entry)) (now (values .entry))) c (now (x .entry)) (now (out .entry)) ⌝ }
 {
     transfer(out, 0, work, 0, out.len());
-    step_from(p, reciprocal, c, x, starts, columns, values, work, out);
+    step_from(m, c, x, starts, columns, values, work, out);
 }
 
 // g(A)v into out by Horner's rule: k − 1 products for k coefficients.
 pub(crate) fn horner(
-    p: u32,
-    reciprocal: u64,
+    m: Modulus,
     starts: &[u32],
     columns: &[u32],
     values: &[u32],
@@ -270,15 +233,15 @@ pub(crate) fn horner(
     out: &mut [u32],
     work: &mut [u32],
 )
-    requires { ⌜ Valid p (matrix (now starts) (now columns) (now values)) ⌝ }
-    requires { ⌜ (reciprocal ≡ 18446744073709551615 / p) × (length (now out) ≡ length (now starts) - 1) × (length (now out) ≤ length (now work)) × Vector p (length (now starts) - 1) (now v) × (0 < length (now g)) × Vector p (length (now g)) (now g) ⌝ }
-    ensures { λ r. ⌜ now (out .exit) ≡ apply p (matrix (now (starts .entry)) (now (columns .entry)) (now (values .entry))) (now (g .entry)) (now (v .entry)) ⌝ }
+    requires { ⌜ Valid (m .p) (matrix (now starts) (now columns) (now values)) ⌝ }
+    requires { ⌜ Modular m × (length (now out) ≡ length (now starts) - 1) × (length (now out) ≤ length (now work)) × Vector (m .p) (length (now starts) - 1) (now v) × (0 < length (now g)) × Vector (m .p) (length (now g)) (now g) ⌝ }
+    ensures { λ r. ⌜ now (out .exit) ≡ apply (m .p) (matrix (now (starts .entry)) (now (columns .entry)) (now (values .entry))) (now (g .entry)) (now (v .entry)) ⌝ }
 {
     let mut i = g.len() - 1;
-    multiple(p, g[i], v, out);
+    multiple(m.p, g[i], v, out);
     while 0 < i {
         i -= 1;
-        turn(p, reciprocal, g[i], v, starts, columns, values, out, work);
+        turn(m, g[i], v, starts, columns, values, out, work);
     }
 }
 
@@ -288,11 +251,11 @@ fn scatter(p: u32, c: u32, from: usize, to: usize, columns: &[u32], values: &[u3
     requires { ⌜ ((k : ℕ) → k < length (now columns) → at (now columns) k < length (now out)) ⌝ }
     ensures { λ r. ⌜ now (out .exit) ≡ scattered p c from to (now (columns .entry)) (now (values .entry)) (now (out .entry)) ⌝ }
 {
-    let w = quotient(p, c);
+    let multiplier = Multiplier::of(p, c);
     let mut k = from;
     while k < to {
         let j = wide(columns[k]);
-        out[j] = added(p, c, w, values[k], out[j]);
+        out[j] = multiplier.added(p, values[k], out[j]);
         k += 1;
     }
 }
@@ -350,7 +313,7 @@ pub fn product(
     if number != 0 {
         return Writing::Refused(number);
     }
-    step(p, reciprocal(p), 0, v, starts, columns, values, v, out);
+    step(Modulus::of(p), 0, v, starts, columns, values, v, out);
     Writing::Done
 }
 
@@ -395,6 +358,6 @@ pub fn apply(
     if number != 0 {
         return Writing::Refused(number);
     }
-    horner(p, reciprocal(p), starts, columns, values, g, v, out, work);
+    horner(Modulus::of(p), starts, columns, values, g, v, out, work);
     Writing::Done
 }

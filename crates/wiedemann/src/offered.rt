@@ -1,19 +1,20 @@
 // Two checks of a vector that anyone offers: does A take x to b, and is w not zero and taken to zero. Neither needs the solver.
 use crate::matrix::row;
+use crate::modulus::Modulus;
 use crate::slice::element;
 use crate::slice::is_zero;
-use crate::sums::reciprocal;
 use checks::system_refusal;
 use checks::takes_refusal;
 use field::Field;
 ghost use mathlib.Core.Path.{_≡_};
-ghost use Prim.Native.Nat.{_-_, _/_, _<_};
+ghost use Prim.Native.Nat.{_-_, _<_};
 ghost use lib.Dec.{eqb};
 ghost use lib.ListN.{length};
 ghost use Rattle.meaning.specs.List.{at, all, isZero};
 ghost use Rattle.meaning.specs.Matrix.{matrix, product};
 ghost use Rattle.meaning.specs.Calls.{takesRefusal, takesAnswer, isNullRefusal, isNullAnswer};
 ghost use Rattle.checks.specs.Valid.{Valid, Vector};
+ghost use Rattle.wiedemann.specs.Modulus.{Modular};
 ghost use Rattle.wiedemann.specs.Answers.{Says};
 
 // What a check of an offered vector answers.
@@ -25,23 +26,15 @@ pub enum Verdict {
 }
 
 // Every element of Ax is that of b, which has zeros after its end.
-fn agrees(
-    p: u32,
-    reciprocal: u64,
-    starts: &[u32],
-    columns: &[u32],
-    values: &[u32],
-    x: &[u32],
-    b: &[u32],
-) -> bool
-    requires { ⌜ Valid p (matrix (now starts) (now columns) (now values)) ⌝ }
-    requires { ⌜ (reciprocal ≡ 18446744073709551615 / p) × Vector p (length (now starts) - 1) (now x) ⌝ }
-    ensures { λ r. ⌜ r ≡ all (length (now (starts .entry)) - 1) (λ i. eqb (at (product p (matrix (now (starts .entry)) (now (columns .entry)) (now (values .entry))) (now (x .entry))) i) (at (now (b .entry)) i)) ⌝ }
+fn agrees(m: Modulus, starts: &[u32], columns: &[u32], values: &[u32], x: &[u32], b: &[u32]) -> bool
+    requires { ⌜ Valid (m .p) (matrix (now starts) (now columns) (now values)) ⌝ }
+    requires { ⌜ Modular m × Vector (m .p) (length (now starts) - 1) (now x) ⌝ }
+    ensures { λ r. ⌜ r ≡ all (length (now (starts .entry)) - 1) (λ i. eqb (at (product (m .p) (matrix (now (starts .entry)) (now (columns .entry)) (now (values .entry))) (now (x .entry))) i) (at (now (b .entry)) i)) ⌝ }
 {
     let n = starts.len() - 1;
     let mut i = 0;
     while i < n {
-        if row(p, reciprocal, 0, i, starts, columns, values, x) != element(b, i) {
+        if row(m, 0, i, starts, columns, values, x) != element(b, i) {
             return false;
         }
         i += 1;
@@ -50,20 +43,13 @@ fn agrees(
 }
 
 // A takes w to zero.
-fn vanishes(
-    p: u32,
-    reciprocal: u64,
-    starts: &[u32],
-    columns: &[u32],
-    values: &[u32],
-    w: &[u32],
-) -> bool
-    requires { ⌜ Valid p (matrix (now starts) (now columns) (now values)) ⌝ }
-    requires { ⌜ (reciprocal ≡ 18446744073709551615 / p) × Vector p (length (now starts) - 1) (now w) ⌝ }
-    ensures { λ r. ⌜ r ≡ isZero (product p (matrix (now (starts .entry)) (now (columns .entry)) (now (values .entry))) (now (w .entry))) ⌝ }
+fn vanishes(m: Modulus, starts: &[u32], columns: &[u32], values: &[u32], w: &[u32]) -> bool
+    requires { ⌜ Valid (m .p) (matrix (now starts) (now columns) (now values)) ⌝ }
+    requires { ⌜ Modular m × Vector (m .p) (length (now starts) - 1) (now w) ⌝ }
+    ensures { λ r. ⌜ r ≡ isZero (product (m .p) (matrix (now (starts .entry)) (now (columns .entry)) (now (values .entry))) (now (w .entry))) ⌝ }
 {
     let n = w.len();
-    agrees(p, reciprocal, starts, columns, values, w, &w[n..])
+    agrees(m, starts, columns, values, w, &w[n..])
 }
 
 // Whether Ax = b.
@@ -82,7 +68,7 @@ pub fn takes(
     if number != 0 {
         return Verdict::Refused(number);
     }
-    if agrees(p, reciprocal(p), starts, columns, values, x, b) {
+    if agrees(Modulus::of(p), starts, columns, values, x, b) {
         Verdict::Yes
     } else {
         Verdict::No
@@ -101,7 +87,7 @@ pub fn is_null(field: Field, starts: &[u32], columns: &[u32], values: &[u32], w:
     if is_zero(w) {
         return Verdict::No;
     }
-    if vanishes(p, reciprocal(p), starts, columns, values, w) {
+    if vanishes(Modulus::of(p), starts, columns, values, w) {
         Verdict::Yes
     } else {
         Verdict::No

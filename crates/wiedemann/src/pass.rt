@@ -2,11 +2,12 @@
 ghost use mathlib.Core.Path.{_≡_};
 ghost use mathlib.Core.Bool.{true};
 ghost use mathlib.Core.List.{[]};
-ghost use Prim.Native.Nat.{_+_, _-_, _*_, _/_, _≤_, _<_};
+ghost use Prim.Native.Nat.{_+_, _-_, _*_, _≤_, _<_};
 ghost use lib.ListN.{length, getD, set};
 ghost use Rattle.meaning.specs.Field.{isModulus};
 ghost use Rattle.meaning.specs.Matrix.{matrix};
 ghost use Rattle.meaning.specs.Solver.{projections, dot};
+ghost use Rattle.wiedemann.specs.Modulus.{Modular};
 ghost use Rattle.wiedemann.specs.Sums.{Summed};
 ghost use Rattle.checks.specs.Valid.{Valid, Vector};
 ghost use Rattle.wiedemann.specs.Region.{part};
@@ -16,11 +17,11 @@ ghost use Rattle.wiedemann.specs.Factor.{cross, productAt, Multiplied, n
 ghost use Rattle.meaning.specs.Refusal.{first};
 ghost use Rattle.wiedemann.specs.Pass.{residualAt, stateChecks, Passes};
 use crate::matrix::step_within;
+use crate::modulus::Modulus;
 use crate::projection::projected;
 use crate::recurrence::shortest;
 use crate::slice::copy;
 use crate::sums::Total;
-use crate::sums::reciprocal;
 use crate::sums::times;
 use checks::are_elements;
 use checks::matrix_refusal;
@@ -37,8 +38,7 @@ fn other(n: usize, from: usize) -> usize
 
 // c × r plus the product with the vector at `from`, into the next region; the answer is where that begins.
 fn advance(
-    p: u32,
-    reciprocal: u64,
+    m: Modulus,
     c: u32,
     starts: &[u32],
     columns: &[u32],
@@ -46,21 +46,20 @@ fn advance(
     area: &mut [u32],
     from: usize,
 ) -> usize
-    requires { ⌜ Valid p (matrix (now starts) (now columns) (now values)) ⌝ }
-    requires { ⌜ (reciprocal ≡ 18446744073709551615 / p) × Turning p (length (now starts) - 1) from (now area) ⌝ }
-    ensures { λ to. ⌜ Advanced p (matrix (now (starts .entry)) (now (columns .entry)) (now (values .entry))) c (now (area .entry)) from (now (area .exit)) to ⌝ }
+    requires { ⌜ Valid (m .p) (matrix (now starts) (now columns) (now values)) ⌝ }
+    requires { ⌜ Modular m × Turning (m .p) (length (now starts) - 1) from (now area) ⌝ }
+    ensures { λ to. ⌜ Advanced (m .p) (matrix (now (starts .entry)) (now (columns .entry)) (now (values .entry))) c (now (area .entry)) from (now (area .exit)) to ⌝ }
 {
     let n = starts.len() - 1;
     let to = other(n, from);
     let r: usize = 0;
-    step_within(p, reciprocal, c, starts, columns, values, area, r, from, to);
+    step_within(m, c, starts, columns, values, area, r, from, to);
     to
 }
 
 // A term: what projection j makes of the vector at `from`, into `place`.
 fn term(
-    p: u32,
-    reciprocal: u64,
+    m: Modulus,
     words: &[u32],
     vectors: usize,
     j: usize,
@@ -69,19 +68,18 @@ fn term(
     from: usize,
     place: usize,
 )
-    requires { ⌜ (reciprocal ≡ 18446744073709551615 / p) × (0 < p) × (p ≤ 2147483647) × (n ≤ 4096) ⌝ }
-    requires { ⌜ Words n vectors (now words) × (from + n ≤ length (now area)) × (place < length (now area)) × Vector p n (part from n (now area)) ⌝ }
+    requires { ⌜ Modular m × (n ≤ 4096) ⌝ }
+    requires { ⌜ Words n vectors (now words) × (from + n ≤ length (now area)) × (place < length (now area)) × Vector (m .p) n (part from n (now area)) ⌝ }
     ensures { λ _. ⌜ now (area .exit) ≡ set (now (area .entry)) place
-        (dot p (getD (projections p n (now (words .entry))) j []) (part from n (now (area .entry)))) ⌝ }
+        (dot (m .p) (getD (projections (m .p) n (now (words .entry))) j []) (part from n (now (area .entry)))) ⌝ }
 {
     let end = from + n;
-    area[place] = projected(p, reciprocal, words, vectors, j, &area[from..end]);
+    area[place] = projected(m, words, vectors, j, &area[from..end]);
 }
 
 // The 2 × left terms u·r, u·Ar, u·A²r, .. after the three regions: 2 × left − 1 products.
 fn terms(
-    p: u32,
-    reciprocal: u64,
+    m: Modulus,
     starts: &[u32],
     columns: &[u32],
     values: &[u32],
@@ -91,35 +89,35 @@ fn terms(
     area: &mut [u32],
     left: usize,
 )
-    requires { ⌜ Valid p (matrix (now starts) (now columns) (now values)) ⌝ }
-    requires { ⌜ (reciprocal ≡ 18446744073709551615 / p) × (0 < left) × (left ≤ 4096) × Words (length (now starts) - 1) vectors (now words) ⌝ }
-    requires { ⌜ (3 * (length (now starts) - 1) + 2 * left ≤ length (now area)) × Vector p (length (now starts) - 1) (part 0 (length (now starts) - 1) (now area)) ⌝ }
-    ensures { λ _. ⌜ Sequenced p (matrix (now (starts .entry)) (now (columns .entry)) (now (values .entry))) left (getD (projections p (length (now (starts .entry)) - 1) (now (words .entry))) j []) (now (area .entry)) (now (area .exit)) ⌝ }
+    requires { ⌜ Valid (m .p) (matrix (now starts) (now columns) (now values)) ⌝ }
+    requires { ⌜ Modular m × (0 < left) × (left ≤ 4096) × Words (length (now starts) - 1) vectors (now words) ⌝ }
+    requires { ⌜ (3 * (length (now starts) - 1) + 2 * left ≤ length (now area)) × Vector (m .p) (length (now starts) - 1) (part 0 (length (now starts) - 1) (now area)) ⌝ }
+    ensures { λ _. ⌜ Sequenced (m .p) (matrix (now (starts .entry)) (now (columns .entry)) (now (values .entry))) left (getD (projections (m .p) (length (now (starts .entry)) - 1) (now (words .entry))) j []) (now (area .entry)) (now (area .exit)) ⌝ }
 {
     let n = starts.len() - 1;
     let mut from = 0;
     let mut i = 0;
-    term(p, reciprocal, words, vectors, j, n, area, from, 3 * n);
+    term(m, words, vectors, j, n, area, from, 3 * n);
     while i + 1 < 2 * left {
-        from = advance(p, reciprocal, 0, starts, columns, values, area, from);
+        from = advance(m, 0, starts, columns, values, area, from);
         i += 1;
-        term(p, reciprocal, words, vectors, j, n, area, from, 3 * n + i);
+        term(m, words, vectors, j, n, area, from, 3 * n + i);
     }
 }
 
 // The shortest recurrence of the `count` terms from `from` on. Its part of the slice is lent to the recurrence's core, which begins afresh.
-fn recurrence_of_terms(p: u32, area: &mut [u32], from: usize, count: usize) -> usize
-    requires { ⌜ (isModulus p ≡ true) × (count ≤ 8192) × (from ≤ 65536) × (from + (4 * count + 8) ≤ length (now area)) × Vector p count (part from count (now area)) ⌝ }
-    ensures { λ t. ⌜ Generated p (now (area .entry)) from count (now (area .exit)) t ⌝ }
+fn recurrence_of_terms(m: Modulus, area: &mut [u32], from: usize, count: usize) -> usize
+    requires { ⌜ (isModulus (m .p) ≡ true) × Modular m × (count ≤ 8192) × (from ≤ 65536) ⌝ }
+    requires { ⌜ (from + (4 * count + 8) ≤ length (now area)) × Vector (m .p) count (part from count (now area)) ⌝ }
+    ensures { λ t. ⌜ Generated (m .p) (now (area .entry)) from count (now (area .exit)) t ⌝ }
 {
     let end = from + (4 * count + 8);
-    shortest(p, count, &mut area[from..end])
+    shortest(m, count, &mut area[from..end])
 }
 
 // r becomes f(A)r, by Horner's rule, for the f of degree t at `f`: t products.
 fn apply_within(
-    p: u32,
-    reciprocal: u64,
+    m: Modulus,
     starts: &[u32],
     columns: &[u32],
     values: &[u32],
@@ -127,9 +125,9 @@ fn apply_within(
     f: usize,
     t: usize,
 )
-    requires { ⌜ Valid p (matrix (now starts) (now columns) (now values)) ⌝ }
-    requires { ⌜ (reciprocal ≡ 18446744073709551615 / p) × Leading p (length (now starts) - 1) (now area) f t ⌝ }
-    ensures { λ _. ⌜ Applied p (matrix (now (starts .entry)) (now (columns .entry)) (now (values .entry)))
+    requires { ⌜ Valid (m .p) (matrix (now starts) (now columns) (now values)) ⌝ }
+    requires { ⌜ Modular m × Leading (m .p) (length (now starts) - 1) (now area) f t ⌝ }
+    ensures { λ _. ⌜ Applied (m .p) (matrix (now (starts .entry)) (now (columns .entry)) (now (values .entry)))
         (now (area .entry)) f t (now (area .exit)) ⌝ }
 {
     let mut from = 0;
@@ -137,7 +135,7 @@ fn apply_within(
     while 0 < i {
         i -= 1;
         let c = area[f + i];
-        from = advance(p, reciprocal, c, starts, columns, values, area, from);
+        from = advance(m, c, starts, columns, values, area, from);
     }
     let r: usize = 0;
     copy(area, from, r, starts.len() - 1);
@@ -145,8 +143,7 @@ fn apply_within(
 
 // The terms with projection j, their shortest recurrence f, and f(A)r in r's place; the answer is f's degree, and f stands behind the terms.
 fn take_factor(
-    p: u32,
-    reciprocal: u64,
+    m: Modulus,
     starts: &[u32],
     columns: &[u32],
     values: &[u32],
@@ -156,35 +153,15 @@ fn take_factor(
     area: &mut [u32],
     left: usize,
 ) -> usize
-    requires { ⌜ Valid p (matrix (now starts) (now columns) (now values)) × (isModulus p ≡ true) ⌝ }
-    requires { ⌜ (reciprocal ≡ 18446744073709551615 / p) × (0 < left) × (left ≤ 4096) × Words (length (now starts) - 1) vectors (now words) ⌝ }
-    requires { ⌜ (3 * (length (now starts) - 1) + (8 * left + 8) ≤ length (now area)) × Vector p (length (now starts) - 1) (part 0 (length (now starts) - 1) (now area)) ⌝ }
-    ensures { λ t. ⌜ Shortened p (matrix (now (starts .entry)) (now (columns .entry)) (now (values .entry))) left (getD (projections p (length (now (starts .entry)) - 1) (now (words .entry))) j []) (now (area .entry)) (now (area .exit)) t ⌝ }
+    requires { ⌜ Valid (m .p) (matrix (now starts) (now columns) (now values)) × (isModulus (m .p) ≡ true) ⌝ }
+    requires { ⌜ Modular m × (0 < left) × (left ≤ 4096) × Words (length (now starts) - 1) vectors (now words) ⌝ }
+    requires { ⌜ (3 * (length (now starts) - 1) + (8 * left + 8) ≤ length (now area)) × Vector (m .p) (length (now starts) - 1) (part 0 (length (now starts) - 1) (now area)) ⌝ }
+    ensures { λ t. ⌜ Shortened (m .p) (matrix (now (starts .entry)) (now (columns .entry)) (now (values .entry))) left (getD (projections (m .p) (length (now (starts .entry)) - 1) (now (words .entry))) j []) (now (area .entry)) (now (area .exit)) t ⌝ }
 {
     let n = starts.len() - 1;
-    terms(
-        p,
-        reciprocal,
-        starts,
-        columns,
-        values,
-        words,
-        vectors,
-        j,
-        area,
-        left,
-    );
-    let t = recurrence_of_terms(p, area, 3 * n, 2 * left);
-    apply_within(
-        p,
-        reciprocal,
-        starts,
-        columns,
-        values,
-        area,
-        3 * n + (2 * left + 2),
-        t,
-    );
+    terms(m, starts, columns, values, words, vectors, j, area, left);
+    let t = recurrence_of_terms(m, area, 3 * n, 2 * left);
+    apply_within(m, starts, columns, values, area, 3 * n + (2 * left + 2), t);
     t
 }
 
@@ -203,24 +180,24 @@ fn crossed(work: &[u32], f: usize, k: usize, from: usize, to: usize) -> Total
 }
 
 // Coefficient k of the product of F, of degree d, and f, of degree t: the sum over the places where both have a coefficient.
-fn coefficient(p: u32, reciprocal: u64, work: &[u32], d: usize, f: usize, t: usize, k: usize) -> u32
-    requires { ⌜ (reciprocal ≡ 18446744073709551615 / p) × (0 < p) × (d + t ≤ 8192) × (d + t < f) × (f + t < length (now work)) × (k ≤ d + t) ⌝ }
-    ensures { λ r. ⌜ r ≡ productAt p (now (work .entry)) d f t k ⌝ }
+fn coefficient(m: Modulus, work: &[u32], d: usize, f: usize, t: usize, k: usize) -> u32
+    requires { ⌜ Modular m × (0 < m .p) × (d + t ≤ 8192) × (d + t < f) × (f + t < length (now work)) × (k ≤ d + t) ⌝ }
+    ensures { λ r. ⌜ r ≡ productAt (m .p) (now (work .entry)) d f t k ⌝ }
 {
     let from = if k < t { 0 } else { k - t };
     let to = if k < d { k + 1 } else { d + 1 };
-    crossed(work, f, k, from, to).residue(p, reciprocal)
+    crossed(work, f, k, from, to).residue(m)
 }
 
 // F becomes F × f, from the highest coefficient down: those that are still read stand below.
-fn multiply(p: u32, reciprocal: u64, work: &mut [u32], d: usize, f: usize, t: usize)
-    requires { ⌜ (reciprocal ≡ 18446744073709551615 / p) × (0 < p) × (d + t ≤ 8192) × (d + t < f) × (f + t < length (now work)) ⌝ }
-    ensures { λ _. ⌜ Multiplied p (now (work .entry)) d f t (now (work .exit)) ⌝ }
+fn multiply(m: Modulus, work: &mut [u32], d: usize, f: usize, t: usize)
+    requires { ⌜ Modular m × (0 < m .p) × (d + t ≤ 8192) × (d + t < f) × (f + t < length (now work)) ⌝ }
+    ensures { λ _. ⌜ Multiplied (m .p) (now (work .entry)) d f t (now (work .exit)) ⌝ }
 {
     let mut k = d + t + 1;
     while 0 < k {
         k -= 1;
-        work[k] = coefficient(p, reciprocal, work, d, f, t, k);
+        work[k] = coefficient(m, work, d, f, t, k);
     }
 }
 
@@ -296,10 +273,9 @@ pub fn make_pass(
     }
     let left = n - d;
     let first = residual_at(n as u32);
-    let reciprocal = reciprocal(p);
+    let m = Modulus::of(p);
     let t = take_factor(
-        p,
-        reciprocal,
+        m,
         starts,
         columns,
         values,
@@ -312,7 +288,7 @@ pub fn make_pass(
     let front: usize = 0;
     let f = first + (3 * n + (2 * left + 2));
     let end = f + t + 1;
-    multiply(p, reciprocal, &mut work[front..end], d, f, t);
+    multiply(m, &mut work[front..end], d, f, t);
     Passed::Made(Pass {
         left,
         degree: t,

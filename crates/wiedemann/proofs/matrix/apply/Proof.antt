@@ -1,4 +1,4 @@
-use mathlib.Core.Path.{_≡_, refl, sym, _∙_}
+use mathlib.Core.Path.{_≡_, refl, sym, ap, _∙_, subst}
 use native.Mathlib.Omega.{arith}
 use denote.Ref.{now}
 use Rattle.meaning.specs.Matrix.{matrix, apply}
@@ -43,13 +43,17 @@ returns c =
       ),
     )
 
-reciprocal-requires : tie.Need-reciprocal-requires
-reciprocal-requires c κs = accepted c .valid .positive
+of-requires : tie.Need-of-requires
+of-requires c κs = (accepted c .valid .positive, accepted c .valid .small)
 
 horner-requires : tie.Need-horner-requires
 horner-requires c κs =
-    let known = accepted (c .before .before .before) in
-    (known .valid, (c .before .before .reciprocal .ensures, known .places, omega (arith, known .places, known .room), known .vector, known .some, known .coefficients))
+    let at = c .before .before .before .before .before .before .before .before .before .before .before .before .before .before .args in
+    let m = c .before .before .of in
+    let known =
+    subst (λ p. Applicable p (matrix (now (at .starts)) (now (at .columns)) (now (at .values))) (now (at .g)) (now (at .v)) (now (at .out)) (now (at .work)))
+    (sym (m .ensures .0)) (accepted (c .before .before .before)) in
+    (known .valid, (m .ensures .1, known .places, omega (arith, known .places, known .room), known .vector, known .some, known .coefficients))
 
 same-length-3 : tie.Need-same-length-3
 same-length-3 c = search needs
@@ -64,7 +68,7 @@ returns-2 c =
     let zero = none (c .before .before .before .before .before .before .before .before) in (
       zero,
       (
-        c .before .before .before .before .horner .ensures
+        c .before .before .before .before .horner .ensures ∙ ap (λ p. apply p A (now (at .g)) (now (at .v))) (c .before .before .before .before .before .before .before .of .ensures .0)
             ∙ sym
             (unlessRefused-none (applyRefusal (at .field .p) A (now (at .g)) (now (at .v)) (now (at .out)) (now (at .work))) (apply (at .field .p) A (now (at .g)) (now (at .v))) (now (at .out)) zero),
         λ q. absurd (q zero),
@@ -79,7 +83,7 @@ apply-spec =
     same-length
     same-length-2
     returns
-    reciprocal-requires
+    of-requires
     horner-requires
     same-length-3
     same-length-4

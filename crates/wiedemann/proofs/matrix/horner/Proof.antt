@@ -11,20 +11,20 @@ use Rattle.wiedemann.proofs.matrix.horner.Statement.{statement}
 use Rattle.wiedemann.proofs.matrix.horner.Tie as tie
 
 abbrev Inv-loop : tie.InvT-loop
-Inv-loop p reciprocal starts columns values g v out₀ work₀ i₀ out work i =
-    (i < length g) × (length work ≡ length work₀) × (out ≡ apply p (matrix starts columns values) (drop i g) v)
+Inv-loop m starts columns values g v out₀ work₀ i₀ out work i =
+    (i < length g) × (length work ≡ length work₀) × (out ≡ apply (m .p) (matrix starts columns values) (drop i g) v)
 
 abbrev μ-loop : tie.MeasureT-loop
-μ-loop p reciprocal starts columns values g v out₀ work₀ i₀ out work i = i
+μ-loop m starts columns values g v out₀ work₀ i₀ out work i = i
 
 vector : (c : tie.At-loop Inv-loop μ-loop)
-    → Vector (c .before .before .before .before .before .before .before .before .before .before .before .before .before .args .p) (length (now (c .before .before .before .before .before .before .before .before .before .before .before .before .before .args .starts)) - 1) (c .loop .out)
+    → Vector (c .before .before .before .before .before .before .before .before .before .before .before .before .before .args .m .p) (length (now (c .before .before .before .before .before .before .before .before .before .before .before .before .before .args .starts)) - 1) (c .loop .out)
 vector c =
     let start = c .before .before .before .before .before .before .before .before .before .before .before .before .before in
     let at = start .args in
     let A = matrix (now (at .starts)) (now (at .columns)) (now (at .values)) in
-    subst (λ l. Vector (at .p) (length (now (at .starts)) - 1) l) (sym (c .loop .inv .2))
-    (vector-apply (at .p) A (drop (c .loop .i) (now (at .g))) (now (at .v)) (start .pre .0 .positive))
+    subst (λ l. Vector (at .m .p) (length (now (at .starts)) - 1) l) (sym (c .loop .inv .2))
+    (vector-apply (at .m .p) A (drop (c .loop .i) (now (at .g))) (now (at .v)) (start .pre .0 .positive))
 
 sub-i : tie.Need-sub-i Inv-loop μ-loop
 sub-i c = search needs
@@ -50,7 +50,7 @@ loop-holds c =
       omega (arith, pre .1 .4),
       refl,
       c .before .before .multiple .ensures
-          ∙ horner-begins (at .p) (matrix (now (at .starts)) (now (at .columns)) (now (at .values))) (now (at .g)) (now (at .v))
+          ∙ horner-begins (at .m .p) (matrix (now (at .starts)) (now (at .columns)) (now (at .values))) (now (at .g)) (now (at .v))
           (pre .1 .3 .places) (pre .1 .4),
     )
 
@@ -81,9 +81,9 @@ loop-again c =
     let loop = c .before .before .before .before .before .before .before .before .before .loop in
     let A = matrix (now (at .starts)) (now (at .columns)) (now (at .values)) in (
       omega (arith, loop .inv .0),
-      c .before .before .before .before .turn .kept .1 .1 .1 .1 .1 .1 .1 .1 .0 ∙ loop .inv .1,
-      c .before .before .before .before .turn .ensures ∙ ap (step (at .p) A (getD (now (at .g)) (loop .i - 1) 0) (now (at .v))) (loop .inv .2)
-          ∙ horner-goes-on (at .p) A (start .pre .0) (now (at .g)) (now (at .v)) (loop .i) (c .before .before .before .before .before .before .before .before .loop-test .taken) (loop .inv .0),
+      c .before .before .before .before .turn .kept .1 .1 .1 .1 .1 .1 .1 .0 ∙ loop .inv .1,
+      c .before .before .before .before .turn .ensures ∙ ap (step (at .m .p) A (getD (now (at .g)) (loop .i - 1) 0) (now (at .v))) (loop .inv .2)
+          ∙ horner-goes-on (at .m .p) A (start .pre .0) (now (at .g)) (now (at .v)) (loop .i) (c .before .before .before .before .before .before .before .before .loop-test .taken) (loop .inv .0),
     )
 
 same-length : tie.Need-same-length Inv-loop μ-loop
@@ -98,7 +98,7 @@ returns c =
     let loop = c .before .loop in
     let first : loop .i ≡ 0 = omega (arith, c .loop-test .left) in
     loop .inv .2
-    ∙ ap (λ k. apply (at .p) (matrix (now (at .starts)) (now (at .columns)) (now (at .values))) (drop k (now (at .g))) (now (at .v)))
+    ∙ ap (λ k. apply (at .m .p) (matrix (now (at .starts)) (now (at .columns)) (now (at .values))) (drop k (now (at .g))) (now (at .v)))
     first
 
 pub horner-spec : {M : Type 1} → statement M

@@ -1,4 +1,4 @@
-use mathlib.Core.Path.{_≡_, sym, _∙_}
+use mathlib.Core.Path.{_≡_, sym, ap, _∙_, subst}
 use denote.Ref.{now}
 use lib.ListN.{length}
 use Prim.Native.Nat.{_-_}
@@ -6,7 +6,7 @@ use Rattle.meaning.specs.Matrix.{matrix, product}
 use Rattle.meaning.specs.Calls.{productRefusal}
 use Rattle.checks.specs.Matrix.{Accepted, product-accepted}
 use Rattle.laws.specs.Refusal.{unlessRefused-none, unlessRefused-some}
-use Rattle.wiedemann.specs.Horner.{step-product}
+use Rattle.wiedemann.specs.Horner.{step, step-product}
 use borrow.Author.Needs.{needs}
 use Rattle.wiedemann.proofs.matrix.product.Statement.{statement}
 use Rattle.wiedemann.proofs.matrix.product.Tie as tie
@@ -34,13 +34,17 @@ returns c =
           (unlessRefused-some (productRefusal (at .field .p) A (now (at .v)) (now (at .out))) (product (at .field .p) A (now (at .v))) (now (at .out)) (λ e. c .if1 .taken (number ∙ e))),
     )
 
-reciprocal-requires : tie.Need-reciprocal-requires
-reciprocal-requires c κs = accepted c .0 .valid .positive
+of-requires : tie.Need-of-requires
+of-requires c κs = (accepted c .0 .valid .positive, accepted c .0 .valid .small)
 
 step-requires : tie.Need-step-requires
 step-requires c κs =
-    let known = accepted (c .before .before) in
-    (known .0 .valid, (c .before .reciprocal .ensures, known .1, known .0 .vector .places, known .0 .vector))
+    let at = c .before .before .before .before .before .before .before .before .before .before .args in
+    let m = c .before .of in
+    let size = accepted (c .before .before) .1 in
+    let known =
+    subst (λ p. Accepted p (matrix (now (at .starts)) (now (at .columns)) (now (at .values))) (now (at .v))) (sym (m .ensures .0)) (accepted (c .before .before) .0) in
+    (known .valid, (m .ensures .1, size, known .vector .places, known .vector))
 
 same-length-2 : tie.Need-same-length-2
 same-length-2 c = search needs
@@ -51,7 +55,8 @@ returns-2 c =
     let A = (matrix (now (c .before .before .before .before .before .before .before .before .before .before .before .before .before .args .starts)) (now (c .before .before .before .before .before .before .before .before .before .before .before .before .before .args .columns)) (now (c .before .before .before .before .before .before .before .before .before .before .before .before .before .args .values))) in
     let zero = none (c .before .before .before .before .before) in (
       zero,
-      c .before .before .step .ensures ∙ step-product (at .field .p) A (now (at .v)) (now (at .v))
+      c .before .before .step .ensures ∙ ap (λ p. step p A 0 (now (at .v)) (now (at .v))) (c .before .before .before .before .of .ensures .0)
+          ∙ step-product (at .field .p) A (now (at .v)) (now (at .v))
           ∙ sym
           (unlessRefused-none (productRefusal (at .field .p) A (now (at .v)) (now (at .out))) (product (at .field .p) A (now (at .v))) (now (at .out)) zero),
     )
@@ -63,7 +68,7 @@ product-spec =
     product-refusal-requires
     same-length
     returns
-    reciprocal-requires
+    of-requires
     step-requires
     same-length-2
     returns-2)

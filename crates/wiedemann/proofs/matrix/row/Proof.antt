@@ -15,7 +15,7 @@ use Rattle.wiedemann.proofs.matrix.row.Tie as tie
 
 entries : (c : tie.Start) → Entries (now (c .args .columns)) (now (c .args .values)) (now (c .args .v))
 entries c =
-    valid-entries (c .args .p) (matrix (now (c .args .starts)) (now (c .args .columns)) (now (c .args .values))) (now (c .args .v))
+    valid-entries (c .args .m .p) (matrix (now (c .args .starts)) (now (c .args .columns)) (now (c .args .values))) (now (c .args .v))
     (c .pre .0) (c .pre .1 .2)
 
 order : (c : tie.After-wide2)
@@ -78,7 +78,7 @@ returns c =
     let total : Total = record { low = at .start; high = 0 } in
     let sizes = order (c .before .before .before) in
     c .residue .ensures
-    ∙ ap (λ x. x % at .p)
+    ∙ ap (λ x. x % at .m .p)
     (summed-both total (c .before .before .fours .result) (c .before .ones .result) (from .result) middle (to .result) f
     (omega (arith, sizes .0)) (omega arith) (c .before .before .fours .ensures) (c .before .ones .ensures) .sum
     ∙ ap₂ _+_ (add-zero (at .start)) (ap₂ (λ a b. sumFrom a b f) (from .ensures .0) (to .ensures .0)))

@@ -39,7 +39,7 @@ returns c =
     let at = c .before .before .before .before .before .before .args in
     let size = length (now (at .starts)) - 1 in
     c .row .ensures
-    ∙ ap (λ k. (at .start + rowProduct (matrix (now (at .starts)) (now (at .columns)) (now (at .values))) (part (at .source) k (now (at .work))) (at .i)) % at .p)
+    ∙ ap (λ k. (at .start + rowProduct (matrix (now (at .starts)) (now (at .columns)) (now (at .values))) (part (at .source) k (now (at .work))) (at .i)) % at .m .p)
     (add-sub-cancel-left (at .source) size)
 
 pub row-within-spec : {M : Type 1} → statement M

@@ -14,11 +14,11 @@ use Rattle.wiedemann.proofs.matrix.step.Statement.{statement}
 use Rattle.wiedemann.proofs.matrix.step.Tie as tie
 
 abbrev Inv-loop : tie.InvT-loop
-Inv-loop p reciprocal c x starts columns values v out₀ rows i₀ out i =
-    (i ≤ length out₀) × Written out₀ 0 i (stepAt p (matrix starts columns values) c x v) out
+Inv-loop m c x starts columns values v out₀ rows i₀ out i =
+    (i ≤ length out₀) × Written out₀ 0 i (stepAt (m .p) (matrix starts columns values) c x v) out
 
 abbrev μ-loop : tie.MeasureT-loop
-μ-loop p reciprocal c x starts columns values v out₀ rows i₀ out i = length out₀ - i
+μ-loop m c x starts columns values v out₀ rows i₀ out i = length out₀ - i
 
 sub-rows : tie.Need-sub-rows Inv-loop μ-loop
 sub-rows c = omega (arith, c .before .before .before .before .before .before .pre .0 .one-more)
@@ -28,7 +28,7 @@ loop-holds c =
     let at = c .before .before .before .before .before .before .args in (
       omega arith,
       written-none (now (at .out)) 0
-          (stepAt (at .p) (matrix (now (at .starts)) (now (at .columns)) (now (at .values))) (at .c) (now (at .x)) (now (at .v))),
+          (stepAt (at .m .p) (matrix (now (at .starts)) (now (at .columns)) (now (at .values))) (at .c) (now (at .x)) (now (at .v))),
     )
 
 bound : (c : tie.In-loop Inv-loop μ-loop) → c .before .loop .i < length (now (c .before .before .before .before .before .before .before .before .args .starts)) - 1
@@ -70,7 +70,7 @@ loop-again c =
       omega (arith, inside),
       written-next (c .row .result) (loop .inv .1) inside
           (c .row .ensures
-          ∙ ap (λ y. (y + rowProduct (matrix (now (at .starts)) (now (at .columns)) (now (at .values))) (now (at .v)) i) % at .p) (c .before .times .ensures)),
+          ∙ ap (λ y. (y + rowProduct (matrix (now (at .starts)) (now (at .columns)) (now (at .values))) (now (at .v)) i) % at .m .p) (c .before .times .ensures)),
     )
 
 same-length : tie.Need-same-length Inv-loop μ-loop
@@ -83,9 +83,9 @@ returns c =
     let loop = c .before .loop in
     let A = matrix (now (at .starts)) (now (at .columns)) (now (at .values)) in
     let end : loop .i ≡ length (now (at .starts)) - 1 = omega (arith, loop .inv .0, c .loop-test .left, loop .inv .1 .same-length, start .pre .1 .1) in
-    written-table (now (at .out)) (length (now (at .starts)) - 1) (stepAt (at .p) A (at .c) (now (at .x)) (now (at .v))) (loop .out)
+    written-table (now (at .out)) (length (now (at .starts)) - 1) (stepAt (at .m .p) A (at .c) (now (at .x)) (now (at .v))) (loop .out)
     (start .pre .1 .1) (written-all end (loop .inv .1))
-    ∙ sym (table-step (at .p) A (at .c) (now (at .x)) (now (at .v)))
+    ∙ sym (table-step (at .m .p) A (at .c) (now (at .x)) (now (at .v)))
 
 pub step-spec : {M : Type 1} → statement M
 step-spec =

@@ -43,7 +43,7 @@ returns c =
     let start = c .before .before .before .before .before .before .before .before .before .before .before in
     let at = start .args in
     c .before .before .step .ensures
-    ∙ ap (λ k. step (at .p) (matrix (now (at .starts)) (now (at .columns)) (now (at .values))) (at .c) (now (at .x)) (take k (now (at .work))))
+    ∙ ap (λ k. step (at .m .p) (matrix (now (at .starts)) (now (at .columns)) (now (at .values))) (at .c) (now (at .x)) (take k (now (at .work))))
     (sub-zero (length (now (at .out))) ∙ start .pre .1 .1)
 
 pub step-from-spec : {M : Type 1} → statement M

@@ -13,12 +13,12 @@ use Rattle.wiedemann.proofs.matrix.step_within.Statement.{statement}
 use Rattle.wiedemann.proofs.matrix.step_within.Tie as tie
 
 abbrev Inv-loop : tie.InvT-loop
-Inv-loop p reciprocal c starts columns values work₀ origin source target n i₀ work i =
+Inv-loop m c starts columns values work₀ origin source target n i₀ work i =
     (i ≤ n)
-    × Written work₀ target i (stepAt p (matrix starts columns values) c (part origin n work₀) (part source n work₀)) work
+    × Written work₀ target i (stepAt (m .p) (matrix starts columns values) c (part origin n work₀) (part source n work₀)) work
 
 abbrev μ-loop : tie.MeasureT-loop
-μ-loop p reciprocal c starts columns values work₀ origin source target n i₀ work i = n - i
+μ-loop m c starts columns values work₀ origin source target n i₀ work i = n - i
 
 sub-n : tie.Need-sub-n Inv-loop μ-loop
 sub-n c = search needs
@@ -30,7 +30,7 @@ loop-holds c =
     let n = length (now (at .starts)) - 1 in (
       omega arith,
       written-none W (at .target)
-          (stepAt (at .p) (matrix (now (at .starts)) (now (at .columns)) (now (at .values))) (at .c) (part (at .origin) n W) (part (at .source) n W)),
+          (stepAt (at .m .p) (matrix (now (at .starts)) (now (at .columns)) (now (at .values))) (at .c) (part (at .origin) n W) (part (at .source) n W)),
     )
 
 add-times : tie.Need-add-times Inv-loop μ-loop
@@ -71,8 +71,8 @@ row-within-requires c κs =
         start .pre .1 .0,
         c .before .before .before .loop-test .taken,
         omega (arith, known .source-fits, loop .inv .1 .same-length),
-        subst (λ l. Vector (at .p) n l) (sym (source-kept (c .before .before .before)))
-            (vector-part (at .p) (at .source) n (now (at .work)) (known .source-fits) (known .elements)),
+        subst (λ l. Vector (at .m .p) n l) (sym (source-kept (c .before .before .before)))
+            (vector-part (at .m .p) (at .source) n (now (at .work)) (known .source-fits) (known .elements)),
       ),
     )
 
@@ -110,7 +110,7 @@ loop-again c =
       omega (arith, inside),
       written-more (c .row-within .result) (loop .inv .1) (omega (arith, inside, known .target-fits))
           (c .row-within .ensures
-          ∙ ap₂ (λ y l. (y + rowProduct A l i) % at .p) (c .before .before .times .ensures ∙ ap (λ y. at .c * y) element)
+          ∙ ap₂ (λ y l. (y + rowProduct A l i) % at .m .p) (c .before .before .times .ensures ∙ ap (λ y. at .c * y) element)
           (source-kept (c .before .before .before .before))),
     )
 

@@ -34,7 +34,7 @@ step-from-requires c κs =
         vector .places,
         pre .1 .1,
         omega (arith, pre .1 .2, kept),
-        subst (λ l. Vector (at .p) (length (now (at .starts)) - 1) l) (sym (front (c .before .before .before .before))) vector,
+        subst (λ l. Vector (at .m .p) (length (now (at .starts)) - 1) l) (sym (front (c .before .before .before .before))) vector,
       ),
     )
 
@@ -48,7 +48,7 @@ returns : tie.Need-returns
 returns c =
     let at = c .before .before .before .before .before .before .before .before .before .before .before .before .before .before .before .before .args in
     c .before .before .step-from .ensures
-    ∙ ap (step (at .p) (matrix (now (at .starts)) (now (at .columns)) (now (at .values))) (at .c) (now (at .x))) (front (c .before .before .before .before .before .before .before))
+    ∙ ap (step (at .m .p) (matrix (now (at .starts)) (now (at .columns)) (now (at .values))) (at .c) (now (at .x))) (front (c .before .before .before .before .before .before .before))
 
 pub turn-spec : {M : Type 1} → statement M
 turn-spec =

@@ -1,4 +1,4 @@
-use mathlib.Core.Path.{_≡_, sym, ap, ap₂, _∙_}
+use mathlib.Core.Path.{_≡_, sym, ap, ap₂, _∙_, subst}
 use mathlib.Core.Bool.{false, not, _&&_}
 use denote.Ref.{now}
 use Rattle.meaning.specs.List.{isZero}
@@ -30,8 +30,10 @@ answer c =
 
 nonzero : (c : tie.After-vanishes) → isNullAnswer (c .before .before .before .before .before .before .before .before .before .before .args .field .p) (matrix (now (c .before .before .before .before .before .before .before .before .before .before .args .starts)) (now (c .before .before .before .before .before .before .before .before .before .before .args .columns)) (now (c .before .before .before .before .before .before .before .before .before .before .args .values))) (now (c .before .before .before .before .before .before .before .before .before .before .args .w)) ≡ c .vanishes .result
 nonzero c =
+    let at = c .before .before .before .before .before .before .before .before .before .before .args in
     answer (c .before .before .before .before)
-    ∙ ap₂ (λ s t. not s && t) (sym (c .before .before .before .is-zero .ensures) ∙ c .before .before .if2 .left) (sym (c .vanishes .ensures))
+    ∙ ap₂ (λ s t. not s && t) (sym (c .before .before .before .is-zero .ensures) ∙ c .before .before .if2 .left)
+    (ap (λ p. isZero (product p (matrix (now (at .starts)) (now (at .columns)) (now (at .values))) (now (at .w)))) (sym (c .before .of .ensures .0)) ∙ sym (c .vanishes .ensures))
 
 system-refusal-requires : tie.Need-system-refusal-requires
 system-refusal-requires c κs = search needs
@@ -57,13 +59,15 @@ returns-2 c =
       answer (c .before .before) ∙ ap (λ t. not t && isZero (product (at .field .p) (matrix (now (c .before .before .before .before .before .before .before .before .args .starts)) (now (c .before .before .before .before .before .before .before .before .args .columns)) (now (c .before .before .before .before .before .before .before .before .args .values))) (now (at .w)))) (sym (c .before .is-zero .ensures) ∙ c .if2 .taken),
     )
 
-reciprocal-requires : tie.Need-reciprocal-requires
-reciprocal-requires c κs = accepted (c .before .before) .valid .positive
+of-requires : tie.Need-of-requires
+of-requires c κs = (accepted (c .before .before) .valid .positive, accepted (c .before .before) .valid .small)
 
 vanishes-requires : tie.Need-vanishes-requires
 vanishes-requires c κs =
-    let known = accepted (c .before .before .before) in
-    (known .valid, (c .reciprocal .ensures, known .vector))
+    let at = c .before .before .before .before .before .before .before .before .before .args in
+    let known =
+    subst (λ p. Accepted p (matrix (now (at .starts)) (now (at .columns)) (now (at .values))) (now (at .w))) (sym (c .of .ensures .0)) (accepted (c .before .before .before)) in
+    (known .valid, (c .of .ensures .1, known .vector))
 
 returns-3 : tie.Need-returns-3
 returns-3 c = (none (c .before .before .before .before .before), nonzero (c .before) ∙ c .if3 .taken)
@@ -79,7 +83,7 @@ is-null-spec =
     returns
     is-zero-requires
     returns-2
-    reciprocal-requires
+    of-requires
     vanishes-requires
     returns-3
     returns-4)

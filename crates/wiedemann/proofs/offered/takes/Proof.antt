@@ -1,9 +1,11 @@
-use mathlib.Core.Path.{_≡_, sym, _∙_}
+use mathlib.Core.Path.{_≡_, sym, ap, _∙_, subst}
 use mathlib.Core.Bool.{false}
 use Prim.Native.Nat.{_-_}
-use lib.ListN.{length}
+use lib.Dec.{eqb}
+use lib.ListN.{length, getD}
 use denote.Ref.{now}
-use Rattle.meaning.specs.Matrix.{matrix}
+use Rattle.meaning.specs.List.{all}
+use Rattle.meaning.specs.Matrix.{matrix, product}
 use Rattle.meaning.specs.Solver.{takes}
 use Rattle.meaning.specs.Calls.{takesRefusal, takesAnswer}
 use Rattle.checks.specs.Matrix.{Accepted, takes-accepted}
@@ -27,7 +29,9 @@ answer c =
     let known = accepted (c .before .before) in
     unlessRefused-none (takesRefusal (at .field .p) A (now (at .x)) (now (at .b))) (takes (at .field .p) A (now (at .x)) (now (at .b))) false
     (none (c .before .before))
-    ∙ takes-all (at .field .p) A (now (at .x)) (now (at .b)) (known .0 .valid .positive) (known .1) ∙ sym (c .agrees .ensures)
+    ∙ takes-all (at .field .p) A (now (at .x)) (now (at .b)) (known .0 .valid .positive) (known .1)
+    ∙ ap (λ p. all (length (now (at .starts)) - 1) (λ i. eqb (getD (product p A (now (at .x))) i 0) (getD (now (at .b)) i 0))) (sym (c .before .of .ensures .0))
+    ∙ sym (c .agrees .ensures)
 
 takes-refusal-requires : tie.Need-takes-refusal-requires
 takes-refusal-requires c κs = search needs
@@ -43,13 +47,15 @@ returns c =
           (λ e. c .if1 .taken (number ∙ e)),
     )
 
-reciprocal-requires : tie.Need-reciprocal-requires
-reciprocal-requires c κs = accepted c .0 .valid .positive
+of-requires : tie.Need-of-requires
+of-requires c κs = (accepted c .0 .valid .positive, accepted c .0 .valid .small)
 
 agrees-requires : tie.Need-agrees-requires
 agrees-requires c κs =
-    let known = accepted (c .before) .0 in
-    (known .valid, (c .reciprocal .ensures, known .vector))
+    let at = c .before .before .before .before .before .before .before .before .args in
+    let known =
+    subst (λ p. Accepted p (matrix (now (at .starts)) (now (at .columns)) (now (at .values))) (now (at .x))) (sym (c .of .ensures .0)) (accepted (c .before) .0) in
+    (known .valid, (c .of .ensures .1, known .vector))
 
 returns-2 : tie.Need-returns-2
 returns-2 c = (none (c .before .before .before), answer (c .before) ∙ c .if2 .taken)
@@ -60,4 +66,4 @@ returns-3 c = (none (c .before .before .before), answer (c .before) ∙ c .if2 .
 pub takes-spec : {M : Type 1} → statement M
 takes-spec =
     tie.close
-    (tie.spec takes-refusal-requires returns reciprocal-requires agrees-requires returns-2 returns-3)
+    (tie.spec takes-refusal-requires returns of-requires agrees-requires returns-2 returns-3)

@@ -11,10 +11,10 @@ use Rattle.wiedemann.proofs.pass.apply_within.Statement.{statement}
 use Rattle.wiedemann.proofs.pass.apply_within.Tie as tie
 
 abbrev Inv-loop : tie.InvT-loop
-Inv-loop p reciprocal starts columns values area₀ f t from₀ i₀ area from i = (i ≤ t) × Applying p (matrix starts columns values) area₀ f t i from area
+Inv-loop m starts columns values area₀ f t from₀ i₀ area from i = (i ≤ t) × Applying (m .p) (matrix starts columns values) area₀ f t i from area
 
 abbrev μ-loop : tie.MeasureT-loop
-μ-loop p reciprocal starts columns values area₀ f t from₀ i₀ area from i = i
+μ-loop m starts columns values area₀ f t from₀ i₀ area from i = i
 
 loop-holds : tie.Need-loop-holds Inv-loop μ-loop
 loop-holds c = (omega arith, applying-none (c .before .before .before .before .pre .1 .1))
@@ -46,7 +46,7 @@ advance-requires c κs =
         record {
           seat = loop .inv .1 .seat;
           room = omega (arith, pre .1 .1 .above, pre .1 .1 .room, loop .inv .1 .same-length);
-          elements = rw (loop .inv .1 .holds) (vector-apply (a .p) A _ _ (pre .0 .positive));
+          elements = rw (loop .inv .1 .holds) (vector-apply (a .m .p) A _ _ (pre .0 .positive));
         },
       ),
     )
@@ -64,7 +64,7 @@ loop-again c =
     let test = c .before .before .before .before .before .loop-test .taken in
     let back : loop .i ≡ i + 1 = omega (arith, test) in (
       omega (arith, loop .inv .0),
-      applying-more _ (pre .0) (pre .1 .1) (subst (λ m. Applying (a .p) A (now (a .area)) (a .f) (a .t) m (loop .from) (loop .area)) back (loop .inv .1))
+      applying-more _ (pre .0) (pre .1 .1) (subst (λ m. Applying (a .m .p) A (now (a .area)) (a .f) (a .t) m (loop .from) (loop .area)) back (loop .inv .1))
           (omega (arith, loop .inv .0, test)) refl (c .before .before .advance .ensures),
     )
 
@@ -90,7 +90,7 @@ returns c =
     let A = matrix (now (a .starts)) (now (a .columns)) (now (a .values)) in
     let ended : loop .i ≡ 0 = omega (arith, c .before .before .before .before .loop-test .left) in
     applied-all (omega (arith, h .above, h .room))
-    (subst (λ m. Applying (a .p) A (now (a .area)) (a .f) (a .t) m (loop .from) (loop .area)) ended (loop .inv .1))
+    (subst (λ m. Applying (a .m .p) A (now (a .area)) (a .f) (a .t) m (loop .from) (loop .area)) ended (loop .inv .1))
     (c .before .before .copy .ensures)
 
 pub apply-within-spec : {M : Type 1} → statement M

@@ -40,7 +40,7 @@ crossed-requires c κs =
 residue-requires : tie.Need-residue-requires
 residue-requires c κs =
     let pre = c .before .before .before .before .pre in
-    (pre .1, pre .0, few _ _ _ _ (c .crossed .ensures .carries) (bounds (c .before) .1) (pre .5) (pre .2))
+    (pre .0, few _ _ _ _ (c .crossed .ensures .carries) (bounds (c .before) .1) (pre .5) (pre .2))
 
 returns : tie.Need-returns
 returns c =
@@ -50,7 +50,7 @@ returns c =
     let to = c .before .before .if2 .to in
     let b = bounds (c .before .before) in
     c .residue .ensures
-    ∙ ap (λ x. x % a .p)
+    ∙ ap (λ x. x % a .m .p)
     (c .before .crossed .ensures .sum ∙ zero-add (sumFrom (c .before .before .before .if1 .from) to (cross W (a .f) (a .k))) ∙ ap (λ m. sumFrom m to (cross W (a .f) (a .k))) (b .0)
     ∙ coefficient W (a .d) (a .f) (a .t) (pre .3) (pre .4) (a .k) to (pre .5) (b .1) (b .2) (b .3))
 

@@ -1,4 +1,4 @@
-use Rattle.wiedemann.specs.Pass.{residualAt, narrowed-from, made, refused-matrix, refused-state, State, state-of}
+use Rattle.wiedemann.specs.Pass.{residualAt, held, narrowed-from, made, refused-matrix, refused-state, State, state-of}
 use Rattle.wiedemann.specs.Factor.{multiplied-lent}
 use Rattle.wiedemann.specs.Lent.{lent, part-at, part-of-part}
 use Rattle.wiedemann.specs.Region.{part, length-part}
@@ -7,12 +7,14 @@ use Rattle.checks.specs.Matrix.{matrix-valid, matrix-modulus}
 use Rattle.meaning.specs.Matrix.{matrix}
 use Rattle.meaning.specs.Refusal.{first, matrixChecks}
 use Rattle.meaning.specs.Field.{isModulus}
+use Rattle.meaning.specs.Solver.{projections, pass}
 use denote.Ref.{now}
-use lib.ListN.{length}
+use lib.ListN.{length, getD}
 use native.Mathlib.Nat.{add-zero}
 use native.Mathlib.Omega.{arith}
 use Prim.Native.Nat.{_+_, _-_, _*_, _≤_}
 use mathlib.Core.Bool.{true}
+use mathlib.Core.List.{[]}
 use mathlib.Core.Path.{_≡_, refl, sym, ap, _∙_, subst}
 use borrow.Author.Needs.{needs}
 use Rattle.wiedemann.proofs.pass.make_pass.Statement.{statement}
@@ -63,8 +65,8 @@ cast-residual-at c = omega (arith, valid (c .before .before .before) .sized)
 residual-at-requires : tie.Need-residual-at-requires
 residual-at-requires c κs = search needs
 
-reciprocal-requires : tie.Need-reciprocal-requires
-reciprocal-requires c κs = valid (c .before .before .before .before) .positive
+of-requires : tie.Need-of-requires
+of-requires c κs = (valid (c .before .before .before .before) .positive, valid (c .before .before .before .before) .small)
 
 div-take-factor : tie.Need-div-take-factor
 div-take-factor c = omega (arith, valid (c .before .before .before .before .before) .some)
@@ -94,14 +96,17 @@ take-factor-requires c κs =
     let long = length-part (residualAt n) m W fits in
     let below = s .below in
     let at-r = c .before .before .residual-at .ensures in
+    let A = matrix (now (a .starts)) (now (a .columns)) (now (a .values)) in
+    let p = sym (c .before .of .ensures .0) in
     rw at-r (
-      (v, matrix-modulus (a .field .p) (matrix (now (a .starts)) (now (a .columns)) (now (a .values))) (passed (c .before .before .before .before .before .before))),
+      (subst (λ x. Valid x A) p v, subst (λ x. isModulus x ≡ true) p (matrix-modulus (a .field .p) A (passed (c .before .before .before .before .before .before)))),
       (
-        (c .before .reciprocal .ensures, omega (arith, below), omega (arith, v .sized), s .words-taken),
+        (c .before .of .ensures .1, omega (arith, below), omega (arith, v .sized), s .words-taken),
         (
           omega (arith, long, room, below),
-          subst (λ l. Vector (a .field .p) n l)
-              (sym (part-of-part 0 n (residualAt n) m W (omega (arith, room)) fits ∙ part-at W (residualAt n + 0) n (residualAt n) n (add-zero (residualAt n)) refl)) (s .residual),
+          subst (λ x. Vector x n (part 0 n (part (residualAt n) m W))) p
+              (subst (λ l. Vector (a .field .p) n l)
+              (sym (part-of-part 0 n (residualAt n) m W (omega (arith, room)) fits ∙ part-at W (residualAt n + 0) n (residualAt n) n (add-zero (residualAt n)) refl)) (s .residual)),
         ),
       ),
     )
@@ -135,7 +140,7 @@ add-end c =
     let below = s .below in
     let fits : first + m ≤ length W = omega (arith, room, place) in
     let done =
-    narrowed-from first m place fits (omega (arith, room, place)) (c .before .before .take-factor .kept .1 .1 .1 .1 .1 .1 .1 .1 .0 ∙ length-part first m W fits) (c .before .before .take-factor .ensures) in
+    narrowed-from first m place fits (omega (arith, room, place)) (c .before .before .take-factor .kept .1 .1 .1 .1 .1 .1 .1 .0 ∙ length-part first m W fits) (c .before .before .take-factor .ensures) in
     let short = done .short in
     let long = done .same-length in
     let sized = v .sized in
@@ -155,7 +160,7 @@ add-end-2 c =
     let below = s .below in
     let fits : first + m ≤ length W = omega (arith, room, place) in
     let done =
-    narrowed-from first m place fits (omega (arith, room, place)) (c .before .before .take-factor .kept .1 .1 .1 .1 .1 .1 .1 .1 .0 ∙ length-part first m W fits) (c .before .before .take-factor .ensures) in
+    narrowed-from first m place fits (omega (arith, room, place)) (c .before .before .take-factor .kept .1 .1 .1 .1 .1 .1 .1 .0 ∙ length-part first m W fits) (c .before .before .take-factor .ensures) in
     let short = done .short in
     let long = done .same-length in
     let sized = v .sized in
@@ -184,7 +189,7 @@ part-multiply-end c =
     let below = s .below in
     let fits : first + m ≤ length W = omega (arith, room, place) in
     let done =
-    narrowed-from first m place fits (omega (arith, room, place)) (c .before .before .take-factor .kept .1 .1 .1 .1 .1 .1 .1 .1 .0 ∙ length-part first m W fits) (c .before .before .take-factor .ensures) in
+    narrowed-from first m place fits (omega (arith, room, place)) (c .before .before .take-factor .kept .1 .1 .1 .1 .1 .1 .1 .0 ∙ length-part first m W fits) (c .before .before .take-factor .ensures) in
     let short = done .short in
     let long = done .same-length in
     let sized = v .sized in
@@ -204,13 +209,14 @@ multiply-requires c κs =
     let below = s .below in
     let fits : first + m ≤ length W = omega (arith, room, place) in
     let done =
-    narrowed-from first m place fits (omega (arith, room, place)) (c .before .before .before .take-factor .kept .1 .1 .1 .1 .1 .1 .1 .1 .0 ∙ length-part first m W fits) (c .before .before .before .take-factor .ensures) in
+    narrowed-from first m place fits (omega (arith, room, place)) (c .before .before .before .take-factor .kept .1 .1 .1 .1 .1 .1 .1 .0 ∙ length-part first m W fits) (c .before .before .before .take-factor .ensures) in
     let short = done .short in
     let long = done .same-length in
     let sized = v .sized in
     let end = first + (3 * n + (2 * (n - a .d) + 2)) + c .before .before .before .take-factor .result + 1 - 0 in
-    let size = length-part 0 end (lent W first m (c .before .before .before .take-factor .last .1 .1 .1 .1 .1 .1 .1 .1 .0)) (omega (arith, short, place, sized, below, long, room)) in
-    (c .before .before .before .before .before .reciprocal .ensures, v .positive, omega (arith, short, below, sized), omega (arith, short, below, place), omega (arith, size))
+    let size = length-part 0 end (lent W first m (c .before .before .before .take-factor .last .1 .1 .1 .1 .1 .1 .1 .0)) (omega (arith, short, place, sized, below, long, room)) in
+    let m = c .before .before .before .before .before .of .ensures .1 in
+    (m, m .positive, omega (arith, short, below, sized), omega (arith, short, below, place), omega (arith, size))
 
 mul-t26 : tie.Need-mul-t26
 mul-t26 c = search needs
@@ -232,7 +238,7 @@ add-t25 c =
     let below = s .below in
     let fits : first + m ≤ length W = omega (arith, room, place) in
     let done =
-    narrowed-from first m place fits (omega (arith, room, place)) (c .before .before .before .before .before .before .take-factor .kept .1 .1 .1 .1 .1 .1 .1 .1 .0 ∙ length-part first m W fits) (c .before .before .before .before .before .before .take-factor .ensures) in
+    narrowed-from first m place fits (omega (arith, room, place)) (c .before .before .before .before .before .before .take-factor .kept .1 .1 .1 .1 .1 .1 .1 .0 ∙ length-part first m W fits) (c .before .before .before .before .before .before .take-factor .ensures) in
     let short = done .short in
     let long = done .same-length in
     let sized = v .sized in
@@ -255,7 +261,7 @@ returns-3 c =
     let below = s .below in
     let fits : first + m ≤ length W = omega (arith, room, place) in
     let done =
-    narrowed-from first m place fits (omega (arith, room, place)) (c .before .before .before .before .before .before .take-factor .kept .1 .1 .1 .1 .1 .1 .1 .1 .0 ∙ length-part first m W fits) (c .before .before .before .before .before .before .take-factor .ensures) in
+    narrowed-from first m place fits (omega (arith, room, place)) (c .before .before .before .before .before .before .take-factor .kept .1 .1 .1 .1 .1 .1 .1 .0 ∙ length-part first m W fits) (c .before .before .before .before .before .before .take-factor .ensures) in
     let short = done .short in
     let long = done .same-length in
     let sized = v .sized in
@@ -266,10 +272,12 @@ returns-3 c =
     let within : end ≤ length W = omega (arith, short, place, sized, below, room) in
     let product =
     multiplied-lent end (omega (arith, short, below, place)) (omega arith) (omega (arith, within, long))
-    (c .before .before .multiply .kept .1 .1 .0 ∙ length-part 0 end _ (omega (arith, within, long))) (c .before .before .multiply .ensures) in (
+    (c .before .before .multiply .kept .1 .0 ∙ length-part 0 end _ (omega (arith, within, long))) (c .before .before .multiply .ensures) in (
       refused-state (a .field .p) A (now (a .words)) (a .d) W (passed (c .before .before .before .before .before .before .before .before .before .before .before .before .before)) ∙ sym (c .before .before .before .before .before .before .before .before .before .before .before .state-refusal .ensures) ∙ c .before .before .before .before .before .before .before .before .before .before .if2 .left,
       product .same-length ∙ long,
-      made (a .d) t below room done f (ap (λ x. x + (3 * n + (2 * (n - a .d) + 2))) place) product,
+      λ qs.
+          made (a .d) t below room done f (ap (λ x. x + (3 * n + (2 * (n - a .d) + 2))) place) product qs
+          ∙ ap (λ x. pass x A (getD (projections x n (now (a .words))) (a .j) []) (held n W (a .d) qs)) (c .before .before .before .before .before .before .before .before .of .ensures .0),
     )
 
 pub make-pass-spec : {M : Type 1} → statement M
@@ -285,7 +293,7 @@ make-pass-spec =
     sub-left
     cast-residual-at
     residual-at-requires
-    reciprocal-requires
+    of-requires
     div-take-factor
     mul-take-factor
     sub-take-factor

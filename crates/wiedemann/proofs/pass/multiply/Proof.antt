@@ -8,10 +8,10 @@ use Rattle.wiedemann.proofs.pass.multiply.Statement.{statement}
 use Rattle.wiedemann.proofs.pass.multiply.Tie as tie
 
 abbrev Inv-loop : tie.InvT-loop
-Inv-loop p reciprocal work₀ d f t k₀ work k = (k ≤ d + t + 1) × Descending p work₀ d f t k work
+Inv-loop m work₀ d f t k₀ work k = (k ≤ d + t + 1) × Descending (m .p) work₀ d f t k work
 
 abbrev μ-loop : tie.MeasureT-loop
-μ-loop p reciprocal work₀ d f t k₀ work k = k
+μ-loop m work₀ d f t k₀ work k = k
 
 add-k : tie.Need-add-k Inv-loop μ-loop
 add-k c = search needs
@@ -22,7 +22,7 @@ add-k-2 c = search needs
 loop-holds : tie.Need-loop-holds Inv-loop μ-loop
 loop-holds c =
     let a = c .before .args in
-    (omega arith, descending-none (a .p) (now (a .work)) (a .d) (a .f) (a .t))
+    (omega arith, descending-none (a .m .p) (now (a .work)) (a .d) (a .f) (a .t))
 
 sub-k : tie.Need-sub-k Inv-loop μ-loop
 sub-k c = search needs
@@ -52,7 +52,7 @@ loop-again c =
     let test = c .before .before .loop-test .taken in
     let k = loop .k - 1 in
     let back : loop .k ≡ k + 1 = omega (arith, test) in
-    let held : Descending (a .p) (now (a .work)) (a .d) (a .f) (a .t) (k + 1) (loop .work) = subst (λ m. Descending (a .p) (now (a .work)) (a .d) (a .f) (a .t) m (loop .work)) back (loop .inv .1) in
+    let held : Descending (a .m .p) (now (a .work)) (a .d) (a .f) (a .t) (k + 1) (loop .work) = subst (λ m. Descending (a .m .p) (now (a .work)) (a .d) (a .f) (a .t) m (loop .work)) back (loop .inv .1) in
     let inside : k ≤ a .d + a .t = omega (arith, loop .inv .0, test) in (
       omega (arith, inside),
       descending-more (c .coefficient .result) held inside (omega (arith, inside, pre .3, pre .4)) (c .coefficient .ensures ∙ descending-same k held (pre .3) (pre .4)),
@@ -66,7 +66,7 @@ returns c =
     let a = c .before .before .before .args in
     let pre = c .before .before .before .pre in
     let loop = c .before .loop in
-    descending-all (pre .3) (pre .4) (subst (λ m. Descending (a .p) (now (a .work)) (a .d) (a .f) (a .t) m (loop .work)) (omega (arith, c .loop-test .left)) (loop .inv .1))
+    descending-all (pre .3) (pre .4) (subst (λ m. Descending (a .m .p) (now (a .work)) (a .d) (a .f) (a .t) m (loop .work)) (omega (arith, c .loop-test .left)) (loop .inv .1))
 
 pub multiply-spec : {M : Type 1} → statement M
 multiply-spec =

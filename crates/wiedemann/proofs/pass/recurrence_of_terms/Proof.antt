@@ -36,13 +36,15 @@ shortest-requires c κs =
     let pre = c .before .before .pre in
     let W = now (a .area) in
     let m = a .from + (4 * a .count + 8) - a .from in
-    let size : m ≡ 4 * a .count + 8 = omega arith in
-    record {
-      modulus = pre .0;
-      few = pre .1;
-      room = omega (arith, length-part (a .from) m W (omega (arith, size, pre .3)), size);
-      elements = λ i l. rw (at-part (a .from) m W i (omega (arith, size, l)), ← at-part (a .from) (a .count) W i l) (pre .4 .below i l);
-    }
+    let size : m ≡ 4 * a .count + 8 = omega arith in (
+      record {
+        modulus = pre .0 .0;
+        few = pre .0 .2;
+        room = omega (arith, length-part (a .from) m W (omega (arith, size, pre .1 .0)), size);
+        elements = λ i l. rw (at-part (a .from) m W i (omega (arith, size, l)), ← at-part (a .from) (a .count) W i l) (pre .1 .1 .below i l);
+      },
+      pre .0 .1,
+    )
 
 same-length : tie.Need-same-length
 same-length c = search needs
@@ -53,8 +55,8 @@ returns c =
     let pre = c .before .before .before .before .before .pre in
     let m = a .from + (4 * a .count + 8) - a .from in
     let size : m ≡ 4 * a .count + 8 = omega arith in
-    let fits : a .from + m ≤ length (now (a .area)) = omega (arith, size, pre .3) in
-    generated (a .p) (now (a .area)) (a .from) (a .count) m _ (c .before .before .shortest .result) (pre .0) size fits
+    let fits : a .from + m ≤ length (now (a .area)) = omega (arith, size, pre .1 .0) in
+    generated (a .m .p) (now (a .area)) (a .from) (a .count) m _ (c .before .before .shortest .result) (pre .0 .0) size fits
     (c .before .before .shortest .kept .1 .1 .0 ∙ length-part (a .from) m (now (a .area)) fits) (c .before .before .shortest .ensures)
 
 pub recurrence-of-terms-spec : {M : Type 1} → statement M

@@ -31,11 +31,8 @@ recurrence-of-terms-requires c κs =
     let pre = c .before .before .before .before .before .before .before .before .before .before .pre in
     let A = matrix (now (a .starts)) (now (a .columns)) (now (a .values)) in
     let done = c .before .before .before .terms .ensures in (
-      pre .0 .1,
-      omega (arith, pre .1 .0 .2),
-      omega (arith, pre .0 .0 .sized),
-      omega (arith, done .same-length, pre .1 .1 .0),
-      rw (done .terms) (vector-terms (a .p) A (a .left) _ _ (pre .0 .0 .positive)),
+      (pre .0 .1, pre .1 .0 .0, omega (arith, pre .1 .0 .2), omega (arith, pre .0 .0 .sized)),
+      (omega (arith, done .same-length, pre .1 .1 .0), rw (done .terms) (vector-terms (a .m .p) A (a .left) _ _ (pre .0 .0 .positive))),
     )
 
 mul-apply-within : tie.Need-mul-apply-within
@@ -67,7 +64,7 @@ apply-within-requires c κs =
           room = omega (arith, found .same-length, long, found .short, room);
           one = found .monic;
           elements =
-              subst (λ l. Vector (a .p) n l)
+              subst (λ l. Vector (a .m .p) n l)
               (sym (same-take 0 n (3 * n) _ _ (omega arith) (omega (arith, long, room)) (found .same-length) (found .before) ∙ done .front)) (pre .1 .1 .1);
         },
       ),

@@ -15,12 +15,12 @@ use Rattle.wiedemann.proofs.pass.terms.Statement.{statement}
 use Rattle.wiedemann.proofs.pass.terms.Tie as tie
 
 abbrev Inv-loop : tie.InvT-loop
-Inv-loop p reciprocal starts columns values words vectors j area₀ left n from₀ i₀ area from i =
-    (i + 1 ≤ 2 * left) × (3 * n + 2 * left ≤ length area₀) × Vector p n (part 0 n area₀)
-    × Iterated p (matrix starts columns values) (getD (projections p n words) j []) area₀ i from area
+Inv-loop m starts columns values words vectors j area₀ left n from₀ i₀ area from i =
+    (i + 1 ≤ 2 * left) × (3 * n + 2 * left ≤ length area₀) × Vector (m .p) n (part 0 n area₀)
+    × Iterated (m .p) (matrix starts columns values) (getD (projections (m .p) n words) j []) area₀ i from area
 
 abbrev μ-loop : tie.MeasureT-loop
-μ-loop p reciprocal starts columns values words vectors j area₀ left n from₀ i₀ area from i = 2 * left - i
+μ-loop m starts columns values words vectors j area₀ left n from₀ i₀ area from i = 2 * left - i
 
 sub-n : tie.Need-sub-n Inv-loop μ-loop
 sub-n c = search needs
@@ -31,7 +31,7 @@ mul-term c = search needs
 term-requires : tie.Need-term-requires Inv-loop μ-loop
 term-requires c κs =
     let pre = c .before .before .before .before .before .before .pre in (
-      (pre .1 .0 .0, pre .0 .positive, pre .0 .small, pre .0 .sized),
+      (pre .1 .0 .0, pre .0 .sized),
       (pre .1 .0 .3, omega (arith, pre .1 .1 .0), omega (arith, pre .1 .1 .0, pre .1 .0 .1), pre .1 .1 .1),
     )
 
@@ -42,13 +42,13 @@ loop-holds c =
     let A = matrix (now (a .starts)) (now (a .columns)) (now (a .values)) in
     let n = length (now (a .starts)) - 1 in
     let W = now (a .area) in
-    let u = getD (projections (a .p) n (now (a .words))) (a .j) [] in
-    let v = dot (a .p) u (part 0 n W) in
-    let begun = iterated-none (a .p) A u W v (omega (arith, pre .1 .1 .0, pre .1 .0 .1)) refl in
-    subst (λ X. (0 + 1 ≤ 2 * a .left) × (3 * n + 2 * a .left ≤ length X) × Vector (a .p) n (part 0 n X) × Iterated (a .p) A u X 0 0 X) (sym (c .before .before .term .ensures)) (
+    let u = getD (projections (a .m .p) n (now (a .words))) (a .j) [] in
+    let v = dot (a .m .p) u (part 0 n W) in
+    let begun = iterated-none (a .m .p) A u W v (omega (arith, pre .1 .1 .0, pre .1 .0 .1)) refl in
+    subst (λ X. (0 + 1 ≤ 2 * a .left) × (3 * n + 2 * a .left ≤ length X) × Vector (a .m .p) n (part 0 n X) × Iterated (a .m .p) A u X 0 0 X) (sym (c .before .before .term .ensures)) (
       omega (arith, pre .1 .0 .1),
       omega (arith, begun .same-length, pre .1 .1 .0),
-      subst (λ l. Vector (a .p) n l) (sym (begun .front)) (pre .1 .1 .1),
+      subst (λ l. Vector (a .m .p) n l) (sym (begun .front)) (pre .1 .1 .1),
       iterated-from (sym (begun .same-length)) (sym (begun .front)) begun,
     )
 
@@ -71,7 +71,7 @@ advance-requires c κs =
         record {
           seat = loop .inv .3 .seat;
           room = omega (arith, loop .inv .1, loop .inv .3 .same-length);
-          elements = rw (loop .inv .3 .holds) (vector-power (a .p) A (loop .i) _ (pre .0 .positive) (loop .inv .2));
+          elements = rw (loop .inv .3 .holds) (vector-power (a .m .p) A (loop .i) _ (pre .0 .positive) (loop .inv .2));
         },
       ),
     )
@@ -96,12 +96,12 @@ term-requires-2 c κs =
     let low = seat-low (next .seat) in
     let long = next .same-length in
     let held = loop .inv .3 .same-length in (
-      (pre .1 .0 .0, pre .0 .positive, pre .0 .small, pre .0 .sized),
+      (pre .1 .0 .0, pre .0 .sized),
       (
         pre .1 .0 .3,
         omega (arith, low, long, held, loop .inv .1),
         omega (arith, long, held, loop .inv .1, c .before .before .before .before .before .loop-test .taken),
-        rw (next .holds) (vector-step (a .p) A 0 _ _ (pre .0 .positive)),
+        rw (next .holds) (vector-step (a .m .p) A 0 _ _ (pre .0 .positive)),
       ),
     )
 
@@ -114,7 +114,7 @@ loop-again c =
     let loop = c .before .before .before .before .before .before .before .before .before .loop in
     let A = matrix (now (a .starts)) (now (a .columns)) (now (a .values)) in
     let n = length (now (a .starts)) - 1 in
-    let u = getD (projections (a .p) n (now (a .words))) (a .j) [] in
+    let u = getD (projections (a .m .p) n (now (a .words))) (a .j) [] in
     let test = c .before .before .before .before .before .before .before .before .loop-test .taken in (
       omega (arith, test),
       loop .inv .1,
@@ -132,8 +132,8 @@ returns c =
     let A = matrix (now (a .starts)) (now (a .columns)) (now (a .values)) in
     let n = length (now (a .starts)) - 1 in
     let W = now (a .area) in
-    let u = getD (projections (a .p) n (now (a .words))) (a .j) [] in
-    let begun = iterated-none (a .p) A u W (dot (a .p) u (part 0 n W)) (omega (arith, pre .1 .1 .0, pre .1 .0 .1)) refl in
+    let u = getD (projections (a .m .p) n (now (a .words))) (a .j) [] in
+    let begun = iterated-none (a .m .p) A u W (dot (a .m .p) u (part 0 n W)) (omega (arith, pre .1 .1 .0, pre .1 .0 .1)) refl in
     let loop = c .before .loop in
     iterated-all (a .left) (omega (arith, loop .inv .0, c .loop-test .left)) (omega (arith, pre .1 .1 .0))
     (iterated-from (ap length (c .before .before .before .before .term .ensures) ∙ begun .same-length) (ap (take n) (c .before .before .before .before .term .ensures) ∙ begun .front) (loop .inv .3))

@@ -53,10 +53,9 @@ dot-requires c κs =
           (record {
             few = pre .1 .2;
             enough = omega (arith, within (c .before), length-drop from words);
-            element = λ i l. omega (arith, pre .1 .1 .below i l, pre .0 .2);
+            element = λ i l. omega (arith, pre .1 .1 .below i l, pre .0 .small);
           }),
-      pre .0 .1,
-      pre .0 .0,
+      pre .0,
     )
 
 element-requires : tie.Need-element-requires
@@ -71,16 +70,16 @@ returns c =
     let n = length v in
     let from = a .j * n in
     c .dot .ensures
-    ∙ ap (λ u. dot (a .p) u v)
-    (table-ext n (λ i. at (take (length words - from) (drop from words)) i % a .p) (λ i. at words (from + i) % a .p)
-    (λ i l. ap (λ x. x % a .p) (ap (λ w. at w i) (tail words from) ∙ getD-drop from words i 0))
-    ∙ sym (projection-words (a .p) n words (a .j) (omega (arith, pre .1 .0 .count, vectorCount-div n words, c .before .before .if1 .taken))))
+    ∙ ap (λ u. dot (a .m .p) u v)
+    (table-ext n (λ i. at (take (length words - from) (drop from words)) i % a .m .p) (λ i. at words (from + i) % a .m .p)
+    (λ i l. ap (λ x. x % a .m .p) (ap (λ w. at w i) (tail words from) ∙ getD-drop from words i 0))
+    ∙ sym (projection-words (a .m .p) n words (a .j) (omega (arith, pre .1 .0 .count, vectorCount-div n words, c .before .before .if1 .taken))))
 
 returns-2 : tie.Need-returns-2
 returns-2 c =
     let a = c .before .before .before .before .args in
     let pre = c .before .before .before .before .pre in
-    c .element .ensures ∙ sym (projection-past (a .p) (now (a .words)) (now (a .v)) (a .j) (a .vectors) (pre .1 .0 .count) (c .before .if1 .left) (pre .1 .1 .below))
+    c .element .ensures ∙ sym (projection-past (a .m .p) (now (a .words)) (now (a .v)) (a .j) (a .vectors) (pre .1 .0 .count) (c .before .if1 .left) (pre .1 .1 .below))
 
 pub projected-spec : {M : Type 1} → statement M
 projected-spec =

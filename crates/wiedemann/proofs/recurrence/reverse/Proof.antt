@@ -1,21 +1,21 @@
--- `wiedemann::recurrence::reverse` meets its contract: the places outside i and j are in reverse order. Assumes nothing.
+-- `wiedemann::recurrence::reverse` meets its contract: the places outside i and j are in reverse order.
 use Prim.Native.Nat.{_-_}
 use native.Mathlib.Omega.{arith}
 use denote.Ref.{now}
 use lib.ListN.{length-set}
 use borrow.Author.Needs.{needs}
-use Rattle.wiedemann.proofs.Turning.{Turning, turning-none, turning-more, turning-all}
+use Rattle.wiedemann.proofs.Reversing.{Reversing, reversing-none, reversing-more, reversing-all}
 use Rattle.wiedemann.proofs.recurrence.reverse.Statement.{statement}
 use Rattle.wiedemann.proofs.recurrence.reverse.Tie as tie
 
 abbrev Inv-loop : tie.InvT-loop
-Inv-loop work₀ from length i₀ j₀ work i j = Turning work₀ from length i j work
+Inv-loop work₀ from length i₀ j₀ work i j = Reversing work₀ from length i j work
 
 abbrev μ-loop : tie.MeasureT-loop
 μ-loop work₀ from length i₀ j₀ work i j = j - i
 
 loop-holds : tie.Need-loop-holds Inv-loop μ-loop
-loop-holds c = turning-none _ _ _
+loop-holds c = reversing-none _ _ _
 
 add-low : tie.Need-add-low Inv-loop μ-loop
 add-low c = search needs
@@ -66,13 +66,13 @@ loop-again : tie.Need-loop-again Inv-loop μ-loop
 loop-again c =
     let a = c .before .before .before .before .args in
     let l = c .before .before .before .loop in
-    turning-more (now (a .work)) (a .from) (a .length) (l .i) (l .j) (l .work) (l .inv) (omega arith) (omega arith)
+    reversing-more (now (a .work)) (a .from) (a .length) (l .i) (l .j) (l .work) (l .inv) (omega arith) (omega arith)
 
 same-length : tie.Need-same-length Inv-loop μ-loop
 same-length c = search needs
 
 returns : tie.Need-returns Inv-loop μ-loop
-returns c = turning-all (c .before .loop .inv) (c .loop-test .left)
+returns c = reversing-all (c .before .loop .inv) (c .loop-test .left)
 
 pub reverse-spec : {M : Type 1} → statement M
 reverse-spec =

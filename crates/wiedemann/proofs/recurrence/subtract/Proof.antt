@@ -1,4 +1,4 @@
--- `wiedemann::recurrence::subtract` meets its contract: t lies after what is written of q. Assumes nothing.
+-- `wiedemann::recurrence::subtract` meets its contract: t lies after what is written of q.
 use mathlib.Core.Path.{ap, ap₂, _∙_}
 use Prim.Native.Nat.{_+_, _-_, _≤_}
 use native.Mathlib.Omega.{arith}
@@ -12,13 +12,13 @@ use Rattle.wiedemann.proofs.recurrence.subtract.Statement.{statement}
 use Rattle.wiedemann.proofs.recurrence.subtract.Tie as tie
 
 abbrev Inv-loop : tie.InvT-loop
-Inv-loop p factor work₀ q t size w i₀ work i = (i ≤ size) × Written work₀ q i (λ k. minus p (at work₀ (q + k)) (times p factor (at work₀ (t + k)))) work
+Inv-loop m factor work₀ q t size k i₀ work i = (i ≤ size) × Written work₀ q i (λ j. minus (m .p) (at work₀ (q + j)) (times (m .p) factor (at work₀ (t + j)))) work
 
 abbrev μ-loop : tie.MeasureT-loop
-μ-loop p factor work₀ q t size w i₀ work i = size - i
+μ-loop m factor work₀ q t size k i₀ work i = size - i
 
-quotient-requires : tie.Need-quotient-requires Inv-loop μ-loop
-quotient-requires c κs = search needs
+of-requires : tie.Need-of-requires Inv-loop μ-loop
+of-requires c κs = (c .before .pre .0 .0, c .before .pre .0 .1 .small)
 
 loop-holds : tie.Need-loop-holds Inv-loop μ-loop
 loop-holds c = search needs
@@ -32,17 +32,17 @@ mul-difference c = search needs
 slice-read-difference : tie.Need-slice-read-difference Inv-loop μ-loop
 slice-read-difference c = search needs
 
-add-scaled : tie.Need-add-scaled Inv-loop μ-loop
-add-scaled c = search needs
+add-times : tie.Need-add-times Inv-loop μ-loop
+add-times c = search needs
 
-mul-scaled : tie.Need-mul-scaled Inv-loop μ-loop
-mul-scaled c = search needs
+mul-times : tie.Need-mul-times Inv-loop μ-loop
+mul-times c = search needs
 
-slice-read-scaled : tie.Need-slice-read-scaled Inv-loop μ-loop
-slice-read-scaled c = search needs
+slice-read-times : tie.Need-slice-read-times Inv-loop μ-loop
+slice-read-times c = search needs
 
-scaled-requires : tie.Need-scaled-requires Inv-loop μ-loop
-scaled-requires c κs = search needs
+times-requires : tie.Need-times-requires Inv-loop μ-loop
+times-requires c κs = c .before .before .before .before .of .ensures .1
 
 difference-requires : tie.Need-difference-requires Inv-loop μ-loop
 difference-requires c κs =
@@ -50,9 +50,10 @@ difference-requires c κs =
     let l = c .before .before .before .before .loop in
     let e = l .inv .1 .after (a .q + l .i) (omega arith) in
     let q = c .before .before .before .before .before .before .before .pre .1 (l .i) (omega arith) in
-    let s = c .scaled .ensures in
-    let b = times-lt (a .p) (a .factor) (getD (l .work) (a .t + l .i) 0) (omega arith) in
-    (omega arith, omega arith, omega arith)
+    let start = c .before .before .before .before .before .before .before in
+    let k = c .before .before .before .before .before .of in
+    let b = times-lt (a .m .p) (k .result .constant) (getD (l .work) (a .t + l .i) 0) (start .pre .0 .1 .positive) in
+    (start .pre .0 .1, omega (arith, e, q), omega (arith, c .times .ensures, b))
 
 add-work : tie.Need-add-work Inv-loop μ-loop
 add-work c = search needs
@@ -76,7 +77,7 @@ loop-again c =
     let e = l .inv .1 .after (a .q + l .i) (omega arith) in
     let e′ = l .inv .1 .after (a .t + l .i) (omega arith) in (
       omega arith,
-      written-more _ (l .inv .1) (omega arith) (c .difference .ensures ∙ ap₂ (minus (a .p)) e (c .before .scaled .ensures ∙ ap (times (a .p) (a .factor)) e′)),
+      written-more _ (l .inv .1) (omega arith) (c .difference .ensures ∙ ap₂ (minus (a .m .p)) e (c .before .times .ensures ∙ ap₂ (times (a .m .p)) (c .before .before .before .before .before .before .of .ensures .0) e′)),
     )
 
 same-length : tie.Need-same-length Inv-loop μ-loop
@@ -91,15 +92,15 @@ subtract-spec =
     (tie.spec
     Inv-loop
     μ-loop
-    quotient-requires
+    of-requires
     loop-holds
     add-difference
     mul-difference
     slice-read-difference
-    add-scaled
-    mul-scaled
-    slice-read-scaled
-    scaled-requires
+    add-times
+    mul-times
+    slice-read-times
+    times-requires
     difference-requires
     add-work
     mul-work
