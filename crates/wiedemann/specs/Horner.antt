@@ -1,6 +1,7 @@
 -- Horner's rule for the polynomial of a matrix.
 --     stepAt           its element i
 --     step p A c x v   element i is c × x[i] plus the product of row i with v: Horner's step, and the product if c is 0
+--     row-bounds, row-reduced      a row by the bounds that a loop over rows carries: they are in order, and its sum, reduced
 --     step-product     step p A 0 x v ≡ product p A v
 --     sum-head, sum-scale, sum-swap, sum-mod-ext      laws of sums
 --     power-zero, power-suc      the clauses of power
@@ -12,23 +13,35 @@
 --     vector-table, vector-step, vector-product, vector-apply      what is reduced has elements below p
 use mathlib.Core.Path.{_≡_, refl, sym, ap, ap₂, _∙_}
 use mathlib.Core.List.{List, [], _∷_}
-use Prim.Native.Nat.{ℕ, zero, suc, _+_, _*_, _-_, _%_, _<_}
+use Prim.Native.Nat.{ℕ, zero, suc, _+_, _*_, _-_, _%_, _≤_, _<_}
 use native.Mathlib.Nat.{zero-add, add-zero, zero-mul, mul-zero, mul-add, mul-left-comm, mod-lt, add-mod-mod}
 use native.Mathlib.Omega.{arith}
 use lib.ListN.{length, drop}
 use lib.Seq.{drop-cons, drop-length}
-use Rattle.meaning.specs.List.{at, sum, table}
+use Rattle.meaning.specs.List.{at, sum, sumFrom, table}
 use Rattle.meaning.specs.Field.{times}
 use Rattle.meaning.specs.Matrix.{Matrix, size, product, power, apply}
 use Rattle.laws.specs.List.{sum-zero, sum-suc, sum-ext, sum-zeros, sum-add, sum-mod, length-table, getD-table, table-ext}
 use Rattle.residue.specs.Numbers.{mul-mod-mod}
-use Rattle.checks.specs.Valid.{Valid, Vector, rowProduct}
+use Rattle.checks.specs.Valid.{Valid, Vector, term, rowProduct}
+use Rattle.wiedemann.specs.declared.sums.Total.{Total}
+use Rattle.wiedemann.specs.Sums.{number}
 
 abbrev pub stepAt : ℕ → Matrix → ℕ → List ℕ → List ℕ → ℕ → ℕ
 stepAt p A c x v i = (c * at x i + rowProduct A v i) % p
 
 unfoldable pub step : ℕ → Matrix → ℕ → List ℕ → List ℕ → List ℕ
 step p A c x v = table (size A) (stepAt p A c x v)
+
+module _ (A : Matrix) (i from to : ℕ) (here : from ≡ at (A .starts) i) (next : to ≡ at (A .starts) (i + 1)) where
+  pub row-bounds : {p : ℕ} → Valid p A → i < size A → (from ≤ to) × (to ≤ length (A .columns))
+  row-bounds h l = (omega (arith, here, next, h .rise i l), omega (arith, next, h .within i l))
+
+  pub row-reduced : (p start s x : ℕ) (v w : List ℕ) (r : Total) → start ≡ s → v ≡ w
+      → number r ≡ start + sumFrom from to (term (A .columns) (A .values) v) → x ≡ number r % p → x ≡ (s + rowProduct A w i) % p
+  row-reduced p start s x v w r e q summed reduced =
+      reduced ∙ ap (λ y. y % p) summed ∙ ap₂ (λ y l. (y + sumFrom from to (term (A .columns) (A .values) l)) % p) e q
+      ∙ ap₂ (λ a b. (s + sumFrom a b (term (A .columns) (A .values) w)) % p) here next
 
 pub table-step : (p : ℕ) (A : Matrix) (c : ℕ) (x v : List ℕ) → step p A c x v ≡ table (size A) (stepAt p A c x v)
 unfolding step

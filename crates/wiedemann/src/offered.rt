@@ -4,6 +4,7 @@ use crate::modulus::Modulus;
 use crate::slice::is_zero;
 use checks::system_refusal;
 use checks::takes_refusal;
+use checks::wide;
 use field::Field;
 ghost use mathlib.Core.Path.{_≡_};
 ghost use Prim.Native.Nat.{_-_, _<_};
@@ -38,11 +39,14 @@ fn agrees(m: Modulus, starts: &[u32], columns: &[u32], values: &[u32], x: &[u32]
     ensures { λ r. ⌜ r ≡ all (length (now (starts .entry)) - 1) (λ i. eqb (at (product (m .p) (matrix (now (starts .entry)) (now (columns .entry)) (now (values .entry))) (now (x .entry))) i) (at (now (b .entry)) i)) ⌝ }
 {
     let n = starts.len() - 1;
+    let mut from = wide(starts[0]);
     let mut i = 0;
     while i < n {
-        if row(m, 0, i, starts, columns, values, x) != element(b, i) {
+        let to = wide(starts[i + 1]);
+        if row(0, from, to, columns, values, x).residue(m) != element(b, i) {
             return false;
         }
+        from = to;
         i += 1;
     }
     true
