@@ -9,7 +9,7 @@
 --     table-step, table-apply, at-product, at-apply      step, product and apply by their elements
 --     apply-one        a(A)v for one coefficient a
 --     apply-cons       (a + z·g)(A)v is a step with a from g(A)v
---     horner-begins, horner-goes-on      the rule as a loop runs it
+--     horner-begins, horner-goes-on      the rule as a loop runs it: from the last coefficient, and by one step more
 --     vector-table, vector-step, vector-product, vector-apply      what is reduced has elements below p
 use mathlib.Core.Path.{_≡_, refl, sym, ap, ap₂, _∙_}
 use mathlib.Core.List.{List, [], _∷_}
@@ -169,10 +169,10 @@ apply-one p A a v =
 
 -- ---- the rule as a loop runs it: from the last coefficient to the first
 
-pub horner-begins : (p : ℕ) (A : Matrix) (g v : List ℕ) → length v ≡ size A → 0 < length g
-    → table (length v) (λ j. times p (at g (length g - 1)) (at v j)) ≡ apply p A (drop (length g - 1) g) v
-horner-begins p A g v e l =
-    ap (λ n. table n (λ j. times p (at g last) (at v j))) e ∙ sym (apply-one p A (at g last) v)
+pub horner-begins : (p : ℕ) (A : Matrix) (g v w : List ℕ) → length v ≡ size A → 0 < length g
+    → w ≡ table (length v) (λ j. times p (at g (length g - 1)) (at v j)) → w ≡ apply p A (drop (length g - 1) g) v
+horner-begins p A g v w e l made =
+    made ∙ ap (λ n. table n (λ j. times p (at g last) (at v j))) e ∙ sym (apply-one p A (at g last) v)
     ∙ ap (λ h. apply p A h v)
     (sym (drop-cons g last 0 (omega (arith, l)) ∙ ap (λ k. at g last ∷ drop k g) whole ∙ ap (λ h. at g last ∷ h) (drop-length g)))
   where
@@ -182,11 +182,12 @@ horner-begins p A g v e l =
     whole : suc (length g - 1) ≡ length g
     whole = omega (arith, l)
 
-pub horner-goes-on : (p : ℕ) (A : Matrix) → Valid p A → (g v : List ℕ) (i : ℕ) → 0 < i → i < length g
-    → step p A (at g (i - 1)) v (apply p A (drop i g) v) ≡ apply p A (drop (i - 1) g) v
-horner-goes-on p A h g v i l k =
+pub horner-goes-on : (p : ℕ) (A : Matrix) → Valid p A → (g v : List ℕ) (i : ℕ) (w w′ : List ℕ) → 0 < i → i < length g
+    → w ≡ apply p A (drop i g) v → w′ ≡ step p A (at g (i - 1)) v w → w′ ≡ apply p A (drop (i - 1) g) v
+horner-goes-on p A h g v i w w′ l k held made =
     let next : i ≡ suc (i - 1) = omega (arith, l) in
-    ap (λ m. step p A (at g (i - 1)) v (apply p A (drop m g) v)) next
+    made ∙ ap (step p A (at g (i - 1)) v) held
+    ∙ ap (λ m. step p A (at g (i - 1)) v (apply p A (drop m g) v)) next
     ∙ sym (apply-cons p A h (at g (i - 1)) (drop (suc (i - 1)) g) v) ∙ ap (λ m. apply p A m v) (sym (drop-cons g (i - 1) 0 (omega (arith, k))))
 
 -- ---- their elements

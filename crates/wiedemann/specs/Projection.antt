@@ -5,23 +5,26 @@
 --     sumFrom-zero     a sum from 0 on
 --     sum-one          a sum of which one term is not 0
 --     dot-words        a dot product with words, each taken modulo p: one reduction is enough
---     dot-unit         a dot product with a unit vector: an element
---     projection-words, projection-unit      "the R vectors, then the unit vectors 1 to n"
+--     dot-unit, dot-nothing      a dot product with a unit vector: an element; with nothing: 0
+--     projection-words, projection-unit, projection-past      "the R vectors, then the unit vectors 1 to n", and nothing after them
+--     projected-element      what a projection after the words makes of a vector
 use mathlib.Core.Path.{_≡_, refl, sym, ap, ap₂, _∙_}
 use mathlib.Core.Logic.{_≢_, _⊎_, inl, inr}
 use mathlib.Core.Bool.{cond}
 use mathlib.Core.List.{List, []}
 use Prim.Native.Nat.{ℕ, zero, suc, _+_, _*_, _/_, _%_, _≤_, _<_}
-use native.Mathlib.Nat.{zero-add, add-zero, zero-mul, one-mul, mod-eq-of-lt, eq-or-lt-of-le, le-of-suc-le-suc, sub-zero}
+use native.Mathlib.Nat.{zero-add, add-zero, zero-mul, one-mul, zero-mod, mod-eq-of-lt, eq-or-lt-of-le, le-of-suc-le-suc, sub-zero}
+use native.Mathlib.Decide.{decLt}
 use native.Mathlib.Omega.{arith}
 use lib.Dec.{eqb}
-use lib.ListN.{length, getD, List·getD-append}
+use lib.ListN.{length, getD, List·getD-append, List·getD-eq-default}
 use lib.Seq.{getD-append-add}
 use borrow.Author.Tests.{eq-eqb, ne-eqb}
 use Rattle.meaning.specs.List.{at, sum, sumFrom, table}
 use Rattle.meaning.specs.Solver.{vectors, units, projections, dot}
 use Rattle.laws.specs.List.{sum-suc, sum-ext, sum-zeros, length-table, getD-table}
 use Rattle.residue.specs.Numbers.{mod-mul-mod}
+use Rattle.checks.specs.Valid.{Vector}
 use Rattle.wiedemann.specs.Horner.{sum-mod-ext}
 
 abbrev pub wordTerm : List ℕ → List ℕ → ℕ → ℕ
@@ -73,6 +76,10 @@ dot-unit p v j l h =
     others i k ne =
         ap (λ x. x * at v i) (getD-table (length v) (λ m. cond (eqb m j) 1 0) i 0 k ∙ ap (λ t. cond t 1 0) (ne-eqb i j ne)) ∙ zero-mul (at v i)
 
+pub dot-nothing : (p : ℕ) (v : List ℕ) → dot p [] v ≡ 0
+unfolding dot
+dot-nothing p v = ap (λ x. x % p) (sum-zeros (length v) (λ i. at [] i * at v i) (λ i l. zero-mul (at v i))) ∙ zero-mod p
+
 module _ (p n : ℕ) (words : List ℕ) where
   pub projection-words : (j : ℕ) → j < length words / n → getD (projections p n words) j [] ≡ table n (λ i. at words (j * n + i) % p)
   unfolding projections vectors
@@ -85,3 +92,20 @@ module _ (p n : ℕ) (words : List ℕ) where
   projection-unit k l =
       ap (λ m. getD (projections p n words) (m + k) []) (sym (length-table (length words / n) (λ j. table n (λ i. at words (j * n + i) % p))))
       ∙ getD-append-add (vectors p n words) (units n) k [] ∙ getD-table n (λ j. table n (λ i. cond (eqb i j) 1 0)) k [] l
+
+  pub projection-past : (k : ℕ) → n ≤ k → getD (projections p n words) (length words / n + k) [] ≡ []
+  unfolding projections vectors units
+  projection-past k l =
+      ap (λ m. getD (projections p n words) (m + k) []) (sym (length-table (length words / n) (λ j. table n (λ i. at words (j * n + i) % p))))
+      ∙ getD-append-add (vectors p n words) (units n) k []
+      ∙ List·getD-eq-default (units n) [] (omega (arith, length-table n (λ j. table {A = ℕ} n (λ i. cond (eqb i j) 1 0)), l))
+
+pub projected-element : (p : ℕ) (words v : List ℕ) → Vector p (length v) v → (k : ℕ)
+    → dot p (getD (projections p (length v) words) (length words / length v + k) []) v ≡ at v k
+projected-element p words v h k = go (decLt k (length v))
+  where
+    go : Dec (k < length v) → dot p (getD (projections p (length v) words) (length words / length v + k) []) v ≡ at v k
+    go (yes l) = ap (λ u. dot p u v) (projection-unit p (length v) words k l) ∙ dot-unit p v k l (h .below k l)
+    go (no l) =
+        let past : length v ≤ k = omega (arith, l) in
+        ap (λ u. dot p u v) (projection-past p (length v) words k past) ∙ dot-nothing p v ∙ sym (List·getD-eq-default v 0 past)

@@ -255,17 +255,12 @@ pub(crate) fn transposed_into(
     ensures { λ r. ⌜ now (out .exit) ≡ transposed p (matrix (now (starts .entry)) (now (columns .entry)) (now (values .entry))) (now (v .entry)) ⌝ }
 {
     clear(out, 0, v.len());
+    let mut from = wide(starts[0]);
     let mut i = 0;
     while i < v.len() {
-        scatter(
-            p,
-            v[i],
-            wide(starts[i]),
-            wide(starts[i + 1]),
-            columns,
-            values,
-            out,
-        );
+        let to = wide(starts[i + 1]);
+        scatter(p, v[i], from, to, columns, values, out);
+        from = to;
         i += 1;
     }
 }

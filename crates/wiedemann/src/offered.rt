@@ -1,6 +1,7 @@
 // Two checks of a vector that anyone offers: does A take x to b, and is w not zero and taken to zero. Neither needs the solver.
 use crate::matrix::row;
 use crate::modulus::Modulus;
+use crate::slice::element;
 use crate::slice::is_zero;
 use checks::system_refusal;
 use checks::takes_refusal;
@@ -15,21 +16,14 @@ ghost use Rattle.meaning.specs.Matrix.{matrix, product};
 ghost use Rattle.meaning.specs.Calls.{takesRefusal, takesAnswer, isNullRefusal, isNullAnswer};
 ghost use Rattle.checks.specs.Valid.{Valid, Vector};
 ghost use Rattle.wiedemann.specs.Modulus.{Modular};
-ghost use Rattle.wiedemann.specs.Answers.{Says};
+ghost use Rattle.wiedemann.specs.Answers.{Decides};
 
 // What a check of an offered vector answers.
-pub enum Verdict {
+pub enum Offered {
     Yes,
     No,
     // The number of the first check that turned the input down.
     Refused(u32),
-}
-
-// Element i of b, 0 past its end.
-fn element(b: &[u32], i: usize) -> u32
-    ensures { λ r. ⌜ r ≡ at (now (b .entry)) i ⌝ }
-{
-    if i < b.len() { b[i] } else { 0 }
 }
 
 // Every element of Ax is that of b, which has zeros after its end.
@@ -70,36 +64,36 @@ pub fn takes(
     values: &[u32],
     x: &[u32],
     b: &[u32],
-) -> Verdict
-    ensures { λ r. ⌜ Says r (takesRefusal (field .p) (matrix (now (starts .entry)) (now (columns .entry)) (now (values .entry))) (now (x .entry)) (now (b .entry))) (takesAnswer (field .p) (matrix (now (starts .entry)) (now (columns .entry)) (now (values .entry))) (now (x .entry)) (now (b .entry))) ⌝ }
+) -> Offered
+    ensures { λ r. ⌜ Decides r (takesRefusal (field .p) (matrix (now (starts .entry)) (now (columns .entry)) (now (values .entry))) (now (x .entry)) (now (b .entry))) (takesAnswer (field .p) (matrix (now (starts .entry)) (now (columns .entry)) (now (values .entry))) (now (x .entry)) (now (b .entry))) ⌝ }
 {
     let p = field.p;
     let number = takes_refusal(p, starts, columns, values, x, b);
     if number != 0 {
-        return Verdict::Refused(number);
+        return Offered::Refused(number);
     }
     if agrees(Modulus::of(p), starts, columns, values, x, b) {
-        Verdict::Yes
+        Offered::Yes
     } else {
-        Verdict::No
+        Offered::No
     }
 }
 
 // Whether w is not zero and A takes it to zero.
-pub fn is_null(field: Field, starts: &[u32], columns: &[u32], values: &[u32], w: &[u32]) -> Verdict
-    ensures { λ r. ⌜ Says r (isNullRefusal (field .p) (matrix (now (starts .entry)) (now (columns .entry)) (now (values .entry))) (now (w .entry))) (isNullAnswer (field .p) (matrix (now (starts .entry)) (now (columns .entry)) (now (values .entry))) (now (w .entry))) ⌝ }
+pub fn is_null(field: Field, starts: &[u32], columns: &[u32], values: &[u32], w: &[u32]) -> Offered
+    ensures { λ r. ⌜ Decides r (isNullRefusal (field .p) (matrix (now (starts .entry)) (now (columns .entry)) (now (values .entry))) (now (w .entry))) (isNullAnswer (field .p) (matrix (now (starts .entry)) (now (columns .entry)) (now (values .entry))) (now (w .entry))) ⌝ }
 {
     let p = field.p;
     let number = system_refusal(p, starts, columns, values, w);
     if number != 0 {
-        return Verdict::Refused(number);
+        return Offered::Refused(number);
     }
     if is_zero(w) {
-        return Verdict::No;
+        return Offered::No;
     }
     if vanishes(Modulus::of(p), starts, columns, values, w) {
-        Verdict::Yes
+        Offered::Yes
     } else {
-        Verdict::No
+        Offered::No
     }
 }

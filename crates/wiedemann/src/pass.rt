@@ -16,6 +16,7 @@ ghost use Rattle.wiedemann.specs.Turns.{Seat, Other, Turning, Advanced, 
 ghost use Rattle.wiedemann.specs.Factor.{cross, productAt, Multiplied, nothing};
 use crate::matrix::step_within;
 use crate::modulus::Modulus;
+use crate::projection::Projection;
 use crate::projection::projected;
 use crate::recurrence::shortest;
 use crate::slice::copy;
@@ -66,7 +67,7 @@ fn seen(
     ensures { λ r. ⌜ r ≡ dot (m .p) (getD (projections (m .p) n (now (words .entry))) j []) (part from n (now (area .entry))) ⌝ }
 {
     let end = from + n;
-    projected(m, words, vectors, j, &area[from..end])
+    projected(m, words, Projection { vectors, index: j }, &area[from..end])
 }
 
 // It becomes a term.

@@ -1,12 +1,11 @@
 use mathlib.Core.Path.{_≡_, sym, ap, _∙_, subst}
 use Prim.Native.Nat.{_-_, _%_, _<_}
 use native.Mathlib.Omega.{arith}
-use lib.ListN.{length, getD, drop}
+use lib.ListN.{length, drop}
 use denote.Ref.{now}
 use Rattle.meaning.specs.Matrix.{matrix, apply}
 use Rattle.checks.specs.Valid.{Vector}
-use Rattle.wiedemann.specs.Horner.{step, horner-goes-on, vector-apply}
-use borrow.Author.Needs.{needs}
+use Rattle.wiedemann.specs.Horner.{horner-goes-on, vector-apply}
 use Rattle.wiedemann.proofs.matrix.horner.Statement.{statement}
 use Rattle.wiedemann.proofs.matrix.horner.Tie as tie
 
@@ -33,8 +32,8 @@ half c =
     let at = start .args in
     let A = matrix (now (at .starts)) (now (at .columns)) (now (at .values)) in
     let loop = c .before .before .before .before .before .loop in
-    c .step .ensures ∙ ap (step (at .m .p) A (getD (now (at .g)) (loop .i - 1) 0) (now (at .v))) (loop .inv .3)
-    ∙ horner-goes-on (at .m .p) A (start .pre .0) (now (at .g)) (now (at .v)) (loop .i) (c .before .before .before .before .loop-test .taken) (loop .inv .0)
+    horner-goes-on (at .m .p) A (start .pre .0) (now (at .g)) (now (at .v)) (loop .i) (loop .out) (c .step .last .1 .1 .1 .1 .1 .1 .1 .0) (c .before .before .before .before .loop-test .taken)
+    (loop .inv .0) (loop .inv .3) (c .step .ensures)
 
 half-vector : (c : tie.After-step Inv-loop μ-loop) → Vector (c .before .before .before .before .before .before .before .before .before .before .before .before .before .before .before .before .before .before .before .before .args .m .p) (length (now (c .before .before .before .before .before .before .before .before .before .before .before .before .before .before .before .before .before .before .before .before .args .starts)) - 1) (c .step .last .1 .1 .1 .1 .1 .1 .1 .0)
 half-vector c =
@@ -55,7 +54,7 @@ sub-i : tie.Need-sub-i Inv-loop μ-loop
 sub-i c = omega (arith, c .loop-test .taken)
 
 mul-step : tie.Need-mul-step Inv-loop μ-loop
-mul-step c = search needs
+mul-step c = omega (arith, c .before .loop .inv .0, c .before .before .before .before .before .before .before .before .before .before .before .before .before .before .before .before .good)
 
 shared-slice-read-step : tie.Need-shared-slice-read-step Inv-loop μ-loop
 shared-slice-read-step c = omega (arith, c .before .before .loop .inv .0)
@@ -93,8 +92,8 @@ loop-again c =
       omega (arith, loop .inv .0),
       omega (arith, loop .inv .1),
       half-vector (c .before .before .before .before .before .before .before .before) .places,
-      c .before .before .step2 .ensures ∙ ap (step (at .m .p) A (getD (now (at .g)) (loop .i - 1 - 1) 0) (now (at .v))) (half (c .before .before .before .before .before .before .before .before))
-          ∙ horner-goes-on (at .m .p) A (start .pre .0) (now (at .g)) (now (at .v)) (loop .i - 1) next (omega (arith, loop .inv .0)),
+      horner-goes-on (at .m .p) A (start .pre .0) (now (at .g)) (now (at .v)) (loop .i - 1) (c .before .before .before .before .before .before .before .before .step .last .1 .1 .1 .1 .1 .1 .1 .0) (c .before .before .step2 .last .1 .1 .1 .1 .1 .1 .1 .0)
+          next (omega (arith, loop .inv .0)) (half (c .before .before .before .before .before .before .before .before)) (c .before .before .step2 .ensures),
     )
 
 same-length : tie.Need-same-length Inv-loop μ-loop

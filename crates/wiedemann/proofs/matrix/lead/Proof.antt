@@ -1,12 +1,11 @@
-use mathlib.Core.Path.{_≡_, sym, ap, _∙_, subst}
+use mathlib.Core.Path.{_≡_, sym, _∙_, subst}
 use Prim.Native.Nat.{_-_}
 use native.Mathlib.Omega.{arith}
-use lib.ListN.{length, getD, drop}
+use lib.ListN.{length, drop}
 use denote.Ref.{now}
 use Rattle.meaning.specs.Matrix.{matrix, apply}
 use Rattle.checks.specs.Valid.{Vector}
-use Rattle.wiedemann.specs.Horner.{step, horner-begins, horner-goes-on, vector-apply}
-use borrow.Author.Needs.{needs}
+use Rattle.wiedemann.specs.Horner.{horner-begins, horner-goes-on, vector-apply}
 use Rattle.wiedemann.proofs.matrix.lead.Statement.{statement}
 use Rattle.wiedemann.proofs.matrix.lead.Tie as tie
 
@@ -17,13 +16,14 @@ begun : (c : tie.After-multiple2)
 begun c =
     let start = c .before .before .before .before .before .before .before .before .before .before .before in
     let at = start .args in
-    c .multiple2 .ensures ∙ horner-begins (at .m .p) (matrix (now (at .starts)) (now (at .columns)) (now (at .values))) (now (at .g)) (now (at .v)) (start .pre .1 .3 .places) (start .pre .1 .4)
+    horner-begins (at .m .p) (matrix (now (at .starts)) (now (at .columns)) (now (at .values))) (now (at .g)) (now (at .v)) (c .multiple2 .last .1 .1 .1 .0) (start .pre .1 .3 .places) (start .pre .1 .4)
+    (c .multiple2 .ensures)
 
 sub-i : tie.Need-sub-i
 sub-i c = omega (arith, c .before .before .before .before .before .before .before .pre .1 .4)
 
 mul-multiple : tie.Need-mul-multiple
-mul-multiple c = search needs
+mul-multiple c = omega (arith, c .before .before .before .before .before .before .before .before .good)
 
 shared-slice-read-multiple : tie.Need-shared-slice-read-multiple
 shared-slice-read-multiple c = omega (arith, c .before .before .before .before .before .before .before .before .before .pre .1 .4)
@@ -35,7 +35,7 @@ multiple-requires c κs =
     (pre .1 .5 .below (length (now (start .args .g)) - 1) (omega (arith, pre .1 .4)), pre .0 .small, pre .1 .1 ∙ sym (pre .1 .3 .places))
 
 same-length : tie.Need-same-length
-same-length c = search needs
+same-length c = c .before .before .multiple .kept .1 .1 .1 .0
 
 returns : tie.Need-returns
 returns c =
@@ -44,11 +44,12 @@ returns c =
     let pre = start .pre in (
       omega (arith, pre .1 .4),
       c .before .before .before .before .before .if1 .taken,
-      c .before .before .multiple .ensures ∙ horner-begins (at .m .p) (matrix (now (at .starts)) (now (at .columns)) (now (at .values))) (now (at .g)) (now (at .v)) (pre .1 .3 .places) (pre .1 .4),
+      horner-begins (at .m .p) (matrix (now (at .starts)) (now (at .columns)) (now (at .values))) (now (at .g)) (now (at .v)) (c .before .before .multiple .last .1 .1 .1 .0) (pre .1 .3 .places) (pre .1 .4)
+          (c .before .before .multiple .ensures),
     )
 
 mul-multiple-2 : tie.Need-mul-multiple-2
-mul-multiple-2 c = search needs
+mul-multiple-2 c = omega (arith, c .before .before .before .before .before .before .before .before .good)
 
 shared-slice-read-multiple-2 : tie.Need-shared-slice-read-multiple-2
 shared-slice-read-multiple-2 c = omega (arith, c .before .before .before .before .before .before .before .before .before .pre .1 .4)
@@ -63,7 +64,7 @@ sub-step : tie.Need-sub-step
 sub-step c = omega (arith, c .before .before .before .before .before .if1 .left)
 
 mul-step : tie.Need-mul-step
-mul-step c = search needs
+mul-step c = omega (arith, c .before .before .before .before .before .before .before .before .before .before .before .before .before .good)
 
 shared-slice-read-step : tie.Need-shared-slice-read-step
 shared-slice-read-step c = omega (arith, c .before .before .before .before .before .before .before .before .before .before .before .before .before .before .pre .1 .4)
@@ -88,10 +89,10 @@ sub-result : tie.Need-sub-result
 sub-result c = omega (arith, c .before .before .before .before .before .before .before .before .before .before .before .if1 .left)
 
 same-length-2 : tie.Need-same-length-2
-same-length-2 c = search needs
+same-length-2 c = c .before .before .step .kept .1 .1 .1 .1 .1 .1 .1 .0
 
 same-length-3 : tie.Need-same-length-3
-same-length-3 c = search needs
+same-length-3 c = c .before .before .before .before .before .before .before .before .multiple2 .kept .1 .1 .1 .0
 
 returns-2 : tie.Need-returns-2
 returns-2 c =
@@ -102,8 +103,8 @@ returns-2 c =
     let i = length (now (at .g)) - 1 in (
       omega (arith, start .pre .1 .4),
       omega (arith, odd),
-      c .before .before .step .ensures ∙ ap (step (at .m .p) A (getD (now (at .g)) (i - 1) 0) (now (at .v))) (begun (c .before .before .before .before .before .before .before .before))
-          ∙ horner-goes-on (at .m .p) A (start .pre .0) (now (at .g)) (now (at .v)) i (omega (arith, odd)) (omega (arith, start .pre .1 .4)),
+      horner-goes-on (at .m .p) A (start .pre .0) (now (at .g)) (now (at .v)) i (c .before .before .before .before .before .before .before .before .multiple2 .last .1 .1 .1 .0) (c .before .before .step .last .1 .1 .1 .1 .1 .1 .1 .0)
+          (omega (arith, odd)) (omega (arith, start .pre .1 .4)) (begun (c .before .before .before .before .before .before .before .before)) (c .before .before .step .ensures),
     )
 
 pub lead-spec : {M : Type 1} → statement M

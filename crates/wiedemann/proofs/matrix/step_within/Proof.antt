@@ -1,6 +1,6 @@
 use mathlib.Core.Path.{_≡_, sym, ap, _∙_, subst}
 use Prim.Native.Nat.{_+_, _-_, _*_, _≤_}
-use native.Mathlib.Nat.{add-sub-cancel-left}
+use native.Mathlib.Nat.{add-sub-cancel-left, le-add-right}
 use native.Mathlib.Omega.{arith}
 use lib.ListN.{length, getD}
 use denote.Ref.{now}
@@ -39,7 +39,7 @@ sub-n : tie.Need-sub-n Inv-loop μ-loop
 sub-n c = omega (arith, c .before .before .before .before .pre .0 .one-more)
 
 add-end : tie.Need-add-end Inv-loop μ-loop
-add-end c = search needs
+add-end c = omega (arith, c .before .before .before .before .pre .1 .1 .source-fits, c .before .before .before .before .good)
 
 shared-slice-read-wide : tie.Need-shared-slice-read-wide Inv-loop μ-loop
 shared-slice-read-wide c = omega (arith, c .before .before .before .before .before .pre .0 .one-more)
@@ -70,10 +70,10 @@ wide-requires-2 : tie.Need-wide-requires-2 Inv-loop μ-loop
 wide-requires-2 c κs = search needs
 
 add-times : tie.Need-add-times Inv-loop μ-loop
-add-times c = search needs
+add-times c = omega (arith, c .before .before .loop-test .taken, c .before .before .before .before .before .before .before .before .before .before .pre .1 .1 .origin-fits, c .before .before .before .before .before .before .before .before .before .before .good)
 
 mul-times : tie.Need-mul-times Inv-loop μ-loop
-mul-times c = search needs
+mul-times c = omega (arith, c .before .before .loop-test .taken, c .before .before .before .before .before .before .before .before .before .before .pre .1 .1 .origin-fits, c .before .before .before .before .before .before .before .before .before .before .good)
 
 slice-read-times : tie.Need-slice-read-times Inv-loop μ-loop
 slice-read-times c = omega (arith, c .before .before .before .loop-test .taken, c .before .before .before .before .before .before .before .before .before .before .before .pre .1 .1 .origin-fits, c .before .before .before .before .loop .inv .2 .same-length)
@@ -82,13 +82,13 @@ times-requires : tie.Need-times-requires Inv-loop μ-loop
 times-requires c κs = search needs
 
 mul-row : tie.Need-mul-row Inv-loop μ-loop
-mul-row c = search needs
+mul-row c = omega (arith, c .before .before .before .before .before .before .before .before .before .before .before .before .pre .1 .1 .source-fits, c .before .before .before .before .before .before .before .before .before .before .before .before .good)
 
 sub-row : tie.Need-sub-row Inv-loop μ-loop
-sub-row c = omega arith
+sub-row c = le-add-right (c .before .before .before .before .before .before .before .before .before .before .before .before .args .source) (length (now (c .before .before .before .before .before .before .before .before .before .before .before .before .args .starts)) - 1)
 
 part-row-start : tie.Need-part-row-start Inv-loop μ-loop
-part-row-start c = omega arith
+part-row-start c = le-add-right (c .before .before .before .before .before .before .before .before .before .before .before .before .before .args .source) (length (now (c .before .before .before .before .before .before .before .before .before .before .before .before .before .args .starts)) - 1)
 
 part-row-end : tie.Need-part-row-end Inv-loop μ-loop
 part-row-end c = omega (arith, c .before .before .before .before .before .before .before .before .before .before .before .before .before .pre .1 .1 .source-fits, c .before .before .before .before .before .before .loop .inv .2 .same-length)
@@ -114,10 +114,10 @@ residue-requires : tie.Need-residue-requires Inv-loop μ-loop
 residue-requires c κs = (c .before .before .before .before .before .before .before .before .before .before .before .before .before .before .before .pre .1 .0, c .row .ensures .1)
 
 add-work : tie.Need-add-work Inv-loop μ-loop
-add-work c = search needs
+add-work c = omega (arith, c .before .before .before .before .before .before .before .before .loop-test .taken, c .before .before .before .before .before .before .before .before .before .before .before .before .before .before .before .before .pre .1 .1 .target-fits, c .before .before .before .before .before .before .before .before .before .before .before .before .before .before .before .before .good)
 
 mul-work : tie.Need-mul-work Inv-loop μ-loop
-mul-work c = search needs
+mul-work c = omega (arith, c .before .before .before .before .before .before .before .before .loop-test .taken, c .before .before .before .before .before .before .before .before .before .before .before .before .before .before .before .before .pre .1 .1 .target-fits, c .before .before .before .before .before .before .before .before .before .before .before .before .before .before .before .before .good)
 
 slice-write-work : tie.Need-slice-write-work Inv-loop μ-loop
 slice-write-work c = omega (arith, c .before .before .before .before .before .before .before .before .loop-test .taken, c .before .before .before .before .before .before .before .before .before .before .before .before .before .before .before .before .pre .1 .1 .target-fits, c .before .before .before .before .before .before .before .before .before .loop .inv .2 .same-length)

@@ -36,7 +36,7 @@ projected-requires c κs =
     let pre = c .before .before .before .pre in
     let W = now (a .area) in
     let long = length-part (a .from) (a .n) W (pre .1 .1) in
-    rw (whole (a .from) (a .n) W, long) (((pre .0 .0, pre .0 .3), (pre .1 .0, pre .1 .2, pre .0 .4)))
+    rw (whole (a .from) (a .n) W, long) (pre .0 .0, pre .1 .0, pre .1 .2, pre .0 .4)
 
 returns : tie.Need-returns
 returns c =
