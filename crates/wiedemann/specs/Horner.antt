@@ -2,7 +2,7 @@
 --     stepAt           its element i
 --     step p A c x v   element i is c × x[i] plus the product of row i with v: Horner's step, and the product if c is 0
 --     row-bounds, row-reduced      a row by the bounds that a loop over rows carries: they are in order, and its sum, reduced
---     step-product     step p A 0 x v ≡ product p A v
+--     step-product     step p A 0 x v ≡ product p A v; step-made: what such a step leaves
 --     sum-head, sum-scale, sum-swap, sum-mod-ext      laws of sums
 --     power-zero, power-suc      the clauses of power
 --     combination      element j of g(A)v before it is reduced
@@ -53,6 +53,9 @@ step-product p A x v =
     table-ext (size A) (stepAt p A 0 x v)
     (λ i. rowProduct A v i % p)
     (λ i l. ap (λ y. y % p) (ap (λ y. y + rowProduct A v i) (zero-mul (at x i)) ∙ zero-add (rowProduct A v i)))
+
+pub step-made : (p q : ℕ) → q ≡ p → (A : Matrix) (x v w : List ℕ) → w ≡ step q A 0 x v → w ≡ product p A v
+step-made p q e A x v w made = made ∙ ap (λ m. step m A 0 x v) e ∙ step-product p A x v
 
 -- ---- sums
 

@@ -228,7 +228,8 @@ pub(crate) fn horner(
 
 // c × the value of each entry added to out at its column: the product with one element of a row, all of whose entries share c's quotient.
 fn scatter(p: u32, c: u32, from: usize, to: usize, columns: &[u32], values: &[u32], out: &mut [u32])
-    requires { ⌜ (c < p) × (p ≤ 2147483647) × (from ≤ to) × (to ≤ length (now columns)) × (length (now columns) ≡ length (now values)) × Vector p (length (now out)) (now out) ⌝ }
+    requires { ⌜ (c < p) × (p ≤ 2147483647) × (from ≤ to) × (to ≤ length (now columns))
+        × (length (now columns) ≡ length (now values)) × Vector p (length (now out)) (now out) ⌝ }
     requires { ⌜ ((k : ℕ) → k < length (now columns) → at (now columns) k < length (now out)) ⌝ }
     ensures { λ r. ⌜ now (out .exit) ≡ scattered p c from to (now (columns .entry)) (now (values .entry)) (now (out .entry)) ⌝ }
 {
@@ -281,8 +282,10 @@ pub fn product(
     v: &[u32],
     out: &mut [u32],
 ) -> Writing
-    ensures { λ r. ⌜ Writes r (productRefusal (field .p) (matrix (now (starts .entry)) (now (columns .entry)) (now (values .entry))) (now (v .entry)) (now (out .entry))) ⌝ }
-    ensures { λ r. ⌜ now (out .exit) ≡ productAfter product (field .p) (matrix (now (starts .entry)) (now (columns .entry)) (now (values .entry))) (now (v .entry)) (now (out .entry)) ⌝ }
+    ensures { λ r. ⌜ Writes r
+        (productRefusal (field .p) (matrix (now (starts .entry)) (now (columns .entry)) (now (values .entry))) (now (v .entry)) (now (out .entry))) ⌝ }
+    ensures { λ r. ⌜ now (out .exit)
+        ≡ productAfter product (field .p) (matrix (now (starts .entry)) (now (columns .entry)) (now (values .entry))) (now (v .entry)) (now (out .entry)) ⌝ }
 {
     let p = field.p;
     let number = product_refusal(p, starts, columns, values, v, out);
@@ -302,8 +305,10 @@ pub fn transposed(
     v: &[u32],
     out: &mut [u32],
 ) -> Writing
-    ensures { λ r. ⌜ Writes r (productRefusal (field .p) (matrix (now (starts .entry)) (now (columns .entry)) (now (values .entry))) (now (v .entry)) (now (out .entry))) ⌝ }
-    ensures { λ r. ⌜ now (out .exit) ≡ productAfter transposed (field .p) (matrix (now (starts .entry)) (now (columns .entry)) (now (values .entry))) (now (v .entry)) (now (out .entry)) ⌝ }
+    ensures { λ r. ⌜ Writes r
+        (productRefusal (field .p) (matrix (now (starts .entry)) (now (columns .entry)) (now (values .entry))) (now (v .entry)) (now (out .entry))) ⌝ }
+    ensures { λ r. ⌜ now (out .exit)
+        ≡ productAfter transposed (field .p) (matrix (now (starts .entry)) (now (columns .entry)) (now (values .entry))) (now (v .entry)) (now (out .entry)) ⌝ }
 {
     let p = field.p;
     let number = product_refusal(p, starts, columns, values, v, out);
@@ -325,9 +330,12 @@ pub fn apply(
     out: &mut [u32],
     work: &mut [u32],
 ) -> Writing
-    ensures { λ r. ⌜ Writes r (applyRefusal (field .p) (matrix (now (starts .entry)) (now (columns .entry)) (now (values .entry))) (now (g .entry)) (now (v .entry)) (now (out .entry)) (now (work .entry))) ⌝ }
-    ensures { λ r. ⌜ now (out .exit) ≡ applyAfter (field .p) (matrix (now (starts .entry)) (now (columns .entry)) (now (values .entry))) (now (g .entry)) (now (v .entry)) (now (out .entry)) (now (work .entry)) ⌝ }
-    ensures { λ r. ⌜ (applyRefusal (field .p) (matrix (now (starts .entry)) (now (columns .entry)) (now (values .entry))) (now (g .entry)) (now (v .entry)) (now (out .entry)) (now (work .entry)) ≢ 0 → now (work .exit) ≡ now (work .entry)) ⌝ }
+    ensures { λ r. ⌜ Writes r (applyRefusal (field .p) (matrix (now (starts .entry)) (now (columns .entry)) (now (values .entry)))
+        (now (g .entry)) (now (v .entry)) (now (out .entry)) (now (work .entry))) ⌝ }
+    ensures { λ r. ⌜ now (out .exit) ≡ applyAfter (field .p) (matrix (now (starts .entry)) (now (columns .entry)) (now (values .entry)))
+        (now (g .entry)) (now (v .entry)) (now (out .entry)) (now (work .entry)) ⌝ }
+    ensures { λ r. ⌜ (applyRefusal (field .p) (matrix (now (starts .entry)) (now (columns .entry)) (now (values .entry)))
+        (now (g .entry)) (now (v .entry)) (now (out .entry)) (now (work .entry)) ≢ 0 → now (work .exit) ≡ now (work .entry)) ⌝ }
 {
     let p = field.p;
     let number = apply_refusal(p, starts, columns, values, g, v, out, work);

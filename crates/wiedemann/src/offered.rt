@@ -30,7 +30,8 @@ pub enum Offered {
 fn agrees(m: Modulus, starts: &[u32], columns: &[u32], values: &[u32], x: &[u32], b: &[u32]) -> bool
     requires { ⌜ Valid (m .p) (matrix (now starts) (now columns) (now values)) ⌝ }
     requires { ⌜ Modular m × Vector (m .p) (length (now starts) - 1) (now x) ⌝ }
-    ensures { λ r. ⌜ r ≡ all (length (now (starts .entry)) - 1) (λ i. eqb (at (product (m .p) (matrix (now (starts .entry)) (now (columns .entry)) (now (values .entry))) (now (x .entry))) i) (at (now (b .entry)) i)) ⌝ }
+    ensures { λ r. ⌜ r ≡ all (length (now (starts .entry)) - 1)
+        (λ i. eqb (at (product (m .p) (matrix (now (starts .entry)) (now (columns .entry)) (now (values .entry))) (now (x .entry))) i) (at (now (b .entry)) i)) ⌝ }
 {
     let n = starts.len() - 1;
     let mut from = wide(starts[0]);
@@ -65,7 +66,9 @@ pub fn takes(
     x: &[u32],
     b: &[u32],
 ) -> Offered
-    ensures { λ r. ⌜ Decides r (takesRefusal (field .p) (matrix (now (starts .entry)) (now (columns .entry)) (now (values .entry))) (now (x .entry)) (now (b .entry))) (takesAnswer (field .p) (matrix (now (starts .entry)) (now (columns .entry)) (now (values .entry))) (now (x .entry)) (now (b .entry))) ⌝ }
+    ensures { λ r. ⌜ Decides r
+        (takesRefusal (field .p) (matrix (now (starts .entry)) (now (columns .entry)) (now (values .entry))) (now (x .entry)) (now (b .entry)))
+        (takesAnswer (field .p) (matrix (now (starts .entry)) (now (columns .entry)) (now (values .entry))) (now (x .entry)) (now (b .entry))) ⌝ }
 {
     let p = field.p;
     let number = takes_refusal(p, starts, columns, values, x, b);
@@ -81,7 +84,9 @@ pub fn takes(
 
 // Whether w is not zero and A takes it to zero.
 pub fn is_null(field: Field, starts: &[u32], columns: &[u32], values: &[u32], w: &[u32]) -> Offered
-    ensures { λ r. ⌜ Decides r (isNullRefusal (field .p) (matrix (now (starts .entry)) (now (columns .entry)) (now (values .entry))) (now (w .entry))) (isNullAnswer (field .p) (matrix (now (starts .entry)) (now (columns .entry)) (now (values .entry))) (now (w .entry))) ⌝ }
+    ensures { λ r. ⌜ Decides r
+        (isNullRefusal (field .p) (matrix (now (starts .entry)) (now (columns .entry)) (now (values .entry))) (now (w .entry)))
+        (isNullAnswer (field .p) (matrix (now (starts .entry)) (now (columns .entry)) (now (values .entry))) (now (w .entry))) ⌝ }
 {
     let p = field.p;
     let number = system_refusal(p, starts, columns, values, w);

@@ -7,7 +7,7 @@ use denote.Ref.{now}
 use Rattle.meaning.specs.Matrix.{matrix, apply}
 use Rattle.meaning.specs.Calls.{applyRefusal}
 use Rattle.checks.specs.Matrix.{Applicable, apply-accepted}
-use Rattle.laws.specs.Refusal.{unlessRefused-none, unlessRefused-some}
+use Rattle.wiedemann.specs.Answers.{writes-refused, writes-done}
 use Rattle.wiedemann.specs.Region.{length-part}
 use borrow.Author.Needs.{needs}
 use Rattle.wiedemann.proofs.matrix.apply.Statement.{statement}
@@ -38,15 +38,10 @@ returns : tie.Need-returns
 returns c =
     let at = c .before .before .before .before .before .before .before .before .before .before .before .args in
     let A = matrix (now (at .starts)) (now (at .columns)) (now (at .values)) in
-    let number = c .before .apply-refusal .ensures in (
-      (sym number, c .if1 .taken),
-      (
-        sym
-            (unlessRefused-some (applyRefusal (at .field .p) A (now (at .g)) (now (at .v)) (now (at .out)) (now (at .work)))
-            (apply (at .field .p) A (now (at .g)) (now (at .v))) (now (at .out)) (λ e. c .if1 .taken (number ∙ e))),
-        λ q. refl,
-      ),
-    )
+    let number = c .before .apply-refusal in
+    let said = writes-refused (number .result) (applyRefusal (at .field .p) A (now (at .g)) (now (at .v)) (now (at .out)) (now (at .work)))
+    (apply (at .field .p) A (now (at .g)) (now (at .v))) (now (at .out)) (number .ensures) (c .if1 .taken) in
+    (said .0, (said .1, λ q. refl))
 
 of-requires : tie.Need-of-requires
 of-requires c κs = (accepted c .valid .positive, accepted c .valid .small)
@@ -83,16 +78,12 @@ returns-2 : tie.Need-returns-2
 returns-2 c =
     let at = c .before .before .before .before .before .before .before .before .before .before .before .before .before .before .before .before .before .before .before .args in
     let A = matrix (now (at .starts)) (now (at .columns)) (now (at .values)) in
-    let zero = none (c .before .before .before .before .before .before .before .before) in (
-      zero,
-      (
-        c .before .before .before .before .horner .ensures ∙ ap (λ p. apply p A (now (at .g)) (now (at .v))) (c .before .before .before .before .before .before .before .of .ensures .0)
-            ∙ sym
-            (unlessRefused-none (applyRefusal (at .field .p) A (now (at .g)) (now (at .v)) (now (at .out)) (now (at .work)))
-            (apply (at .field .p) A (now (at .g)) (now (at .v))) (now (at .out)) zero),
-        λ q. absurd (q zero),
-      ),
-    )
+    let zero = none (c .before .before .before .before .before .before .before .before) in
+    let made = c .before .before .before .before .horner in
+    let said =
+    writes-done (applyRefusal (at .field .p) A (now (at .g)) (now (at .v)) (now (at .out)) (now (at .work))) (apply (at .field .p) A (now (at .g)) (now (at .v)))
+    (now (at .out)) (made .last .1 .1 .1 .1 .1 .1 .0) zero (made .ensures ∙ ap (λ p. apply p A (now (at .g)) (now (at .v))) (c .before .before .before .before .before .before .before .of .ensures .0)) in
+    (said .0, (said .1, λ q. absurd (q zero)))
 
 pub apply-spec : {M : Type 1} → statement M
 apply-spec =
