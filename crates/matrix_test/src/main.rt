@@ -13,7 +13,7 @@ use test_io::show;
 use test_io::show_refused;
 use test_io::store;
 use wiedemann::matrix::Writing;
-use wiedemann::offered::Verdict;
+use wiedemann::offered::Offered;
 ghost use Prim.Native.Nat.{_≤_};
 ghost use lib.ListN.{length};
 
@@ -80,15 +80,15 @@ fn show_applied(w: Writing, whole: bool, out: &[u32], work: &[u32]) {
     }
 }
 
-fn show_verdict(v: Verdict) {
+fn show_offered(v: Offered) {
     match v {
-        Verdict::Yes => {
+        Offered::Yes => {
             io::write_all(STDOUT_FILENO, b"yes");
         }
-        Verdict::No => {
+        Offered::No => {
             io::write_all(STDOUT_FILENO, b"no");
         }
-        Verdict::Refused(number) => show_refused(number),
+        Offered::Refused(number) => show_refused(number),
     }
     io::write_all(STDOUT_FILENO, b"\n");
 }
@@ -106,7 +106,7 @@ fn product(
     fill(out, 4294967295);
     let answer = wiedemann::matrix::product(Field { p }, starts, columns, values, v, out);
     show_writing(answer, whole, out);
-    show_verdict(wiedemann::offered::takes(Field { p }, starts, columns, values, v, out));
+    show_offered(wiedemann::offered::takes(Field { p }, starts, columns, values, v, out));
 }
 
 fn transposed(
@@ -141,8 +141,8 @@ fn apply(
 }
 
 fn offered(p: u32, starts: &[u32], columns: &[u32], values: &[u32], v: &[u32], b: &[u32]) {
-    show_verdict(wiedemann::offered::takes(Field { p }, starts, columns, values, v, b));
-    show_verdict(wiedemann::offered::is_null(Field { p }, starts, columns, values, v));
+    show_offered(wiedemann::offered::takes(Field { p }, starts, columns, values, v, b));
+    show_offered(wiedemann::offered::is_null(Field { p }, starts, columns, values, v));
 }
 
 fn calls(

@@ -26,6 +26,8 @@ use wiedemann::pass::Pass;
 use wiedemann::pass::Passed;
 use wiedemann::pass::make_pass;
 use wiedemann::pass::residual_at;
+use wiedemann::slice::element;
+use wiedemann::slice::is_zero;
 
 // D, the passes and the applications.
 pub struct Counts {
@@ -44,13 +46,6 @@ pub enum Verdict {
 
 // ---- slices
 
-// Element i of v, 0 past its end.
-fn element(v: &[u32], i: usize) -> u32
-    ensures { λ r. ⌜ r ≡ at (now (v .entry)) i ⌝ }
-{
-    if i < v.len() { v[i] } else { 0 }
-}
-
 // The source into out, zeros after it.
 fn write_padded(source: &[u32], out: &mut [u32])
     ensures { λ _. ⌜ now (out .exit) ≡ padded (length (now (out .entry))) (now (source .entry)) ⌝ }
@@ -60,20 +55,6 @@ fn write_padded(source: &[u32], out: &mut [u32])
         out[i] = element(source, i);
         i += 1;
     }
-}
-
-// Whether each element is 0.
-fn is_zero(v: &[u32]) -> bool
-    ensures { λ r. ⌜ r ≡ isZero (now (v .entry)) ⌝ }
-{
-    let mut i = 0;
-    while i < v.len() {
-        if v[i] != 0 {
-            return false;
-        }
-        i += 1;
-    }
-    true
 }
 
 // −w × inverse modulo p.

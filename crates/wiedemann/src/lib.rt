@@ -7,5 +7,5 @@ pub mod offered;
 pub mod pass;
 mod projection;
 pub mod recurrence;
-mod slice;
+pub mod slice;
 mod sums;

@@ -18,6 +18,7 @@ ghost use Rattle.meaning.specs.Refusal.{first};
 ghost use Rattle.wiedemann.specs.Pass.{residualAt, stateChecks, Passes};
 use crate::matrix::step_within;
 use crate::modulus::Modulus;
+use crate::projection::Projection;
 use crate::projection::projected;
 use crate::recurrence::shortest;
 use crate::slice::copy;
@@ -57,24 +58,23 @@ fn advance(
     to
 }
 
-// A term: what projection j makes of the vector at `from`, into `place`.
+// A term: what the projection makes of the vector at `from`, into `place`.
 fn term(
     m: Modulus,
     words: &[u32],
-    vectors: usize,
-    j: usize,
+    u: Projection,
     n: usize,
     area: &mut [u32],
     from: usize,
     place: usize,
 )
     requires { ⌜ Modular m × (n ≤ 4096) ⌝ }
-    requires { ⌜ Words n vectors (now words) × (from + n ≤ length (now area)) × (place < length (now area)) × Vector (m .p) n (part from n (now area)) ⌝ }
+    requires { ⌜ Words n (u .vectors) (now words) × (from + n ≤ length (now area)) × (place < length (now area)) × Vector (m .p) n (part from n (now area)) ⌝ }
     ensures { λ _. ⌜ now (area .exit) ≡ set (now (area .entry)) place
-        (dot (m .p) (getD (projections (m .p) n (now (words .entry))) j []) (part from n (now (area .entry)))) ⌝ }
+        (dot (m .p) (getD (projections (m .p) n (now (words .entry))) (u .index) []) (part from n (now (area .entry)))) ⌝ }
 {
     let end = from + n;
-    area[place] = projected(m, words, vectors, j, &area[from..end]);
+    area[place] = projected(m, words, u, &area[from..end]);
 }
 
 // The 2 × left terms u·r, u·Ar, u·A²r, .. after the three regions: 2 × left − 1 products.
@@ -84,24 +84,23 @@ fn terms(
     columns: &[u32],
     values: &[u32],
     words: &[u32],
-    vectors: usize,
-    j: usize,
+    u: Projection,
     area: &mut [u32],
     left: usize,
 )
     requires { ⌜ Valid (m .p) (matrix (now starts) (now columns) (now values)) ⌝ }
-    requires { ⌜ Modular m × (0 < left) × (left ≤ 4096) × Words (length (now starts) - 1) vectors (now words) ⌝ }
+    requires { ⌜ Modular m × (0 < left) × (left ≤ 4096) × Words (length (now starts) - 1) (u .vectors) (now words) ⌝ }
     requires { ⌜ (3 * (length (now starts) - 1) + 2 * left ≤ length (now area)) × Vector (m .p) (length (now starts) - 1) (part 0 (length (now starts) - 1) (now area)) ⌝ }
-    ensures { λ _. ⌜ Sequenced (m .p) (matrix (now (starts .entry)) (now (columns .entry)) (now (values .entry))) left (getD (projections (m .p) (length (now (starts .entry)) - 1) (now (words .entry))) j []) (now (area .entry)) (now (area .exit)) ⌝ }
+    ensures { λ _. ⌜ Sequenced (m .p) (matrix (now (starts .entry)) (now (columns .entry)) (now (values .entry))) left (getD (projections (m .p) (length (now (starts .entry)) - 1) (now (words .entry))) (u .index) []) (now (area .entry)) (now (area .exit)) ⌝ }
 {
     let n = starts.len() - 1;
     let mut from = 0;
     let mut i = 0;
-    term(m, words, vectors, j, n, area, from, 3 * n);
+    term(m, words, u, n, area, from, 3 * n);
     while i + 1 < 2 * left {
         from = advance(m, 0, starts, columns, values, area, from);
         i += 1;
-        term(m, words, vectors, j, n, area, from, 3 * n + i);
+        term(m, words, u, n, area, from, 3 * n + i);
     }
 }
 
@@ -141,25 +140,24 @@ fn apply_within(
     copy(area, from, r, starts.len() - 1);
 }
 
-// The terms with projection j, their shortest recurrence f, and f(A)r in r's place; the answer is f's degree, and f stands behind the terms.
+// The terms with the projection, their shortest recurrence f, and f(A)r in r's place; the answer is f's degree, and f stands behind the terms.
 fn take_factor(
     m: Modulus,
     starts: &[u32],
     columns: &[u32],
     values: &[u32],
     words: &[u32],
-    vectors: usize,
-    j: usize,
+    u: Projection,
     area: &mut [u32],
     left: usize,
 ) -> usize
     requires { ⌜ Valid (m .p) (matrix (now starts) (now columns) (now values)) × (isModulus (m .p) ≡ true) ⌝ }
-    requires { ⌜ Modular m × (0 < left) × (left ≤ 4096) × Words (length (now starts) - 1) vectors (now words) ⌝ }
+    requires { ⌜ Modular m × (0 < left) × (left ≤ 4096) × Words (length (now starts) - 1) (u .vectors) (now words) ⌝ }
     requires { ⌜ (3 * (length (now starts) - 1) + (8 * left + 8) ≤ length (now area)) × Vector (m .p) (length (now starts) - 1) (part 0 (length (now starts) - 1) (now area)) ⌝ }
-    ensures { λ t. ⌜ Shortened (m .p) (matrix (now (starts .entry)) (now (columns .entry)) (now (values .entry))) left (getD (projections (m .p) (length (now (starts .entry)) - 1) (now (words .entry))) j []) (now (area .entry)) (now (area .exit)) t ⌝ }
+    ensures { λ t. ⌜ Shortened (m .p) (matrix (now (starts .entry)) (now (columns .entry)) (now (values .entry))) left (getD (projections (m .p) (length (now (starts .entry)) - 1) (now (words .entry))) (u .index) []) (now (area .entry)) (now (area .exit)) t ⌝ }
 {
     let n = starts.len() - 1;
-    terms(m, starts, columns, values, words, vectors, j, area, left);
+    terms(m, starts, columns, values, words, u, area, left);
     let t = recurrence_of_terms(m, area, 3 * n, 2 * left);
     apply_within(m, starts, columns, values, area, 3 * n + (2 * left + 2), t);
     t
@@ -274,14 +272,14 @@ pub fn make_pass(
     let left = n - d;
     let first = residual_at(n as u32);
     let m = Modulus::of(p);
+    let vectors = words.len() / n;
     let t = take_factor(
         m,
         starts,
         columns,
         values,
         words,
-        words.len() / n,
-        j,
+        Projection { vectors, index: j },
         &mut work[first..],
         left,
     );
@@ -289,9 +287,10 @@ pub fn make_pass(
     let f = first + (3 * n + (2 * left + 2));
     let end = f + t + 1;
     multiply(m, &mut work[front..end], d, f, t);
+    let applications = 2 * left - 1 + t;
     Passed::Made(Pass {
         left,
         degree: t,
-        applications: (2 * left - 1 + t) as u64,
+        applications: applications as u64,
     })
 }

@@ -14,6 +14,12 @@ use crate::slice::element;
 use crate::sums::Total;
 use crate::sums::times;
 
+// A projection of a run, by its place among all of them: the first `vectors` are made of the random words, the others are the unit vectors.
+pub(crate) struct Projection {
+    pub(crate) vectors: usize,
+    pub(crate) index: usize,
+}
+
 // Word i times element i.
 fn product(i: usize, words: &[u32], v: &[u32]) -> u64
     requires { ⌜ Raw (now words) (now v) × (i < length (now v)) ⌝ }
@@ -67,12 +73,13 @@ fn dot(m: Modulus, words: &[u32], v: &[u32]) -> u32
     last(most, middle, words, v).residue(m)
 }
 
-// What projection j makes of v: the first `vectors` projections are the words, the others the unit vectors.
-pub(crate) fn projected(m: Modulus, words: &[u32], vectors: usize, j: usize, v: &[u32]) -> u32
-    requires { ⌜ Modular m ⌝ }
-    requires { ⌜ Words (length (now v)) vectors (now words) × Vector (m .p) (length (now v)) (now v) × (length (now v) ≤ 4096) ⌝ }
-    ensures { λ r. ⌜ r ≡ dot (m .p) (getD (projections (m .p) (length (now (v .entry))) (now (words .entry))) j []) (now (v .entry)) ⌝ }
+// What a projection makes of v: 0 past the last one.
+pub(crate) fn projected(m: Modulus, words: &[u32], u: Projection, v: &[u32]) -> u32
+    requires { ⌜ Modular m × Words (length (now v)) (u .vectors) (now words) × Vector (m .p) (length (now v)) (now v) × (length (now v) ≤ 4096) ⌝ }
+    ensures { λ r. ⌜ r ≡ dot (m .p) (getD (projections (m .p) (length (now (v .entry))) (now (words .entry))) (u .index) []) (now (v .entry)) ⌝ }
 {
+    let j = u.index;
+    let vectors = u.vectors;
     if j < vectors {
         let from = j * v.len();
         dot(m, &words[from..], v)

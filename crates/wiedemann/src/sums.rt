@@ -1,5 +1,5 @@
-// Sums of products of residues with one reduction at the end, and neither a division nor an unpredictable branch for a product: the sum stands in two words,
-// and the carry of the lower one goes into the higher.
+// Sums of products of residues with one reduction at the end, and neither a division nor an unpredictable branch for a product: the sum stands in two
+// words, and the carry of the lower one goes into the higher.
 //
 //     let mut total = Total { low: start, high: 0 };
 //     total = total.add(x);         // for each word x: up to four products of residues, or two of a residue with any 32-bit word

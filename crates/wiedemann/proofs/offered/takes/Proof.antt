@@ -9,23 +9,31 @@ use Rattle.meaning.specs.Matrix.{matrix, product}
 use Rattle.meaning.specs.Solver.{takes}
 use Rattle.meaning.specs.Calls.{takesRefusal, takesAnswer}
 use Rattle.checks.specs.Matrix.{Accepted, takes-accepted}
-use Rattle.laws.specs.Refusal.{unlessRefused-none, unlessRefused-some}
+use Rattle.laws.specs.Refusal.{unlessRefused-none}
+use Rattle.wiedemann.specs.Answers.{decides-refused}
 use Rattle.wiedemann.specs.Offered.{takes-all}
 use borrow.Author.Needs.{needs}
 use Rattle.wiedemann.proofs.offered.takes.Statement.{statement}
 use Rattle.wiedemann.proofs.offered.takes.Tie as tie
 
-none : (c : tie.Else1) → takesRefusal (c .before .before .before .before .before .before .before .args .field .p) (matrix (now (c .before .before .before .before .before .before .before .args .starts)) (now (c .before .before .before .before .before .before .before .args .columns)) (now (c .before .before .before .before .before .before .before .args .values))) (now (c .before .before .before .before .before .before .before .args .x)) (now (c .before .before .before .before .before .before .before .args .b)) ≡ 0
+none : (c : tie.Else1)
+    → let at = c .before .before .before .before .before .before .before .args in
+    takesRefusal (at .field .p) (matrix (now (at .starts)) (now (at .columns)) (now (at .values))) (now (at .x)) (now (at .b)) ≡ 0
 none c = sym (c .before .takes-refusal .ensures) ∙ c .if1 .left
 
 accepted : (c : tie.Else1)
-    → Accepted (c .before .before .before .before .before .before .before .args .field .p) (matrix (now (c .before .before .before .before .before .before .before .args .starts)) (now (c .before .before .before .before .before .before .before .args .columns)) (now (c .before .before .before .before .before .before .before .args .values))) (now (c .before .before .before .before .before .before .before .args .x)) × (length (now (c .before .before .before .before .before .before .before .args .b)) ≡ length (now (c .before .before .before .before .before .before .before .args .starts)) - 1)
-accepted c = takes-accepted (c .before .before .before .before .before .before .before .args .field .p) (matrix (now (c .before .before .before .before .before .before .before .args .starts)) (now (c .before .before .before .before .before .before .before .args .columns)) (now (c .before .before .before .before .before .before .before .args .values))) (now (c .before .before .before .before .before .before .before .args .x)) (now (c .before .before .before .before .before .before .before .args .b)) (none c)
+    → let at = c .before .before .before .before .before .before .before .args in
+    Accepted (at .field .p) (matrix (now (at .starts)) (now (at .columns)) (now (at .values))) (now (at .x)) × (length (now (at .b)) ≡ length (now (at .starts)) - 1)
+accepted c =
+    let at = c .before .before .before .before .before .before .before .args in
+    takes-accepted (at .field .p) (matrix (now (at .starts)) (now (at .columns)) (now (at .values))) (now (at .x)) (now (at .b)) (none c)
 
-answer : (c : tie.After-agrees) → takesAnswer (c .before .before .before .before .before .before .before .before .before .args .field .p) (matrix (now (c .before .before .before .before .before .before .before .before .before .args .starts)) (now (c .before .before .before .before .before .before .before .before .before .args .columns)) (now (c .before .before .before .before .before .before .before .before .before .args .values))) (now (c .before .before .before .before .before .before .before .before .before .args .x)) (now (c .before .before .before .before .before .before .before .before .before .args .b)) ≡ c .agrees .result
+answer : (c : tie.After-agrees)
+    → let at = c .before .before .before .before .before .before .before .before .before .args in
+    takesAnswer (at .field .p) (matrix (now (at .starts)) (now (at .columns)) (now (at .values))) (now (at .x)) (now (at .b)) ≡ c .agrees .result
 answer c =
     let at = c .before .before .before .before .before .before .before .before .before .args in
-    let A = (matrix (now (c .before .before .before .before .before .before .before .before .before .args .starts)) (now (c .before .before .before .before .before .before .before .before .before .args .columns)) (now (c .before .before .before .before .before .before .before .before .before .args .values))) in
+    let A = matrix (now (at .starts)) (now (at .columns)) (now (at .values)) in
     let known = accepted (c .before .before) in
     unlessRefused-none (takesRefusal (at .field .p) A (now (at .x)) (now (at .b))) (takes (at .field .p) A (now (at .x)) (now (at .b))) false
     (none (c .before .before))
@@ -39,13 +47,10 @@ takes-refusal-requires c κs = search needs
 returns : tie.Need-returns
 returns c =
     let at = c .before .before .before .before .before .before .before .args in
-    let A = (matrix (now (c .before .before .before .before .before .before .before .args .starts)) (now (c .before .before .before .before .before .before .before .args .columns)) (now (c .before .before .before .before .before .before .before .args .values))) in
-    let number = c .before .takes-refusal .ensures in (
-      sym number,
-      c .if1 .taken,
-      unlessRefused-some (takesRefusal (at .field .p) A (now (at .x)) (now (at .b))) (takes (at .field .p) A (now (at .x)) (now (at .b))) false
-          (λ e. c .if1 .taken (number ∙ e)),
-    )
+    let A = matrix (now (at .starts)) (now (at .columns)) (now (at .values)) in
+    let number = c .before .takes-refusal in
+    decides-refused (number .result) (takesRefusal (at .field .p) A (now (at .x)) (now (at .b))) (takes (at .field .p) A (now (at .x)) (now (at .b)))
+    (number .ensures) (c .if1 .taken)
 
 of-requires : tie.Need-of-requires
 of-requires c κs = (accepted c .0 .valid .positive, accepted c .0 .valid .small)

@@ -33,10 +33,10 @@ returns c =
     let at = start .args in
     let w = now (at .w) in
     let n = length (now (at .starts)) - 1 in
-    let Aw = product (at .m .p) (matrix (now (c .before .before .before .before .before .before .args .starts)) (now (c .before .before .before .before .before .before .args .columns)) (now (c .before .before .before .before .before .before .args .values))) w in
+    let Aw = product (at .m .p) (matrix (now (at .starts)) (now (at .columns)) (now (at .values))) w in
     c .agrees .ensures
     ∙ ap (λ k. all n (λ i. eqb (getD Aw i 0) (getD (take k (drop (length w) w)) i 0))) (sub-self (length w))
-    ∙ sym (zero-all Aw n (vector-product (at .m .p) (matrix (now (c .before .before .before .before .before .before .args .starts)) (now (c .before .before .before .before .before .before .args .columns)) (now (c .before .before .before .before .before .before .args .values))) w (start .pre .0 .positive) .places))
+    ∙ sym (zero-all Aw n (vector-product (at .m .p) (matrix (now (at .starts)) (now (at .columns)) (now (at .values))) w (start .pre .0 .positive) .places))
 
 pub vanishes-spec : {M : Type 1} → statement M
 vanishes-spec =

@@ -68,8 +68,8 @@ residual-at-requires c κs = search needs
 of-requires : tie.Need-of-requires
 of-requires c κs = (valid (c .before .before .before .before) .positive, valid (c .before .before .before .before) .small)
 
-div-take-factor : tie.Need-div-take-factor
-div-take-factor c = omega (arith, valid (c .before .before .before .before .before) .some)
+div-vectors : tie.Need-div-vectors
+div-vectors c = omega (arith, valid (c .before .before .before .before .before) .some)
 
 mul-take-factor : tie.Need-mul-take-factor
 mul-take-factor c = search needs
@@ -140,7 +140,7 @@ add-end c =
     let below = s .below in
     let fits : first + m ≤ length W = omega (arith, room, place) in
     let done =
-    narrowed-from first m place fits (omega (arith, room, place)) (c .before .before .take-factor .kept .1 .1 .1 .1 .1 .1 .1 .0 ∙ length-part first m W fits) (c .before .before .take-factor .ensures) in
+    narrowed-from first m place fits (omega (arith, room, place)) (c .before .before .take-factor .kept .1 .1 .1 .1 .1 .1 .0 ∙ length-part first m W fits) (c .before .before .take-factor .ensures) in
     let short = done .short in
     let long = done .same-length in
     let sized = v .sized in
@@ -160,7 +160,7 @@ add-end-2 c =
     let below = s .below in
     let fits : first + m ≤ length W = omega (arith, room, place) in
     let done =
-    narrowed-from first m place fits (omega (arith, room, place)) (c .before .before .take-factor .kept .1 .1 .1 .1 .1 .1 .1 .0 ∙ length-part first m W fits) (c .before .before .take-factor .ensures) in
+    narrowed-from first m place fits (omega (arith, room, place)) (c .before .before .take-factor .kept .1 .1 .1 .1 .1 .1 .0 ∙ length-part first m W fits) (c .before .before .take-factor .ensures) in
     let short = done .short in
     let long = done .same-length in
     let sized = v .sized in
@@ -189,7 +189,7 @@ part-multiply-end c =
     let below = s .below in
     let fits : first + m ≤ length W = omega (arith, room, place) in
     let done =
-    narrowed-from first m place fits (omega (arith, room, place)) (c .before .before .take-factor .kept .1 .1 .1 .1 .1 .1 .1 .0 ∙ length-part first m W fits) (c .before .before .take-factor .ensures) in
+    narrowed-from first m place fits (omega (arith, room, place)) (c .before .before .take-factor .kept .1 .1 .1 .1 .1 .1 .0 ∙ length-part first m W fits) (c .before .before .take-factor .ensures) in
     let short = done .short in
     let long = done .same-length in
     let sized = v .sized in
@@ -209,23 +209,23 @@ multiply-requires c κs =
     let below = s .below in
     let fits : first + m ≤ length W = omega (arith, room, place) in
     let done =
-    narrowed-from first m place fits (omega (arith, room, place)) (c .before .before .before .take-factor .kept .1 .1 .1 .1 .1 .1 .1 .0 ∙ length-part first m W fits) (c .before .before .before .take-factor .ensures) in
+    narrowed-from first m place fits (omega (arith, room, place)) (c .before .before .before .take-factor .kept .1 .1 .1 .1 .1 .1 .0 ∙ length-part first m W fits) (c .before .before .before .take-factor .ensures) in
     let short = done .short in
     let long = done .same-length in
     let sized = v .sized in
     let end = first + (3 * n + (2 * (n - a .d) + 2)) + c .before .before .before .take-factor .result + 1 - 0 in
-    let size = length-part 0 end (lent W first m (c .before .before .before .take-factor .last .1 .1 .1 .1 .1 .1 .1 .0)) (omega (arith, short, place, sized, below, long, room)) in
+    let size = length-part 0 end (lent W first m (c .before .before .before .take-factor .last .1 .1 .1 .1 .1 .1 .0)) (omega (arith, short, place, sized, below, long, room)) in
     let m = c .before .before .before .before .before .of .ensures .1 in
     (m, m .positive, omega (arith, short, below, sized), omega (arith, short, below, place), omega (arith, size))
 
-mul-t26 : tie.Need-mul-t26
-mul-t26 c = search needs
+mul-applications : tie.Need-mul-applications
+mul-applications c = search needs
 
-sub-t21 : tie.Need-sub-t21
-sub-t21 c = let below = state (c .before .before .before .before .before .before .before .before .before .before) .below in omega (arith, below)
+sub-applications : tie.Need-sub-applications
+sub-applications c = let below = state (c .before .before .before .before .before .before .before .before .before .before) .below in omega (arith, below)
 
-add-t25 : tie.Need-add-t25
-add-t25 c =
+add-applications : tie.Need-add-applications
+add-applications c =
     let a = c .before .before .before .before .before .before .before .before .before .before .before .before .before .before .before .before .before .before .before .before .args in
     let s = state (c .before .before .before .before .before .before .before .before .before .before) in
     let v = valid (c .before .before .before .before .before .before .before .before .before .before .before .before .before) in
@@ -238,7 +238,7 @@ add-t25 c =
     let below = s .below in
     let fits : first + m ≤ length W = omega (arith, room, place) in
     let done =
-    narrowed-from first m place fits (omega (arith, room, place)) (c .before .before .before .before .before .before .take-factor .kept .1 .1 .1 .1 .1 .1 .1 .0 ∙ length-part first m W fits) (c .before .before .before .before .before .before .take-factor .ensures) in
+    narrowed-from first m place fits (omega (arith, room, place)) (c .before .before .before .before .before .before .take-factor .kept .1 .1 .1 .1 .1 .1 .0 ∙ length-part first m W fits) (c .before .before .before .before .before .before .take-factor .ensures) in
     let short = done .short in
     let long = done .same-length in
     let sized = v .sized in
@@ -261,7 +261,7 @@ returns-3 c =
     let below = s .below in
     let fits : first + m ≤ length W = omega (arith, room, place) in
     let done =
-    narrowed-from first m place fits (omega (arith, room, place)) (c .before .before .before .before .before .before .take-factor .kept .1 .1 .1 .1 .1 .1 .1 .0 ∙ length-part first m W fits) (c .before .before .before .before .before .before .take-factor .ensures) in
+    narrowed-from first m place fits (omega (arith, room, place)) (c .before .before .before .before .before .before .take-factor .kept .1 .1 .1 .1 .1 .1 .0 ∙ length-part first m W fits) (c .before .before .before .before .before .before .take-factor .ensures) in
     let short = done .short in
     let long = done .same-length in
     let sized = v .sized in
@@ -294,7 +294,7 @@ make-pass-spec =
     cast-residual-at
     residual-at-requires
     of-requires
-    div-take-factor
+    div-vectors
     mul-take-factor
     sub-take-factor
     part-take-factor-start
@@ -312,8 +312,8 @@ make-pass-spec =
     part-multiply-start
     part-multiply-end
     multiply-requires
-    mul-t26
-    sub-t21
-    add-t25
+    mul-applications
+    sub-applications
+    add-applications
     same-length-2
     returns-3)

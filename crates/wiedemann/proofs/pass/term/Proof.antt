@@ -36,7 +36,7 @@ projected-requires c κs =
     let pre = c .before .before .before .before .pre in
     let W = now (a .area) in
     let long = length-part (a .from) (a .n) W (pre .1 .1) in
-    rw (whole (a .from) (a .n) W, long) ((pre .0 .0, (pre .1 .0, pre .1 .3, pre .0 .1)))
+    rw (whole (a .from) (a .n) W, long) ((pre .0 .0, pre .1 .0, pre .1 .3, pre .0 .1))
 
 mul-area : tie.Need-mul-area
 mul-area c = search needs
@@ -55,8 +55,8 @@ returns c =
     let words = now (a .words) in
     ap (λ v. set W (a .place) v)
     (c .projected .ensures
-    ∙ ap (λ l. dot (a .m .p) (getD (projections (a .m .p) (length l) words) (a .j) []) l) (whole (a .from) (a .n) W)
-    ∙ ap (λ m. dot (a .m .p) (getD (projections (a .m .p) m words) (a .j) []) (part (a .from) (a .n) W)) (length-part (a .from) (a .n) W (pre .1 .1)))
+    ∙ ap (λ l. dot (a .m .p) (getD (projections (a .m .p) (length l) words) (a .u .index) []) l) (whole (a .from) (a .n) W)
+    ∙ ap (λ m. dot (a .m .p) (getD (projections (a .m .p) m words) (a .u .index) []) (part (a .from) (a .n) W)) (length-part (a .from) (a .n) W (pre .1 .1)))
 
 pub term-spec : {M : Type 1} → statement M
 term-spec =

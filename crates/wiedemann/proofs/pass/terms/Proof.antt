@@ -15,12 +15,12 @@ use Rattle.wiedemann.proofs.pass.terms.Statement.{statement}
 use Rattle.wiedemann.proofs.pass.terms.Tie as tie
 
 abbrev Inv-loop : tie.InvT-loop
-Inv-loop m starts columns values words vectors j area₀ left n from₀ i₀ area from i =
+Inv-loop m starts columns values words u area₀ left n from₀ i₀ area from i =
     (i + 1 ≤ 2 * left) × (3 * n + 2 * left ≤ length area₀) × Vector (m .p) n (part 0 n area₀)
-    × Iterated (m .p) (matrix starts columns values) (getD (projections (m .p) n words) j []) area₀ i from area
+    × Iterated (m .p) (matrix starts columns values) (getD (projections (m .p) n words) (u .index) []) area₀ i from area
 
 abbrev μ-loop : tie.MeasureT-loop
-μ-loop m starts columns values words vectors j area₀ left n from₀ i₀ area from i = 2 * left - i
+μ-loop m starts columns values words u area₀ left n from₀ i₀ area from i = 2 * left - i
 
 sub-n : tie.Need-sub-n Inv-loop μ-loop
 sub-n c = search needs
@@ -42,7 +42,7 @@ loop-holds c =
     let A = matrix (now (a .starts)) (now (a .columns)) (now (a .values)) in
     let n = length (now (a .starts)) - 1 in
     let W = now (a .area) in
-    let u = getD (projections (a .m .p) n (now (a .words))) (a .j) [] in
+    let u = getD (projections (a .m .p) n (now (a .words))) (a .u .index) [] in
     let v = dot (a .m .p) u (part 0 n W) in
     let begun = iterated-none (a .m .p) A u W v (omega (arith, pre .1 .1 .0, pre .1 .0 .1)) refl in
     subst (λ X. (0 + 1 ≤ 2 * a .left) × (3 * n + 2 * a .left ≤ length X) × Vector (a .m .p) n (part 0 n X) × Iterated (a .m .p) A u X 0 0 X) (sym (c .before .before .term .ensures)) (
@@ -114,7 +114,7 @@ loop-again c =
     let loop = c .before .before .before .before .before .before .before .before .before .loop in
     let A = matrix (now (a .starts)) (now (a .columns)) (now (a .values)) in
     let n = length (now (a .starts)) - 1 in
-    let u = getD (projections (a .m .p) n (now (a .words))) (a .j) [] in
+    let u = getD (projections (a .m .p) n (now (a .words))) (a .u .index) [] in
     let test = c .before .before .before .before .before .before .before .before .loop-test .taken in (
       omega (arith, test),
       loop .inv .1,
@@ -132,7 +132,7 @@ returns c =
     let A = matrix (now (a .starts)) (now (a .columns)) (now (a .values)) in
     let n = length (now (a .starts)) - 1 in
     let W = now (a .area) in
-    let u = getD (projections (a .m .p) n (now (a .words))) (a .j) [] in
+    let u = getD (projections (a .m .p) n (now (a .words))) (a .u .index) [] in
     let begun = iterated-none (a .m .p) A u W (dot (a .m .p) u (part 0 n W)) (omega (arith, pre .1 .1 .0, pre .1 .0 .1)) refl in
     let loop = c .before .loop in
     iterated-all (a .left) (omega (arith, loop .inv .0, c .loop-test .left)) (omega (arith, pre .1 .1 .0))
