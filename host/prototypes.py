@@ -197,7 +197,8 @@ def read(path):
 
 def main():
     header = sys.argv[1] if len(sys.argv) > 1 else os.path.join(ROOT, 'host', 'filzeur.h')
-    sources = sys.argv[2:] or sorted(glob.glob(os.path.join(ROOT, 'crates', 'host', 'src', '**', '*.rt'), recursive=True))
+    sources = sys.argv[2:] or sorted(glob.glob(os.path.join(ROOT, 'crates', 'host', 'src', '**', '*.rt'),
+                                               recursive=True))
     one, other = Header(read(header)), Crate('\n'.join(map(read, sources)))
     found = list(differences(one, other))
     for line in found:
