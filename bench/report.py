@@ -82,6 +82,10 @@ class Times:
         present = {name for row in self.seconds.values() for name in row}
         return [name for name in NAMES if name in present]
 
+    def compiler(self, key):
+        """The one that made the C of a kernel row, whose name it is."""
+        return next(name for name in self.seconds[key] if name != OURS)
+
     def keys(self, what):
         return [key for key in self.seconds if key.what == what]
 
@@ -177,6 +181,14 @@ def small_table(times):
     return rows_of(table)
 
 
+def kernel_table(times):
+    table = [['rows × entries', OURS, 'C', 'ratio']]
+    for key in times.keys('kernel'):
+        ours, other = (1e9 * times.seconds[key][name] / (key.n * key.k) for name in (OURS, times.compiler(key)))
+        table.append(['%s × %d' % (count(key.n), key.k), show(ours, 3), show(other, 3), show(ours / other)])
+    return rows_of(table)
+
+
 def output(*command):
     try:
         return subprocess.run(command, stdout=subprocess.PIPE, stderr=subprocess.DEVNULL, text=True).stdout.strip()
@@ -221,6 +233,11 @@ def page(times, picture):
         parts += ['## Small systems, microseconds',
                   'As the text call has them, without random words, least of %d rounds. The text call also reads the '
                   'system and writes the answer; plain C makes no checks.' % times.rounds('small'), small_table(times)]
+    for key in times.keys('kernel')[:1]:
+        parts += ['## Our row product beside the same in C, nanoseconds for an entry',
+                  'A polynomial of the matrix, 256 products, by turns on the same slices; p = %s. The C has the arithmetic '
+                  'of our row product, inlined by %s. Least of %d rounds with the code at each of four places modulo 64 '
+                  'bytes.' % (count(key.p), times.compiler(key), times.rounds('kernel')), kernel_table(times)]
     if times.keys('growth'):
         parts += ['## How cost grows', '16 entries in a row, p = %s.' % count(LARGE), growth_table(times)]
     if times.lent:
@@ -299,7 +316,7 @@ def main():
         beside = ['%s %s' % (name, show(ratio(times, key, name))) for name in times.names()[1:] if name in row]
         if OURS in row and beside:
             print('%-10s %5d x %2d  p = %-10d  ours to %s' % (key.what, key.n, key.k, key.p, ', '.join(beside)))
-    for what, table in (('solve', goal_table), ('small', small_table)):
+    for what, table in (('solve', goal_table), ('small', small_table), ('kernel', kernel_table)):
         if times.keys(what):
             print('\n' + table(times))
     print('\nwritten: %s and %s' % tuple(sys.argv[2:4]))
