@@ -1,6 +1,6 @@
 use Rattle.wiedemann.specs.Pass.{residualAt, held, narrowed-from, made, refused-matrix, refused-state, State, state-of}
 use Rattle.wiedemann.specs.Factor.{multiplied-lent}
-use Rattle.wiedemann.specs.Lent.{lent, part-at, part-of-part}
+use Rattle.wiedemann.specs.Lent.{lent, length-lent, part-at, part-of-part}
 use Rattle.wiedemann.specs.Region.{part, length-part}
 use Rattle.checks.specs.Valid.{Valid, Vector}
 use Rattle.checks.specs.Matrix.{matrix-valid, matrix-modulus}
@@ -12,9 +12,9 @@ use denote.Ref.{now}
 use lib.ListN.{length, getD}
 use native.Mathlib.Nat.{add-zero}
 use native.Mathlib.Omega.{arith}
-use Prim.Native.Nat.{_+_, _-_, _*_, _≤_}
+use Prim.Native.Nat.{ℕ, _+_, _-_, _*_, _≤_}
 use mathlib.Core.Bool.{true}
-use mathlib.Core.List.{[]}
+use mathlib.Core.List.{List, []}
 use mathlib.Core.Path.{_≡_, refl, sym, ap, _∙_, subst}
 use borrow.Author.Needs.{needs}
 use Rattle.wiedemann.proofs.pass.make_pass.Statement.{statement}
@@ -111,6 +111,17 @@ take-factor-requires c κs =
       ),
     )
 
+-- the work slice when its part from r on has come back: as long as it was
+abbrev returned : tie.After-slice-known2 → List ℕ
+returned c = lent (now (c .before .before .before .before .before .before .before .before .before .before .before .before .before .before .before .before .args .work)) (c .before .before .before .before .before .residual-at .result) (length (now (c .before .before .before .before .before .before .before .before .before .before .before .before .before .before .before .before .args .work)) - c .before .before .before .before .before .residual-at .result) (c .before .before .take-factor .last .1 .1 .1 .1 .1 .1 .0)
+
+same : (c : tie.After-slice-known2) → length (returned c) ≡ length (now (c .before .before .before .before .before .before .before .before .before .before .before .before .before .before .before .before .args .work))
+same c =
+    let W = now (c .before .before .before .before .before .before .before .before .before .before .before .before .before .before .before .before .args .work) in
+    let first = c .before .before .before .before .before .residual-at .result in
+    let fits : first + (length W - first) ≤ length W = omega (arith, c .before .before .before .before .before .residual-at .ensures, state (c .before .before .before .before .before .before) .room) in
+    length-lent W first (length W - first) (c .before .before .take-factor .last .1 .1 .1 .1 .1 .1 .0) fits (c .before .before .take-factor .kept .1 .1 .1 .1 .1 .1 .0 ∙ length-part first (length W - first) W fits)
+
 mul-f : tie.Need-mul-f
 mul-f c = search needs
 
@@ -128,42 +139,18 @@ add-f-3 c = search needs
 
 add-end : tie.Need-add-end
 add-end c =
-    let a = c .before .before .before .before .before .before .before .before .before .before .before .before .before .before .before .before .args in
-    let s = state (c .before .before .before .before .before .before) in
-    let v = valid (c .before .before .before .before .before .before .before .before .before) in
-    let W = now (a .work) in
-    let n = length (now (a .starts)) - 1 in
-    let first = c .before .before .before .before .before .residual-at .result in
+    let short = c .before .before .take-factor .ensures .short in
     let place = c .before .before .before .before .before .residual-at .ensures in
-    let m = length W - first in
-    let room = s .room in
-    let below = s .below in
-    let fits : first + m ≤ length W = omega (arith, room, place) in
-    let done =
-    narrowed-from first m place fits (omega (arith, room, place)) (c .before .before .take-factor .kept .1 .1 .1 .1 .1 .1 .0 ∙ length-part first m W fits) (c .before .before .take-factor .ensures) in
-    let short = done .short in
-    let long = done .same-length in
-    let sized = v .sized in
+    let below = state (c .before .before .before .before .before .before) .below in
+    let sized = valid (c .before .before .before .before .before .before .before .before .before) .sized in
     omega (arith, short, place, sized, below)
 
 add-end-2 : tie.Need-add-end-2
 add-end-2 c =
-    let a = c .before .before .before .before .before .before .before .before .before .before .before .before .before .before .before .before .args in
-    let s = state (c .before .before .before .before .before .before) in
-    let v = valid (c .before .before .before .before .before .before .before .before .before) in
-    let W = now (a .work) in
-    let n = length (now (a .starts)) - 1 in
-    let first = c .before .before .before .before .before .residual-at .result in
+    let short = c .before .before .take-factor .ensures .short in
     let place = c .before .before .before .before .before .residual-at .ensures in
-    let m = length W - first in
-    let room = s .room in
-    let below = s .below in
-    let fits : first + m ≤ length W = omega (arith, room, place) in
-    let done =
-    narrowed-from first m place fits (omega (arith, room, place)) (c .before .before .take-factor .kept .1 .1 .1 .1 .1 .1 .0 ∙ length-part first m W fits) (c .before .before .take-factor .ensures) in
-    let short = done .short in
-    let long = done .same-length in
-    let sized = v .sized in
+    let below = state (c .before .before .before .before .before .before) .below in
+    let sized = valid (c .before .before .before .before .before .before .before .before .before) .sized in
     omega (arith, short, place, sized, below)
 
 mul-multiply : tie.Need-mul-multiply
@@ -177,45 +164,24 @@ part-multiply-start c = search needs
 
 part-multiply-end : tie.Need-part-multiply-end
 part-multiply-end c =
-    let a = c .before .before .before .before .before .before .before .before .before .before .before .before .before .before .before .before .args in
-    let s = state (c .before .before .before .before .before .before) in
-    let v = valid (c .before .before .before .before .before .before .before .before .before) in
-    let W = now (a .work) in
-    let n = length (now (a .starts)) - 1 in
-    let first = c .before .before .before .before .before .residual-at .result in
+    let short = c .before .before .take-factor .ensures .short in
     let place = c .before .before .before .before .before .residual-at .ensures in
-    let m = length W - first in
-    let room = s .room in
-    let below = s .below in
-    let fits : first + m ≤ length W = omega (arith, room, place) in
-    let done =
-    narrowed-from first m place fits (omega (arith, room, place)) (c .before .before .take-factor .kept .1 .1 .1 .1 .1 .1 .0 ∙ length-part first m W fits) (c .before .before .take-factor .ensures) in
-    let short = done .short in
-    let long = done .same-length in
-    let sized = v .sized in
+    let below = state (c .before .before .before .before .before .before) .below in
+    let sized = valid (c .before .before .before .before .before .before .before .before .before) .sized in
+    let room = state (c .before .before .before .before .before .before) .room in
+    let long = same c in
     omega (arith, short, place, sized, below, long, room)
 
 multiply-requires : tie.Need-multiply-requires
 multiply-requires c κs =
-    let a = c .before .before .before .before .before .before .before .before .before .before .before .before .before .before .before .before .before .args in
-    let s = state (c .before .before .before .before .before .before .before) in
-    let v = valid (c .before .before .before .before .before .before .before .before .before .before) in
-    let W = now (a .work) in
-    let n = length (now (a .starts)) - 1 in
-    let first = c .before .before .before .before .before .before .residual-at .result in
+    let short = c .before .before .before .take-factor .ensures .short in
     let place = c .before .before .before .before .before .before .residual-at .ensures in
-    let m = length W - first in
-    let room = s .room in
-    let below = s .below in
-    let fits : first + m ≤ length W = omega (arith, room, place) in
-    let done =
-    narrowed-from first m place fits (omega (arith, room, place)) (c .before .before .before .take-factor .kept .1 .1 .1 .1 .1 .1 .0 ∙ length-part first m W fits) (c .before .before .before .take-factor .ensures) in
-    let short = done .short in
-    let long = done .same-length in
-    let sized = v .sized in
-    let end = first + (3 * n + (2 * (n - a .d) + 2)) + c .before .before .before .take-factor .result + 1 - 0 in
-    let size = length-part 0 end (lent W first m (c .before .before .before .take-factor .last .1 .1 .1 .1 .1 .1 .0)) (omega (arith, short, place, sized, below, long, room)) in
+    let below = state (c .before .before .before .before .before .before .before) .below in
+    let sized = valid (c .before .before .before .before .before .before .before .before .before .before) .sized in
+    let room = state (c .before .before .before .before .before .before .before) .room in
+    let long = same (c .before) in
     let m = c .before .before .before .before .before .of .ensures .1 in
+    let size = length-part 0 (c .before .before .before .before .before .before .residual-at .result + (3 * (length (now (c .before .before .before .before .before .before .before .before .before .before .before .before .before .before .before .before .before .args .starts)) - 1) + (2 * (length (now (c .before .before .before .before .before .before .before .before .before .before .before .before .before .before .before .before .before .args .starts)) - 1 - c .before .before .before .before .before .before .before .before .before .before .before .before .before .before .before .before .before .args .d) + 2)) + c .before .before .before .take-factor .result + 1 - 0) (returned (c .before)) (omega (arith, short, place, sized, below, long, room)) in
     (m, m .positive, omega (arith, short, below, sized), omega (arith, short, below, place), omega (arith, size))
 
 mul-applications : tie.Need-mul-applications
@@ -226,22 +192,10 @@ sub-applications c = let below = state (c .before .before .before .before .befor
 
 add-applications : tie.Need-add-applications
 add-applications c =
-    let a = c .before .before .before .before .before .before .before .before .before .before .before .before .before .before .before .before .before .before .before .before .args in
-    let s = state (c .before .before .before .before .before .before .before .before .before .before) in
-    let v = valid (c .before .before .before .before .before .before .before .before .before .before .before .before .before) in
-    let W = now (a .work) in
-    let n = length (now (a .starts)) - 1 in
-    let first = c .before .before .before .before .before .before .before .before .before .residual-at .result in
+    let short = c .before .before .before .before .before .before .take-factor .ensures .short in
     let place = c .before .before .before .before .before .before .before .before .before .residual-at .ensures in
-    let m = length W - first in
-    let room = s .room in
-    let below = s .below in
-    let fits : first + m ≤ length W = omega (arith, room, place) in
-    let done =
-    narrowed-from first m place fits (omega (arith, room, place)) (c .before .before .before .before .before .before .take-factor .kept .1 .1 .1 .1 .1 .1 .0 ∙ length-part first m W fits) (c .before .before .before .before .before .before .take-factor .ensures) in
-    let short = done .short in
-    let long = done .same-length in
-    let sized = v .sized in
+    let below = state (c .before .before .before .before .before .before .before .before .before .before) .below in
+    let sized = valid (c .before .before .before .before .before .before .before .before .before .before .before .before .before) .sized in
     omega (arith, short, sized, below)
 
 same-length-2 : tie.Need-same-length-2
@@ -260,12 +214,14 @@ returns-3 c =
     let room = s .room in
     let below = s .below in
     let fits : first + m ≤ length W = omega (arith, room, place) in
+    let A = matrix (now (a .starts)) (now (a .columns)) (now (a .values)) in
+    let P = c .before .before .before .before .before .before .before .before .of .result .p in
+    let u = getD (projections P n (now (a .words))) (a .j) [] in
     let done =
-    narrowed-from first m place fits (omega (arith, room, place)) (c .before .before .before .before .before .before .take-factor .kept .1 .1 .1 .1 .1 .1 .0 ∙ length-part first m W fits) (c .before .before .before .before .before .before .take-factor .ensures) in
+    narrowed-from {p = P} {A = A} {left = n - a .d} {u = u} {W = W} first m place fits (omega (arith, room, place)) (c .before .before .before .before .before .before .take-factor .kept .1 .1 .1 .1 .1 .1 .0 ∙ length-part first m W fits) (c .before .before .before .before .before .before .take-factor .ensures) in
     let short = done .short in
     let long = done .same-length in
     let sized = v .sized in
-    let A = matrix (now (a .starts)) (now (a .columns)) (now (a .values)) in
     let f = first + (3 * n + (2 * (n - a .d) + 2)) in
     let t = c .before .before .before .before .before .before .take-factor .result in
     let end = f + t + 1 - 0 in
@@ -276,7 +232,7 @@ returns-3 c =
       refused-state (a .field .p) A (now (a .words)) (a .d) W (passed (c .before .before .before .before .before .before .before .before .before .before .before .before .before)) ∙ sym (c .before .before .before .before .before .before .before .before .before .before .before .state-refusal .ensures) ∙ c .before .before .before .before .before .before .before .before .before .before .if2 .left,
       product .same-length ∙ long,
       λ qs.
-          made (a .d) t below room done f (ap (λ x. x + (3 * n + (2 * (n - a .d) + 2))) place) product qs
+          made {p = P} {A = A} {u = u} {W = W} (a .d) t below room done f (ap (λ x. x + (3 * n + (2 * (n - a .d) + 2))) place) product qs
           ∙ ap (λ x. pass x A (getD (projections x n (now (a .words))) (a .j) []) (held n W (a .d) qs)) (c .before .before .before .before .before .before .before .before .of .ensures .0),
     )
 
