@@ -9,7 +9,7 @@ ghost use Rattle.wiedemann.specs.Modulus.{Modular};
 ghost use Rattle.wiedemann.specs.Sums.{number, Summed};
 ghost use Rattle.meaning.specs.Matrix.{matrix, product, apply, transposed};
 ghost use Rattle.meaning.specs.Calls.{productRefusal, productAfter, applyRefusal, applyAfter};
-ghost use Rattle.checks.specs.Valid.{Entries, term, Valid, Vector, rowProduct};
+ghost use Rattle.checks.specs.Valid.{Entries, term, Valid, Vector};
 ghost use Rattle.wiedemann.specs.Horner.{step, stepAt};
 ghost use Rattle.wiedemann.specs.Written.{Written};
 ghost use Rattle.wiedemann.specs.Region.{part, Regions};
@@ -164,10 +164,10 @@ fn multiple(p: u32, c: u32, v: &[u32], out: &mut [u32])
     requires { ⌜ (c < p) × (p ≤ 2147483647) × (length (now out) ≡ length (now v)) ⌝ }
     ensures { λ r. ⌜ now (out .exit) ≡ table (length (now (v .entry))) (λ i. times p c (at (now (v .entry)) i)) ⌝ }
 {
-    let k = Multiplier::of(p, c);
+    let multiplier = Multiplier::of(p, c);
     let mut i = 0;
     while i < v.len() {
-        out[i] = k.times(p, v[i]);
+        out[i] = multiplier.times(p, v[i]);
         i += 1;
     }
 }
@@ -226,7 +226,7 @@ pub(crate) fn horner(
     }
 }
 
-// c × the value of each entry added to out at its column: the product with one element of a row, all of whose entries share c's quotient.
+// c × the value of each entry added to out at its column: what a row adds to the transposed product. Its entries share one multiplier.
 fn scatter(p: u32, c: u32, from: usize, to: usize, columns: &[u32], values: &[u32], out: &mut [u32])
     requires { ⌜ (c < p) × (p ≤ 2147483647) × (from ≤ to) × (to ≤ length (now columns))
         × (length (now columns) ≡ length (now values)) × Vector p (length (now out)) (now out) ⌝ }

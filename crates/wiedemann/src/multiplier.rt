@@ -1,10 +1,10 @@
 // Products by one constant for a whole row, after Shoup: the constant's quotient is taken once, and no product costs a division.
 //
-//     let k = Multiplier::of(p, c);       // once for a row
-//     k.times(p, x)                       // c × x modulo p, for any 32-bit word x
+//     let multiplier = Multiplier::of(p, c);       // once for a row
+//     multiplier.times(p, x)                       // c × x modulo p, for any 32-bit word x
 use crate::modulus::folded;
 ghost use mathlib.Core.Path.{_≡_};
-ghost use Prim.Native.Nat.{_+_, _*_, _/_, _%_, _≤_, _<_};
+ghost use Prim.Native.Nat.{_+_, _%_, _≤_, _<_};
 ghost use Rattle.meaning.specs.Field.{plus, times};
 ghost use Rattle.wiedemann.specs.Modulus.{Multiplies};
 

@@ -16,7 +16,9 @@ Inv-loop m starts columns values g v out₀ work₀ i₀ out work i =
 abbrev μ-loop : tie.MeasureT-loop
 μ-loop m starts columns values g v out₀ work₀ i₀ out work i = i
 
-vector : (c : tie.At-loop Inv-loop μ-loop) → Vector (c .before .before .before .before .before .before .before .before .before .before .before .before .before .before .before .args .m .p) (length (now (c .before .before .before .before .before .before .before .before .before .before .before .before .before .before .before .args .starts)) - 1) (c .loop .out)
+vector : (c : tie.At-loop Inv-loop μ-loop)
+    → let at = c .before .before .before .before .before .before .before .before .before .before .before .before .before .before .before .args in
+    Vector (at .m .p) (length (now (at .starts)) - 1) (c .loop .out)
 vector c =
     let start = c .before .before .before .before .before .before .before .before .before .before .before .before .before .before .before in
     let at = start .args in
@@ -35,7 +37,9 @@ half c =
     horner-goes-on (at .m .p) A (start .pre .0) (now (at .g)) (now (at .v)) (loop .i) (loop .out) (c .step .last .1 .1 .1 .1 .1 .1 .1 .0) (c .before .before .before .before .loop-test .taken)
     (loop .inv .0) (loop .inv .3) (c .step .ensures)
 
-half-vector : (c : tie.After-step Inv-loop μ-loop) → Vector (c .before .before .before .before .before .before .before .before .before .before .before .before .before .before .before .before .before .before .before .before .args .m .p) (length (now (c .before .before .before .before .before .before .before .before .before .before .before .before .before .before .before .before .before .before .before .before .args .starts)) - 1) (c .step .last .1 .1 .1 .1 .1 .1 .1 .0)
+half-vector : (c : tie.After-step Inv-loop μ-loop)
+    → let at = c .before .before .before .before .before .before .before .before .before .before .before .before .before .before .before .before .before .before .before .before .args in
+    Vector (at .m .p) (length (now (at .starts)) - 1) (c .step .last .1 .1 .1 .1 .1 .1 .1 .0)
 half-vector c =
     let start = c .before .before .before .before .before .before .before .before .before .before .before .before .before .before .before .before .before .before .before .before in
     let at = start .args in

@@ -11,10 +11,10 @@ use Rattle.wiedemann.proofs.matrix.multiple.Statement.{statement}
 use Rattle.wiedemann.proofs.matrix.multiple.Tie as tie
 
 abbrev Inv-loop : tie.InvT-loop
-Inv-loop p c v out₀ k i₀ out i = (i ≤ length v) × Written out₀ 0 i (λ j. times p c (getD v j 0)) out
+Inv-loop p c v out₀ multiplier i₀ out i = (i ≤ length v) × Written out₀ 0 i (λ k. times p c (getD v k 0)) out
 
 abbrev μ-loop : tie.MeasureT-loop
-μ-loop p c v out₀ k i₀ out i = length v - i
+μ-loop p c v out₀ multiplier i₀ out i = length v - i
 
 of-requires : tie.Need-of-requires Inv-loop μ-loop
 of-requires c κs = search needs
@@ -47,9 +47,14 @@ loop-less c = omega (arith, c .before .before .loop-test .taken)
 
 loop-again : tie.Need-loop-again Inv-loop μ-loop
 loop-again c =
+    let start = c .before .before .before .before .before .before .before in
+    let at = start .args in
     let test = c .before .before .loop-test .taken in
-    let loop = c .before .before .before .loop in
-    (omega (arith, test), written-next (c .times .result) (loop .inv .1) (omega (arith, test, c .before .before .before .before .before .before .before .pre .2)) (c .times .ensures ∙ ap (λ k. times (c .before .before .before .before .before .before .before .args .p) k (getD (now (c .before .before .before .before .before .before .before .args .v)) (loop .i) 0)) (c .before .before .before .before .of .ensures .0)))
+    let loop = c .before .before .before .loop in (
+      omega (arith, test),
+      written-next (c .times .result) (loop .inv .1) (omega (arith, test, start .pre .2))
+          (c .times .ensures ∙ ap (λ k. times (at .p) k (getD (now (at .v)) (loop .i) 0)) (c .before .before .before .before .of .ensures .0)),
+    )
 
 same-length : tie.Need-same-length Inv-loop μ-loop
 same-length c = c .before .loop .inv .1 .same-length

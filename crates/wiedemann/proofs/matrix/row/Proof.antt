@@ -7,7 +7,6 @@ use Rattle.meaning.specs.List.{sumFrom}
 use Rattle.wiedemann.specs.declared.sums.Total.{Total}
 use Rattle.wiedemann.specs.Sums.{Summed, summed-both}
 use Rattle.checks.specs.Valid.{term}
-use borrow.Author.Needs.{needs}
 use Rattle.wiedemann.proofs.matrix.row.Statement.{statement}
 use Rattle.wiedemann.proofs.matrix.row.Tie as tie
 

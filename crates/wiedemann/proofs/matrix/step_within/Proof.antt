@@ -33,7 +33,7 @@ source-kept c =
     let known = start .pre .1 .1 in
     let loop = c .loop in
     ap (λ k. part (at .source) k (loop .work)) (add-sub-cancel-left (at .source) n)
-    ∙ written-other (at .source) n (known .source-fits) (apart-shorter (loop .i) (loop .inv .0) (known .source-apart)) (loop .inv .2)
+    ∙ written-other {f = stepAt (at .m .p) (matrix (now (at .starts)) (now (at .columns)) (now (at .values))) (at .c) (part (at .origin) n (now (at .work))) (part (at .source) n (now (at .work)))} (at .source) n (known .source-fits) (apart-shorter (loop .i) (loop .inv .0) (known .source-apart)) (loop .inv .2)
 
 sub-n : tie.Need-sub-n Inv-loop μ-loop
 sub-n c = omega (arith, c .before .before .before .before .pre .0 .one-more)
@@ -142,12 +142,13 @@ loop-again c =
     let sum = c .before .row in
     let W = now (at .work) in
     let i = loop .i in
+    let f = stepAt (at .m .p) A (at .c) (part (at .origin) n W) (part (at .source) n W) in
     let element : getD (loop .work) (at .origin + i) 0 ≡ getD (part (at .origin) n W) i 0 =
-    written-other-at (at .origin) n i (apart-shorter i (loop .inv .0) (known .origin-apart)) test (loop .inv .2)
+    written-other-at {f = f} (at .origin) n i (apart-shorter i (loop .inv .0) (known .origin-apart)) test (loop .inv .2)
     ∙ sym (at-part (at .origin) n W i test) in (
       omega (arith, test),
       to .ensures .0,
-      written-more (c .residue .result) (loop .inv .2) (omega (arith, test, known .target-fits))
+      written-more {f = f} (c .residue .result) (loop .inv .2) (omega (arith, test, known .target-fits))
           (row-reduced A i (loop .from) (to .result) (loop .inv .1) (to .ensures .0) (at .m .p) (begun .result)
           (at .c * getD (part (at .origin) n W) i 0) (c .residue .result) (part (at .source) (at .source + n - at .source) (loop .work))
           (part (at .source) n W) (sum .result) (begun .ensures ∙ ap (λ y. at .c * y) element) (source-kept (c .before .before .before .before .before .before .before .before .before))

@@ -20,7 +20,9 @@ Inv-loop p starts columns values v out₀ from₀ i₀ out from i =
 abbrev μ-loop : tie.MeasureT-loop
 μ-loop p starts columns values v out₀ from₀ i₀ out from i = length v - i
 
-vector : (c : tie.At-loop Inv-loop μ-loop) → Vector (c .before .before .before .before .before .before .before .before .before .before .before .before .args .p) (length (now (c .before .before .before .before .before .before .before .before .before .before .before .before .args .starts)) - 1) (c .loop .out)
+vector : (c : tie.At-loop Inv-loop μ-loop)
+    → let at = c .before .before .before .before .before .before .before .before .before .before .before .before .args in
+    Vector (at .p) (length (now (at .starts)) - 1) (c .loop .out)
 vector c =
     let start = c .before .before .before .before .before .before .before .before .before .before .before .before in
     let at = start .args in

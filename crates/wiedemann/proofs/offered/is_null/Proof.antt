@@ -21,9 +21,10 @@ none c = sym (c .before .system-refusal .ensures) ∙ c .if1 .left
 accepted : (c : tie.Else1)
     → let at = c .before .before .before .before .before .before .args in
     Accepted (at .field .p) (matrix (now (at .starts)) (now (at .columns)) (now (at .values))) (now (at .w))
+unfolding isNullRefusal
 accepted c =
     let at = c .before .before .before .before .before .before .args in
-    system-accepted (at .field .p) (matrix (now (at .starts)) (now (at .columns)) (now (at .values))) (now (at .w)) (sym (c .before .system-refusal .ensures) ∙ c .if1 .left)
+    system-accepted (at .field .p) (matrix (now (at .starts)) (now (at .columns)) (now (at .values))) (now (at .w)) (none c)
 
 answer : (c : tie.Else1)
     → let at = c .before .before .before .before .before .before .args in

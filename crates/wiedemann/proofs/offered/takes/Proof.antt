@@ -1,17 +1,15 @@
-use mathlib.Core.Path.{_≡_, sym, ap, _∙_, subst}
+use mathlib.Core.Path.{_≡_, sym, _∙_, subst}
 use mathlib.Core.Bool.{false}
 use Prim.Native.Nat.{_-_}
-use lib.Dec.{eqb}
-use lib.ListN.{length, getD}
+use lib.ListN.{length}
 use denote.Ref.{now}
-use Rattle.meaning.specs.List.{all}
-use Rattle.meaning.specs.Matrix.{matrix, product}
+use Rattle.meaning.specs.Matrix.{matrix}
 use Rattle.meaning.specs.Solver.{takes}
 use Rattle.meaning.specs.Calls.{takesRefusal, takesAnswer}
 use Rattle.checks.specs.Matrix.{Accepted, takes-accepted}
 use Rattle.laws.specs.Refusal.{unlessRefused-none}
 use Rattle.wiedemann.specs.Answers.{decides-refused}
-use Rattle.wiedemann.specs.Offered.{takes-all}
+use Rattle.wiedemann.specs.Offered.{takes-tested}
 use borrow.Author.Needs.{needs}
 use Rattle.wiedemann.proofs.offered.takes.Statement.{statement}
 use Rattle.wiedemann.proofs.offered.takes.Tie as tie
@@ -37,9 +35,8 @@ answer c =
     let known = accepted (c .before .before) in
     unlessRefused-none (takesRefusal (at .field .p) A (now (at .x)) (now (at .b))) (takes (at .field .p) A (now (at .x)) (now (at .b))) false
     (none (c .before .before))
-    ∙ takes-all (at .field .p) A (now (at .x)) (now (at .b)) (known .0 .valid .positive) (known .1)
-    ∙ ap (λ p. all (length (now (at .starts)) - 1) (λ i. eqb (getD (product p A (now (at .x))) i 0) (getD (now (at .b)) i 0))) (sym (c .before .of .ensures .0))
-    ∙ sym (c .agrees .ensures)
+    ∙ takes-tested (at .field .p) (c .before .of .result .p) (c .before .of .ensures .0) A (now (at .x)) (now (at .b)) (c .agrees .result)
+    (known .0 .valid .positive) (known .1) (c .agrees .ensures)
 
 takes-refusal-requires : tie.Need-takes-refusal-requires
 takes-refusal-requires c κs = search needs

@@ -3,7 +3,7 @@ use Rattle.wiedemann.specs.Sums.{Summed, summed-none, summed-one}
 use denote.Ref.{now}
 use lib.ListN.{length}
 use native.Mathlib.Omega.{arith}
-use Prim.Native.Nat.{_+_, _-_}
+use Prim.Native.Nat.{_+_}
 use mathlib.Core.Path.{_≡_, subst}
 use borrow.Author.Needs.{needs}
 use Rattle.wiedemann.proofs.projection.last.Statement.{statement}
