@@ -1,5 +1,5 @@
 -- `wiedemann::convolution::crossed` meets its contract: in both loops the total is the sum up to i.
-use mathlib.Core.Path.{_≡_, sym, _∙_}
+use mathlib.Core.Path.{_≡_, sym, _∙_, subst}
 use Prim.Native.Nat.{_+_, _-_, _≤_}
 use native.Mathlib.Omega.{arith}
 use denote.Ref.{now}
@@ -87,9 +87,10 @@ loop2-again c =
 
 returns : tie.Need-returns Inv-loop μ-loop Inv-loop2 μ-loop2
 returns c =
+    let a = c .before .before .before .before .before .args in
     let l = c .before .loop2 in
-    let e : l .i ≡ c .before .before .before .before .before .args .to = omega (arith, l .inv .1, c .loop2-test .left) in
-    rw (← e) (l .inv .2)
+    let e : l .i ≡ a .to = omega (arith, l .inv .1, c .loop2-test .left) in
+    subst (λ k. Summed nothing (l .total) (a .from) k (cross (now (a .work)) (a .forward) (a .backward))) e (l .inv .2)
 
 pub crossed-spec : {M : Type 1} → statement M
 crossed-spec =

@@ -7,6 +7,7 @@ use native.Mathlib.Omega.{arith}
 use denote.Ref.{now}
 use borrow.Author.Needs.{needs}
 use borrow.Author.Tests.{ltb-true, ltb-false}
+use Rattle.wiedemann.specs.Recurrence.{AfterSteps}
 use Rattle.wiedemann.proofs.AfterSteps as after
 use Rattle.wiedemann.proofs.AfterSteps.{Kept}
 use Rattle.wiedemann.proofs.recurrence.step.Statement.{statement}
@@ -56,7 +57,8 @@ returns c =
     let found = c .before .before in
     let summed = found .before in
     let start = summed .before .before .before .before in
-    rw (c .shifted .ensures)
+    let a = start .args in
+    subst (λ x. AfterSteps (a .m .p) (a .count) (a .r) (now (a .work)) (now (a .work)) x) (sym (c .shifted .ensures))
     (after.after-zero (start .pre .0) (summed .crossed .result) (found .residue .result) (summed .crossed .ensures) (found .residue .ensures) (c .before .if1 .taken))
 
 mul-longer : tie.Need-mul-longer
@@ -106,9 +108,10 @@ returns-2 c =
     let found = made .before .before .before .before in
     let summed = found .before in
     let start = summed .before .before .before .before in
-    rw (c .lengthened .ensures)
+    let a = start .args in
+    subst (λ x. AfterSteps (a .m .p) (a .count) (a .r) (now (a .work)) (updated .subtract .last .1 .1 .0) x) (sym (c .lengthened .ensures))
     (after.after-grow (start .pre .0) (summed .crossed .result) (found .residue .result) (summed .crossed .ensures) (found .residue .ensures)
-    (kept (made .before)) (made .product .result) (made .product .ensures) _ (made .before .before .before .if1 .left) (updated .subtract .ensures)
+    (kept (made .before)) (made .product .result) (made .product .ensures) (updated .subtract .last .1 .1 .0) (made .before .before .before .if1 .left) (updated .subtract .ensures)
     (ltb-true (2 * start .args .c .length) (start .args .r) (c .before .if3 .taken)))
 
 same-length-3 : tie.Need-same-length-3
@@ -121,9 +124,10 @@ returns-3 c =
     let found = made .before .before .before .before in
     let summed = found .before in
     let start = summed .before .before .before .before in
-    rw (c .shifted2 .ensures)
+    let a = start .args in
+    subst (λ x. AfterSteps (a .m .p) (a .count) (a .r) (now (a .work)) (updated .subtract .last .1 .1 .0) x) (sym (c .shifted2 .ensures))
     (after.after-stay (start .pre .0) (summed .crossed .result) (found .residue .result) (summed .crossed .ensures) (found .residue .ensures)
-    (kept (made .before)) (made .product .result) (made .product .ensures) _ (made .before .before .before .if1 .left) (updated .subtract .ensures)
+    (kept (made .before)) (made .product .result) (made .product .ensures) (updated .subtract .last .1 .1 .0) (made .before .before .before .if1 .left) (updated .subtract .ensures)
     (ltb-false (2 * start .args .c .length) (start .args .r) (c .before .if3 .left)))
 
 pub step-spec : {M : Type 1} → statement M
