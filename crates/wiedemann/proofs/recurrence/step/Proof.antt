@@ -7,6 +7,7 @@ use native.Mathlib.Omega.{arith}
 use denote.Ref.{now}
 use borrow.Author.Needs.{needs}
 use borrow.Author.Tests.{ltb-true, ltb-false}
+use Rattle.wiedemann.specs.Convolution.{crossing-within}
 use Rattle.wiedemann.specs.Recurrence.{AfterSteps}
 use Rattle.wiedemann.proofs.AfterSteps as after
 use Rattle.wiedemann.proofs.AfterSteps.{Kept}
@@ -39,12 +40,12 @@ add-crossed c =
     omega (arith, after.within ask, ask .high, ask .ready .few)
 
 crossed-requires : tie.Need-crossed-requires
-crossed-requires c κs = after.crossing (c .before .before .before .pre .0)
+crossed-requires c κs = crossing-within 0 _ (after.crossing (c .before .before .before .pre .0)) (omega arith) (omega arith) (omega arith)
 
 residue-requires : tie.Need-residue-requires
 residue-requires c κs =
     let pre = c .before .before .before .before .pre in
-    (pre .1, after.carries-few (pre .0) (c .crossed .ensures))
+    (pre .1, omega (arith, c .crossed .ensures .carries, after.within (pre .0), pre .0 .high, pre .0 .ready .few))
 
 shifted-requires : tie.Need-shifted-requires
 shifted-requires c κs = after.shift-few (c .before .before .before .before .before .before .pre .0)
