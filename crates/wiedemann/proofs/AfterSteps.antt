@@ -4,7 +4,7 @@
 --     after-start                the start
 --     after-both, after-own      steps one after the other, and from where they left off
 --     before-step                after r − 1 steps the slice is ready for r
---     within, shift-few, crossing, carries-few      what the callees ask of p, L, t and the discrepancy's products
+--     within, shift-few, crossing      what the callees ask of p, L, t and the discrepancy's products
 --     Kept, kept-same, kept-copied     the slice where the update begins: as it was, but for a copy of q where the length is to change
 --     copying, subtracting       what the copy and the update ask
 --     discrepancy-is             the sum of the products is the discrepancy
@@ -154,9 +154,6 @@ module _ {p count r : ℕ} {W : List ℕ} {c : Register} (ask : BeforeStep p cou
         left = λ i a l. omega (arith, q-element i (omega (arith, l, within, high)), most);
         right = λ i a l. omega (arith, ready .elements (r - 1 - i) (omega (arith, low, high)), most);
       }
-
-  pub carries-few : {T : Total} → Summed nothing T 0 (c .length + 1) (cross W (count + 2) (r - 1)) → T .high < 4294967296
-  carries-few summed = omega (arith, summed .carries, within, high, ready .few)
 
   discrepancy-is : (T : Total) (d : ℕ) → Summed nothing T 0 (c .length + 1) (cross W (count + 2) (r - 1)) → d ≡ number T % p
       → d ≡ discrepancy p s r st

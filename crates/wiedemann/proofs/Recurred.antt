@@ -1,6 +1,7 @@
 -- What the call `recurrence` answers.
 --     recurred-refused           the answer of a refusal, and slices left as they were
---     recurred-generator             the answer of an accepted call, from the core's
+--     modulus-range, ready       what the checks leave known: of p, and for the core
+--     recurred-generator         the answer of an accepted call, from the core's
 use mathlib.Core.Path.{_≡_, refl, sym, ap, _∙_, subst}
 use mathlib.Core.Logic.{_≢_}
 use mathlib.Core.Bool.{true, false, cond}
@@ -16,7 +17,7 @@ use Rattle.meaning.specs.List.{at, padded}
 use Rattle.meaning.specs.Recurrence.{IsShortest, degree, generator}
 use Rattle.meaning.specs.Calls.{recurrenceRefusal}
 use Rattle.laws.specs.List.{table-of}
-use Rattle.residue.specs.Prime.{isModulus-Prime}
+use Rattle.residue.specs.Prime.{isModulus-Prime, isModulus-le}
 use Rattle.bridge.specs.Recurrence.{degree-within, length-generator, isShortest}
 use Rattle.checks.specs.Recurrence.{Accepted}
 use Rattle.wiedemann.specs.Written.{Written}
@@ -35,19 +36,21 @@ recurred-refused p s polynomial work k e n =
       shortest = λ L z. absurd (let y : _≡_ {A = ℕ} 0 1 = cc in omega arith);
     }
 
+pub modulus-range : {p : ℕ} {s polynomial work : List ℕ} → Accepted p s polynomial work → (0 < p) × (p ≤ 2147483647)
+modulus-range {p} input = (omega (arith, isModulus-Prime p (input .modulus) .two-le), isModulus-le p (input .modulus))
+
 module _ {p : ℕ} {s polynomial work W₁ : List ℕ} (input : Accepted p s polynomial work)
     (placed : Written work 0 (length s) (λ i. at s (0 + i)) W₁) where
   terms : (i : ℕ) → i < length s → at W₁ i ≡ at s i
   terms i l = ap (at W₁) (sym (zero-add i)) ∙ placed .inside i l ∙ ap (at s) (zero-add i)
 
-  pub ready : Ready p (length s) W₁
-  ready =
-      record {
-        modulus = input .modulus;
-        few = input .few;
-        room = omega (arith, input .room, placed .same-length);
-        elements = λ i l. subst (λ x. x < p) (sym (terms i l)) (input .below i l);
-      }
+  pub ready : {m : ℕ} → m ≡ p → Ready m (length s) W₁
+  ready {m} same-modulus = subst (λ n. Ready n (length s) W₁) (sym same-modulus) (record {
+    modulus = input .modulus;
+    few = input .few;
+    room = omega (arith, input .room, placed .same-length);
+    elements = λ i l. subst (λ x. x < p) (sym (terms i l)) (input .below i l);
+  })
 
   same : take (length s) W₁ ≡ s
   same =

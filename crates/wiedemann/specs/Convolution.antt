@@ -15,7 +15,7 @@ cross W forward backward i = at W (forward + i) * at W (backward - i)
 
 pub record Crossing (W : List ℕ) (forward backward from to : ℕ) : Type 0 where
   pub order : from ≤ to
-  pub few : to ≤ 8192
+  pub few : to ≤ 65536
   pub front : forward + to ≤ length W
   pub back : to ≤ backward + 1
   pub room : backward < length W + from

@@ -37,9 +37,10 @@ pub(crate) fn crossed(
     requires { ⌜ Crossing (now work) forward backward from to ⌝ }
     ensures { λ r. ⌜ Summed nothing r from to (cross (now (work .entry)) forward backward) ⌝ }
 {
+    let middle = to - (to - from) % 4;
     let mut total = Total { low: 0, high: 0 };
     let mut i = from;
-    while 4 <= to - i {
+    while i < middle {
         total = total.add(four(work, forward, backward, i));
         i += 4;
     }

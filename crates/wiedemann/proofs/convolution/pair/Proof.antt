@@ -1,5 +1,6 @@
 -- `wiedemann::convolution::pair` meets its contract: both factors are below 2³¹ − 1.
-use Prim.Native.Nat.{_+_, _-_}
+use mathlib.Core.Path.{sym, subst}
+use Prim.Native.Nat.{_+_, _-_, _≤_}
 use native.Mathlib.Omega.{arith}
 use denote.Ref.{now}
 use borrow.Author.Needs.{needs}
@@ -34,7 +35,7 @@ returns c =
     let start = c .before .before .before .before in
     let a = start .args in (
       c .times .ensures,
-      rw (c .times .ensures)
+      subst (λ x. x ≤ 4611686009837453316) (sym (c .times .ensures))
           (residues-fit (at (now (a .work)) (a .forward + a .i)) (at (now (a .work)) (a .backward - a .i))
           (start .pre .left (a .i) (omega arith) (omega arith)) (start .pre .right (a .i) (omega arith) (omega arith))),
     )

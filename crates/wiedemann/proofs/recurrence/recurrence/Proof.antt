@@ -3,21 +3,22 @@ use mathlib.Core.Path.{sym, _∙_}
 use native.Mathlib.Omega.{arith}
 use denote.Ref.{now}
 use borrow.Author.Needs.{needs}
-use Rattle.residue.specs.Prime.{isModulus-Prime, isModulus-le}
 use Rattle.checks.specs.Recurrence.{Accepted, accepted}
-use Rattle.wiedemann.proofs.Recurred.{recurred-refused, ready, recurred-generator}
+use Rattle.wiedemann.proofs.Recurred.{recurred-refused, modulus-range, ready, recurred-generator}
 use Rattle.wiedemann.proofs.recurrence.recurrence.Statement.{statement}
 use Rattle.wiedemann.proofs.recurrence.recurrence.Tie as tie
 
 -- what the checks have shown where they let the call through
-taken : (c : tie.Else1) → Accepted (c .before .before .before .before .before .before .before .args .field .p)
-    (now (c .before .before .before .before .before .before .before .args .s))
-    (now (c .before .before .before .before .before .before .before .args .polynomial))
-    (now (c .before .before .before .before .before .before .before .args .work))
-taken c = accepted _ _ _ _ (sym (c .before .recurrence-refusal .ensures) ∙ omega (arith, c .if1 .left))
+taken : (c : tie.Else1) →
+    let a = c .before .before .before .before .before .before .before .args in
+    Accepted (a .field .p) (now (a .s)) (now (a .polynomial)) (now (a .work))
+taken c =
+    let a = c .before .before .before .before .before .before .before .args in
+    accepted (a .field .p) (now (a .s)) (now (a .polynomial)) (now (a .work))
+    (sym (c .before .recurrence-refusal .ensures) ∙ omega (arith, c .if1 .left))
 
 recurrence-refusal-requires : tie.Need-recurrence-refusal-requires
-recurrence-refusal-requires c κs = search needs
+recurrence-refusal-requires c κs = omega arith
 
 same-length : tie.Need-same-length
 same-length c = search needs
@@ -36,20 +37,18 @@ transfer-requires c κs =
     (omega arith, omega (arith, input .room))
 
 of-requires : tie.Need-of-requires
-of-requires c κs =
-    let input = taken (c .before .before .before .before) in
-    (omega (arith, isModulus-Prime (c .before .before .before .before .before .before .before .before .before .before .before .args .field .p) (input .modulus) .two-le), isModulus-le (c .before .before .before .before .before .before .before .before .before .before .before .args .field .p) (input .modulus))
+of-requires c κs = modulus-range (taken (c .before .before .before .before))
 
 shortest-requires : tie.Need-shortest-requires
 shortest-requires c κs =
     let m = c .before .of .ensures in
-    (rw (m .0) (ready (taken (c .before .before .before .before .before .before)) (c .before .before .before .before .transfer .ensures)), m .1)
+    (ready (taken (c .before .before .before .before .before .before)) (c .before .before .before .before .transfer .ensures) (m .0), m .1)
 
 add-transfer : tie.Need-add-transfer
-add-transfer c = search needs
+add-transfer c = omega arith
 
 add-transfer-2 : tie.Need-add-transfer-2
-add-transfer-2 c = search needs
+add-transfer-2 c = omega arith
 
 transfer-requires-2 : tie.Need-transfer-requires-2
 transfer-requires-2 c κs =

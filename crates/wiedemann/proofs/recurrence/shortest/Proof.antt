@@ -16,13 +16,13 @@ abbrev μ-loop : tie.MeasureT-loop
 μ-loop m count work₀ c₀ r₀ work c r = count - r
 
 start-requires : tie.Need-start-requires Inv-loop μ-loop
-start-requires c κs = search needs
+start-requires c κs = c .before .before .pre .0
 
 loop-holds : tie.Need-loop-holds Inv-loop μ-loop
 loop-holds c = (omega arith, after-own (c .before .before .start .ensures))
 
 add-r : tie.Need-add-r Inv-loop μ-loop
-add-r c = search needs
+add-r c = omega arith
 
 step-requires : tie.Need-step-requires Inv-loop μ-loop
 step-requires c κs =
@@ -32,16 +32,16 @@ step-requires c κs =
     (before-step (start .pre .0) (after-both (begun .start .ensures) (loop .loop .inv .1)) (c .before .loop-test .taken), start .pre .1)
 
 loop-less : tie.Need-loop-less Inv-loop μ-loop
-loop-less c = search needs
+loop-less c = omega arith
 
 loop-again : tie.Need-loop-again Inv-loop μ-loop
 loop-again c = (omega arith, after-both (c .before .before .before .before .before .loop .inv .1) (c .before .before .step .ensures))
 
 add-reverse : tie.Need-add-reverse Inv-loop μ-loop
-add-reverse c = search needs
+add-reverse c = omega arith
 
 reverse-requires : tie.Need-reverse-requires Inv-loop μ-loop
-reverse-requires c κs = search needs
+reverse-requires c κs = omega arith
 
 same-length : tie.Need-same-length Inv-loop μ-loop
 same-length c = search needs

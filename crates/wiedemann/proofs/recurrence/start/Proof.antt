@@ -1,4 +1,5 @@
 -- `wiedemann::recurrence::start` meets its contract.
+use native.Mathlib.Omega.{arith}
 use denote.Ref.{now}
 use borrow.Author.Needs.{needs}
 use Rattle.wiedemann.proofs.AfterSteps.{after-start}
@@ -6,22 +7,22 @@ use Rattle.wiedemann.proofs.recurrence.start.Statement.{statement}
 use Rattle.wiedemann.proofs.recurrence.start.Tie as tie
 
 add-q : tie.Need-add-q
-add-q c = search needs
+add-q c = omega arith
 
 clear-requires : tie.Need-clear-requires
-clear-requires c κs = search needs
+clear-requires c κs = omega arith
 
 mul-work : tie.Need-mul-work
-mul-work c = search needs
+mul-work c = omega arith
 
 slice-write-work : tie.Need-slice-write-work
-slice-write-work c = search needs
+slice-write-work c = omega arith
 
 mul-t8 : tie.Need-mul-t8
-mul-t8 c = search needs
+mul-t8 c = omega arith
 
 mul-t10 : tie.Need-mul-t10
-mul-t10 c = search needs
+mul-t10 c = omega arith
 
 same-length : tie.Need-same-length
 same-length c = search needs

@@ -7,6 +7,8 @@ use native.Mathlib.Omega.{arith}
 use denote.Ref.{now}
 use borrow.Author.Needs.{needs}
 use borrow.Author.Tests.{ltb-true, ltb-false}
+use Rattle.wiedemann.specs.Convolution.{crossing-within}
+use Rattle.wiedemann.specs.Recurrence.{AfterSteps}
 use Rattle.wiedemann.proofs.AfterSteps as after
 use Rattle.wiedemann.proofs.AfterSteps.{Kept}
 use Rattle.wiedemann.proofs.recurrence.step.Statement.{statement}
@@ -38,12 +40,12 @@ add-crossed c =
     omega (arith, after.within ask, ask .high, ask .ready .few)
 
 crossed-requires : tie.Need-crossed-requires
-crossed-requires c κs = after.crossing (c .before .before .before .pre .0)
+crossed-requires c κs = crossing-within 0 _ (after.crossing (c .before .before .before .pre .0)) (omega arith) (omega arith) (omega arith)
 
 residue-requires : tie.Need-residue-requires
 residue-requires c κs =
     let pre = c .before .before .before .before .pre in
-    (pre .1, after.carries-few (pre .0) (c .crossed .ensures))
+    (pre .1, omega (arith, c .crossed .ensures .carries, after.within (pre .0), pre .0 .high, pre .0 .ready .few))
 
 shifted-requires : tie.Need-shifted-requires
 shifted-requires c κs = after.shift-few (c .before .before .before .before .before .before .pre .0)
@@ -56,7 +58,8 @@ returns c =
     let found = c .before .before in
     let summed = found .before in
     let start = summed .before .before .before .before in
-    rw (c .shifted .ensures)
+    let a = start .args in
+    subst (λ x. AfterSteps (a .m .p) (a .count) (a .r) (now (a .work)) (now (a .work)) x) (sym (c .shifted .ensures))
     (after.after-zero (start .pre .0) (summed .crossed .result) (found .residue .result) (summed .crossed .ensures) (found .residue .ensures) (c .before .if1 .taken))
 
 mul-longer : tie.Need-mul-longer
@@ -106,9 +109,10 @@ returns-2 c =
     let found = made .before .before .before .before in
     let summed = found .before in
     let start = summed .before .before .before .before in
-    rw (c .lengthened .ensures)
+    let a = start .args in
+    subst (λ x. AfterSteps (a .m .p) (a .count) (a .r) (now (a .work)) (updated .subtract .last .1 .1 .0) x) (sym (c .lengthened .ensures))
     (after.after-grow (start .pre .0) (summed .crossed .result) (found .residue .result) (summed .crossed .ensures) (found .residue .ensures)
-    (kept (made .before)) (made .product .result) (made .product .ensures) _ (made .before .before .before .if1 .left) (updated .subtract .ensures)
+    (kept (made .before)) (made .product .result) (made .product .ensures) (updated .subtract .last .1 .1 .0) (made .before .before .before .if1 .left) (updated .subtract .ensures)
     (ltb-true (2 * start .args .c .length) (start .args .r) (c .before .if3 .taken)))
 
 same-length-3 : tie.Need-same-length-3
@@ -121,9 +125,10 @@ returns-3 c =
     let found = made .before .before .before .before in
     let summed = found .before in
     let start = summed .before .before .before .before in
-    rw (c .shifted2 .ensures)
+    let a = start .args in
+    subst (λ x. AfterSteps (a .m .p) (a .count) (a .r) (now (a .work)) (updated .subtract .last .1 .1 .0) x) (sym (c .shifted2 .ensures))
     (after.after-stay (start .pre .0) (summed .crossed .result) (found .residue .result) (summed .crossed .ensures) (found .residue .ensures)
-    (kept (made .before)) (made .product .result) (made .product .ensures) _ (made .before .before .before .if1 .left) (updated .subtract .ensures)
+    (kept (made .before)) (made .product .result) (made .product .ensures) (updated .subtract .last .1 .1 .0) (made .before .before .before .if1 .left) (updated .subtract .ensures)
     (ltb-false (2 * start .args .c .length) (start .args .r) (c .before .if3 .left)))
 
 pub step-spec : {M : Type 1} → statement M

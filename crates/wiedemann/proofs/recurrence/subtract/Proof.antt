@@ -1,8 +1,7 @@
 -- `wiedemann::recurrence::subtract` meets its contract: t lies after what is written of q.
-use mathlib.Core.Path.{ap, ap₂, _∙_}
+use mathlib.Core.Path.{ap₂, _∙_}
 use Prim.Native.Nat.{_+_, _-_, _≤_}
 use native.Mathlib.Omega.{arith}
-use lib.ListN.{getD}
 use borrow.Author.Needs.{needs}
 use Rattle.meaning.specs.List.{at}
 use Rattle.meaning.specs.Field.{minus, times}
@@ -24,60 +23,64 @@ loop-holds : tie.Need-loop-holds Inv-loop μ-loop
 loop-holds c = search needs
 
 add-difference : tie.Need-add-difference Inv-loop μ-loop
-add-difference c = search needs
+add-difference c = omega arith
 
 mul-difference : tie.Need-mul-difference Inv-loop μ-loop
-mul-difference c = search needs
+mul-difference c = omega arith
 
 slice-read-difference : tie.Need-slice-read-difference Inv-loop μ-loop
-slice-read-difference c = search needs
+slice-read-difference c = omega arith
 
 add-times : tie.Need-add-times Inv-loop μ-loop
-add-times c = search needs
+add-times c = omega arith
 
 mul-times : tie.Need-mul-times Inv-loop μ-loop
-mul-times c = search needs
+mul-times c = omega arith
 
 slice-read-times : tie.Need-slice-read-times Inv-loop μ-loop
-slice-read-times c = search needs
+slice-read-times c = omega arith
 
 times-requires : tie.Need-times-requires Inv-loop μ-loop
 times-requires c κs = c .before .before .before .before .of .ensures .1
 
 difference-requires : tie.Need-difference-requires Inv-loop μ-loop
 difference-requires c κs =
-    let a = c .before .before .before .before .before .before .before .args in
-    let l = c .before .before .before .before .loop in
-    let e = l .inv .1 .after (a .q + l .i) (omega arith) in
-    let q = c .before .before .before .before .before .before .before .pre .1 (l .i) (omega arith) in
-    let start = c .before .before .before .before .before .before .before in
-    let k = c .before .before .before .before .before .of in
-    let b = times-lt (a .m .p) (k .result .constant) (getD (l .work) (a .t + l .i) 0) (start .pre .0 .1 .positive) in
-    (start .pre .0 .1, omega (arith, e, q), omega (arith, c .times .ensures, b))
+    let loop = c .before .before .before .before in
+    let made = loop .before in
+    let start = made .before .before in
+    let a = start .args in
+    let l = loop .loop in
+    let same = l .inv .1 .after (a .q + l .i) (omega arith) in
+    let below = start .pre .1 (l .i) (omega arith) in
+    let product = times-lt (a .m .p) (made .of .result .constant) (at (l .work) (a .t + l .i)) (start .pre .0 .1 .positive) in
+    (start .pre .0 .1, omega (arith, same, below), omega (arith, c .times .ensures, product))
 
 add-work : tie.Need-add-work Inv-loop μ-loop
-add-work c = search needs
+add-work c = omega arith
 
 mul-work : tie.Need-mul-work Inv-loop μ-loop
-mul-work c = search needs
+mul-work c = omega arith
 
 slice-write-work : tie.Need-slice-write-work Inv-loop μ-loop
-slice-write-work c = search needs
+slice-write-work c = omega arith
 
 add-i : tie.Need-add-i Inv-loop μ-loop
-add-i c = search needs
+add-i c = omega arith
 
 loop-less : tie.Need-loop-less Inv-loop μ-loop
-loop-less c = search needs
+loop-less c = omega arith
 
 loop-again : tie.Need-loop-again Inv-loop μ-loop
 loop-again c =
-    let a = c .before .before .before .before .before .before .before .before .args in
-    let l = c .before .before .before .before .before .loop in
-    let e = l .inv .1 .after (a .q + l .i) (omega arith) in
-    let e′ = l .inv .1 .after (a .t + l .i) (omega arith) in (
+    let loop = c .before .before .before .before .before in
+    let made = loop .before in
+    let a = made .before .before .args in
+    let l = loop .loop in
+    let q = l .inv .1 .after (a .q + l .i) (omega arith) in
+    let t = l .inv .1 .after (a .t + l .i) (omega arith) in (
       omega arith,
-      written-more _ (l .inv .1) (omega arith) (c .difference .ensures ∙ ap₂ (minus (a .m .p)) e (c .before .times .ensures ∙ ap₂ (times (a .m .p)) (c .before .before .before .before .before .before .of .ensures .0) e′)),
+      written-more (c .difference .result) (l .inv .1) (omega arith)
+          (c .difference .ensures ∙ ap₂ (minus (a .m .p)) q (c .before .times .ensures ∙ ap₂ (times (a .m .p)) (made .of .ensures .0) t)),
     )
 
 same-length : tie.Need-same-length Inv-loop μ-loop
