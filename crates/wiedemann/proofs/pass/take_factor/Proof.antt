@@ -2,9 +2,12 @@ use Rattle.wiedemann.specs.Lent.{same-take}
 use Rattle.wiedemann.specs.Turns.{shortened, vector-terms}
 use Rattle.checks.specs.Valid.{Vector}
 use Rattle.meaning.specs.Matrix.{matrix}
+use Rattle.meaning.specs.Solver.{projections}
+use Rattle.wiedemann.specs.Region.{part}
 use denote.Ref.{now}
-use lib.ListN.{length}
+use lib.ListN.{length, getD}
 use native.Mathlib.Omega.{arith}
+use mathlib.Core.List.{[]}
 use Prim.Native.Nat.{_-_, _*_}
 use mathlib.Core.Path.{sym, _∙_, subst}
 use borrow.Author.Needs.{needs}
@@ -30,9 +33,12 @@ recurrence-of-terms-requires c κs =
     let a = c .before .before .before .before .before .before .before .before .before .before .args in
     let pre = c .before .before .before .before .before .before .before .before .before .before .pre in
     let A = matrix (now (a .starts)) (now (a .columns)) (now (a .values)) in
+    let n = length (now (a .starts)) - 1 in
+    let u = getD (projections (a .m .p) n (now (a .words))) (a .u .index) [] in
+    let r = part 0 n (now (a .area)) in
     let done = c .before .before .before .terms .ensures in (
       (pre .0 .1, pre .1 .0 .0, omega (arith, pre .1 .0 .2), omega (arith, pre .0 .0 .sized)),
-      (omega (arith, done .same-length, pre .1 .1 .0), rw (done .terms) (vector-terms (a .m .p) A (a .left) _ _ (pre .0 .0 .positive))),
+      (omega (arith, done .same-length, pre .1 .1 .0), rw (done .terms) (vector-terms (a .m .p) A (a .left) u r (pre .0 .0 .positive))),
     )
 
 mul-apply-within : tie.Need-mul-apply-within
@@ -64,8 +70,8 @@ apply-within-requires c κs =
           room = omega (arith, found .same-length, long, found .short, room);
           one = found .monic;
           elements =
-              subst (λ l. Vector (a .m .p) n l)
-              (sym (same-take 0 n (3 * n) _ _ (omega arith) (omega (arith, long, room)) (found .same-length) (found .before) ∙ done .front)) (pre .1 .1 .1);
+              subst (λ l. Vector (a .m .p) n l) {x = part 0 n (now (a .area))}
+              (sym {b = part 0 n (now (a .area))} (same-take 0 n (3 * n) _ _ (omega arith) (omega (arith, long, room)) (found .same-length) (found .before) ∙ done .front)) (pre .1 .1 .1);
         },
       ),
     )

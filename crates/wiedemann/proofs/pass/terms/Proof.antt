@@ -6,7 +6,7 @@ use Rattle.meaning.specs.Solver.{dot, projections}
 use Rattle.meaning.specs.Matrix.{matrix}
 use denote.Ref.{now}
 use mathlib.Core.List.{[]}
-use lib.ListN.{length, getD, take, length-set}
+use lib.ListN.{length, getD, set, take, length-set}
 use native.Mathlib.Omega.{arith}
 use Prim.Native.Nat.{_+_, _-_, _*_, _≤_}
 use mathlib.Core.Path.{refl, sym, ap, _∙_, subst}
@@ -45,7 +45,8 @@ loop-holds c =
     let u = getD (projections (a .m .p) n (now (a .words))) (a .u .index) [] in
     let v = dot (a .m .p) u (part 0 n W) in
     let begun = iterated-none (a .m .p) A u W v (omega (arith, pre .1 .1 .0, pre .1 .0 .1)) refl in
-    subst (λ X. (0 + 1 ≤ 2 * a .left) × (3 * n + 2 * a .left ≤ length X) × Vector (a .m .p) n (part 0 n X) × Iterated (a .m .p) A u X 0 0 X) (sym (c .before .before .term .ensures)) (
+    let X = set W (3 * n) v in
+    subst (λ X. (0 + 1 ≤ 2 * a .left) × (3 * n + 2 * a .left ≤ length X) × Vector (a .m .p) n (part 0 n X) × Iterated (a .m .p) A u X 0 0 X) {x = X} (sym {b = X} (c .before .before .term .ensures)) (
       omega (arith, pre .1 .0 .1),
       omega (arith, begun .same-length, pre .1 .1 .0),
       subst (λ l. Vector (a .m .p) n l) (sym (begun .front)) (pre .1 .1 .1),
@@ -135,8 +136,9 @@ returns c =
     let u = getD (projections (a .m .p) n (now (a .words))) (a .u .index) [] in
     let begun = iterated-none (a .m .p) A u W (dot (a .m .p) u (part 0 n W)) (omega (arith, pre .1 .1 .0, pre .1 .0 .1)) refl in
     let loop = c .before .loop in
+    let X = set W (3 * n) (dot (a .m .p) u (part 0 n W)) in
     iterated-all (a .left) (omega (arith, loop .inv .0, c .loop-test .left)) (omega (arith, pre .1 .1 .0))
-    (iterated-from (ap length (c .before .before .before .before .term .ensures) ∙ begun .same-length) (ap (take n) (c .before .before .before .before .term .ensures) ∙ begun .front) (loop .inv .3))
+    (iterated-from (ap length {y = X} (c .before .before .before .before .term .ensures) ∙ begun .same-length) (ap (take n) {y = X} (c .before .before .before .before .term .ensures) ∙ begun .front) (loop .inv .3))
 
 pub terms-spec : {M : Type 1} → statement M
 terms-spec =
