@@ -5,7 +5,7 @@
 --     not-multiple, too-many, words-fit; vector-off, polynomial-off, work-off, slices-fit      10 and 11 by what the code asks
 use mathlib.Core.Path.{_≡_, sym, ap, _∙_}
 use mathlib.Core.Logic.{_≢_}
-use mathlib.Core.Bool.{Bool, true, false, not, _&&_}
+use mathlib.Core.Bool.{true, false, not, _&&_}
 use mathlib.Core.List.{List, [], _∷_, _++_}
 use Prim.Native.Nat.{ℕ, _+_, _*_, _%_, _≤_, _<_}
 use native.Mathlib.Omega.{arith}
@@ -17,9 +17,7 @@ use Rattle.meaning.specs.Refusal.{Check, check, first, wordsTaken}
 use Rattle.meaning.specs.Calls.{systemChecks, runChecks, solverRefusal}
 use Rattle.laws.specs.Bool.{and-both, and-false-left, and-false-right}
 use Rattle.laws.specs.Refusal.{first-stops, first-past, first-nil, numbered-system, numbered-run, first-append-none, first-append-some}
-
-abbrev pub slicesTaken : ℕ → List ℕ → List ℕ → List ℕ → Bool
-slicesTaken n v f w = eqb (length v) n && eqb (length f) (n + 1) && leb (16 * n + 16) (length w)
+pub use Rattle.laws.specs.Accepted.{slicesTaken}
 
 module _ (p : ℕ) (A : Matrix) (b words v f w : List ℕ) where
   T : List Check

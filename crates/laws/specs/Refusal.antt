@@ -9,19 +9,20 @@
 --     first-append-none, first-append-some, first-append, first-append-zero      checks followed by further ones
 --     no-words                       an empty list of words is taken
 --     unlessRefused-none, unlessRefused-some                       what is left behind, by the number
+--     within-low, within-high, within-of      what within says
 use mathlib.Core.Path.{_≡_, refl, sym, ap, _∙_}
 use mathlib.Core.Logic.{_≢_}
 use mathlib.Core.Bool.{Bool, true, false, cond, not}
 use mathlib.Core.List.{List, [], _∷_, _++_}
-use Prim.Native.Nat.{ℕ, _*_, _%_}
+use Prim.Native.Nat.{ℕ, _*_, _%_, _≤_}
 use native.Mathlib.Nat.{zero-mod}
 use native.Mathlib.Omega.{arith}
 use native.Mathlib.Decide.{ℕ-discrete}
-use lib.Dec.{eqb}
-use borrow.Author.Tests.{eqb-false, not-true, not-false, eq-eqb, ne-eqb, le-leb}
+use lib.Dec.{eqb, leb}
+use borrow.Author.Tests.{eqb-false, not-true, not-false, eq-eqb, ne-eqb, le-leb, leb-true}
 use Rattle.meaning.specs.List.{every}
 use Rattle.meaning.specs.Matrix.{Matrix}
-use Rattle.meaning.specs.Refusal.{Check, check, first, unlessRefused, matrixChecks, wordsTaken, documentChecks}
+use Rattle.meaning.specs.Refusal.{Check, check, first, unlessRefused, within, matrixChecks, wordsTaken, documentChecks}
 use Rattle.meaning.specs.Calls.{systemChecks, runChecks, textChecks}
 use Rattle.laws.specs.Bool.{and-left, and-right, and-both}
 use Rattle.laws.specs.List.{every-cons}
@@ -113,3 +114,12 @@ module _ {A : Type 0} where
 pub no-words : (n : ℕ) → wordsTaken n [] ≡ true
 unfolding wordsTaken
 no-words n = and-both (eq-eqb (0 % n) 0 (zero-mod n)) (le-leb 0 (64 * n) (omega arith))
+
+pub within-low : (a b x : ℕ) → within a b x ≡ true → a ≤ x
+within-low a b x e = leb-true a x (and-left (leb a x) (leb x b) e)
+
+pub within-high : (a b x : ℕ) → within a b x ≡ true → x ≤ b
+within-high a b x e = leb-true x b (and-right (leb a x) (leb x b) e)
+
+pub within-of : (a b x : ℕ) → a ≤ x → x ≤ b → within a b x ≡ true
+within-of a b x l h = and-both (le-leb a x l) (le-leb x b h)

@@ -6,7 +6,8 @@ use borrow.Author.Tests.{not-true, not-false}
 use Rattle.meaning.specs.Field.{isModulus}
 use Rattle.meaning.specs.Matrix.{matrix}
 use Rattle.meaning.specs.Refusal.{first, sizeTaken, startsTaken, columnsTaken, matrixChecks}
-use Rattle.checks.specs.Matrix.{starts-sizeTaken, entries-columnsTaken, size-known, starts-known, ordered}
+use Rattle.laws.specs.Accepted.{size-known}
+use Rattle.checks.specs.Matrix.{starts-sizeTaken, entries-columnsTaken, ordered}
 use borrow.Author.Needs.{needs}
 use Rattle.checks.proofs.matrix_refusal.Statement.{statement}
 use Rattle.checks.proofs.matrix_refusal.Tie as tie
@@ -48,7 +49,7 @@ returns-2 c = rw (past-modulus (c .before .before), size (c .before) ∙ not-tru
 
 starts-taken-requires : tie.Need-starts-taken-requires
 starts-taken-requires c κs =
-    omega (arith, size-known (matrix (now (c .before .before .before .before .before .before .before .args .starts)) (now (c .before .before .before .before .before .before .before .args .columns)) (now (c .before .before .before .before .before .before .before .args .values))) (past-size c) .0)
+    omega (arith, size-known (matrix (now (c .before .before .before .before .before .before .before .args .starts)) (now (c .before .before .before .before .before .before .before .args .columns)) (now (c .before .before .before .before .before .before .before .args .values))) (past-size c) .2)
 
 returns-3 : tie.Need-returns-3
 unfolding first matrixChecks
@@ -62,7 +63,7 @@ returns-3 c =
 columns-taken-requires : tie.Need-columns-taken-requires
 columns-taken-requires c κs =
     let A = (matrix (now (c .before .before .before .before .before .before .before .before .before .args .starts)) (now (c .before .before .before .before .before .before .before .before .before .args .columns)) (now (c .before .before .before .before .before .before .before .before .before .args .values))) in
-    ordered A (starts-known A (past-starts c)) (omega (arith, size-known A (past-size (c .before .before)) .0))
+    ordered A (past-starts c) (omega (arith, size-known A (past-size (c .before .before)) .2))
 
 returns-4 : tie.Need-returns-4
 unfolding first matrixChecks
