@@ -2,11 +2,17 @@
 --     columnTaken      6 for one entry: its column is below n, and below the next one of its row
 --     rises            a column is below the next one
 --     rowTaken         6 for one row
+--     Ordered          starts that rise and stay within the entries
 --     all-more, all-next, allFrom-none, allFrom-more, allFrom-at, allFrom-of      tests along a loop
 --     row-last         6 for one row by its last column
---     size-range, length-sizeTaken, rows-columnsTaken, all-elements      each check by what the code asks
---     Ordered          starts that rise and stay within the entries
-use mathlib.Core.Path.{_≡_, refl, sym, ap, _∙_, subst}
+--     size-range, length-sizeTaken, rows-columnsTaken, rows-next, all-elements      each check by what the code asks
+--     ordered          what 6 asks of the starts
+--     matrix-valid, Accepted, system-accepted      what the checks of a matrix, and of one with a vector, leave known
+--     matrix-sized, system-sized      the starts' number
+--     product-refused, product-passed, product-accepted      a product's checks; what they leave known
+--     Applicable, apply-accepted; takes-accepted             the same of g(A)v, and of the check that A takes x to b
+use mathlib.Core.Path.{_≡_, refl, sym, ap, ap₂, _∙_, subst}
+use mathlib.Core.Logic.{_≢_}
 use mathlib.Core.Bool.{Bool, true, _&&_, _||_, not}
 use mathlib.Core.List.{List, [], _∷_, _++_, append-assoc}
 use Prim.Native.Nat.{ℕ, zero, suc, _+_, _-_, _*_, _≤_, _<_}
@@ -23,7 +29,7 @@ use Rattle.meaning.specs.Refusal.{Check, check, first, within, sizeTaken, start
 use Rattle.meaning.specs.Calls.{systemChecks, productRefusal, applyRefusal, takesRefusal}
 use Rattle.laws.specs.Bool.{and-left, and-right, and-both, same-test}
 use Rattle.laws.specs.List.{all-zero, all-suc, all-at, all-of, every-all}
-use Rattle.laws.specs.Refusal.{first-passed, numbered-matrix, numbered-system, first-append-zero}
+use Rattle.laws.specs.Refusal.{first-passed, numbered-matrix, numbered-system, first-append-zero, zero-by, leading-refused, leading-passed}
 use Rattle.laws.specs.Accepted as laws
 use Rattle.laws.specs.Accepted.{starts-known, starts-rise, matrix-accepted}
 use Rattle.checks.specs.Valid.{Valid, Vector, valid-of, right-of, vector-of}
@@ -132,18 +138,16 @@ pub rows-columnsTaken : (starts columns values : List ℕ)
 unfolding columnsTaken
 rows-columnsTaken starts columns values = refl
 
+-- one row more
+pub rows-next : (starts columns : List ℕ) (i : ℕ) {taken row : Bool} {from end : ℕ} → taken ≡ all i (rowTaken starts columns)
+    → row ≡ allFrom from end (columnTaken (length starts - 1) end columns) → from ≡ at starts i → end ≡ at starts (i + 1)
+    → taken && row ≡ all (i + 1) (rowTaken starts columns)
+rows-next starts columns i e f a b =
+    ap₂ _&&_ e (f ∙ ap₂ (λ from end. allFrom from end (columnTaken (length starts - 1) end columns)) a b) ∙ sym (all-more i (rowTaken starts columns))
+
 pub all-elements : (p : ℕ) (v : List ℕ) → elements p v ≡ all (length v) (λ i. ltb (at v i) p)
 unfolding elements
 all-elements p v = every-all (λ a. ltb a p) v 0
-
--- the size is a matter of the starts, and the columns one of starts and columns
-pub starts-sizeTaken : (starts columns values : List ℕ) → sizeTaken (matrix starts columns values) ≡ sizeTaken (matrix starts [] [])
-unfolding sizeTaken
-starts-sizeTaken starts columns values = refl
-
-pub entries-columnsTaken : (starts columns values : List ℕ) → columnsTaken (matrix starts columns values) ≡ columnsTaken (matrix starts columns [])
-unfolding columnsTaken
-entries-columnsTaken starts columns values = refl
 
 -- what 6 asks of the starts, where 5 turned nothing down
 pub ordered : (A : Matrix) → startsTaken A ≡ true → 0 < length (A .starts) → Ordered (A .starts) (length (A .columns))
@@ -165,44 +169,57 @@ pub record Accepted (p : ℕ) (A : Matrix) (v : List ℕ) : Type 0 where
   pub valid : Valid p A
   pub vector : Vector p (size A) v
 
-abbrev pub vectorChecks : ℕ → Matrix → List ℕ → List Check
+abbrev vectorChecks : ℕ → Matrix → List ℕ → List Check
 vectorChecks p A b = check 8 (not (eqb (length b) (size A))) ∷ check 9 (not (elements p b)) ∷ []
-
-pub systemChecks-parts : (p : ℕ) (A : Matrix) (b : List ℕ) → systemChecks p A b ≡ matrixChecks p A ++ vectorChecks p A b
-unfolding systemChecks
-systemChecks-parts p A b = refl
 
 pub system-accepted : (p : ℕ) (A : Matrix) (b : List ℕ) → first (systemChecks p A b) ≡ 0 → Accepted p A b
 system-accepted p A b e =
     let a = laws.system-accepted p A b e in
     record { valid = valid-of a; vector = right-of a }
 
+-- the starts' number, where the code has the number of the checks
+pub matrix-sized : (p : ℕ) (A : Matrix) {number : ℕ} → number ≡ first (matrixChecks p A) → number ≡ 0
+    → (2 ≤ length (A .starts)) × (length (A .starts) ≤ 4097)
+matrix-sized p A e z =
+    let a = matrix-accepted p A (zero-by e z) in
+    (omega (arith, a .size-low), omega (arith, a .size-high))
+
+pub system-sized : (p : ℕ) (A : Matrix) (b : List ℕ) {number : ℕ} → number ≡ first (systemChecks p A b) → number ≡ 0
+    → (2 ≤ length (A .starts)) × (length (A .starts) ≤ 4097)
+system-sized p A b e z =
+    let a = laws.system-accepted p A b (zero-by e z) in
+    (omega (arith, a .size-low), omega (arith, a .size-high))
+
 -- a product's checks are the system's, and then its slice's
-pub productRefusal-system : (p : ℕ) (A : Matrix) (v out : List ℕ)
-    → productRefusal p A v out ≡ first (systemChecks p A v ++ (check 11 (not (eqb (length out) (size A))) ∷ []))
-unfolding productRefusal systemChecks
-productRefusal-system p A v out =
-    ap first
-    (sym
-    (append-assoc (matrixChecks p A) (vectorChecks p A v) (check 11 (not (eqb (length out) (size A))) ∷ [])))
+module _ (p : ℕ) (A : Matrix) (v out : List ℕ) where
+  slice : List Check
+  slice = check 11 (not (eqb (length out) (size A))) ∷ []
 
-pub product-accepted : (p : ℕ) (A : Matrix) (v out : List ℕ) → productRefusal p A v out ≡ 0 → Accepted p A v × (length out ≡ size A)
-product-accepted p A v out e =
-    let both = first-append-zero (systemChecks p A v) (check 11 (not (eqb (length out) (size A))) ∷ []) (numbered-system p A v) (sym (productRefusal-system p A v out) ∙ e) in
-    let c11 = first-passed 11 (eqb (length out) (size A)) _ (omega arith) (both .1) in
-    (system-accepted p A v (both .0), eqb-true (length out) (size A) (c11 .0))
+  productRefusal-system : productRefusal p A v out ≡ first (systemChecks p A v ++ slice)
+  unfolding productRefusal systemChecks slice
+  productRefusal-system = ap first (sym (append-assoc (matrixChecks p A) (vectorChecks p A v) slice))
 
-abbrev pub applyChecks : ℕ → Matrix → List ℕ → List ℕ → List ℕ → List ℕ → List Check
+  pub product-refused : {number : ℕ} → number ≡ first (systemChecks p A v) → number ≢ 0 → number ≡ productRefusal p A v out
+  product-refused e q = leading-refused (systemChecks p A v) slice (numbered-system p A v) e q ∙ sym productRefusal-system
+
+  pub product-passed : {number k : ℕ} → number ≡ first (systemChecks p A v) → number ≡ 0 → first (check 11 (not (eqb (length out) (size A))) ∷ []) ≡ k
+      → k ≡ productRefusal p A v out
+  unfolding slice
+  product-passed e z f = leading-passed (systemChecks p A v) slice (numbered-system p A v) e z f ∙ sym productRefusal-system
+
+  pub product-accepted : productRefusal p A v out ≡ 0 → Accepted p A v × (length out ≡ size A)
+  unfolding slice
+  product-accepted e =
+      let both = first-append-zero (systemChecks p A v) slice (numbered-system p A v) (sym productRefusal-system ∙ e) in
+      let c11 = first-passed 11 (eqb (length out) (size A)) _ (omega arith) (both .1) in
+      (system-accepted p A v (both .0), eqb-true (length out) (size A) (c11 .0))
+
+abbrev applyChecks : ℕ → Matrix → List ℕ → List ℕ → List ℕ → List ℕ → List Check
 applyChecks p A g v out work =
     check 8 (not (within 1 (size A + 1) (length g) && eqb (length v) (size A)))
     ∷ check 9 (not (elements p g && elements p v))
     ∷ check 11 (not (eqb (length out) (size A) && leb (2 * size A) (length work)))
     ∷ []
-
-pub applyRefusal-parts : (p : ℕ) (A : Matrix) (g v out work : List ℕ)
-    → applyRefusal p A g v out work ≡ first (matrixChecks p A ++ applyChecks p A g v out work)
-unfolding applyRefusal
-applyRefusal-parts p A g v out work = refl
 
 -- what g(A)v needs that was not turned down
 pub record Applicable (p : ℕ) (A : Matrix) (g v out work : List ℕ) : Type 0 where
@@ -214,8 +231,9 @@ pub record Applicable (p : ℕ) (A : Matrix) (g v out work : List ℕ) : Type 0 
   pub room : 2 * size A ≤ length work
 
 pub apply-accepted : (p : ℕ) (A : Matrix) (g v out work : List ℕ) → applyRefusal p A g v out work ≡ 0 → Applicable p A g v out work
+unfolding applyRefusal
 apply-accepted p A g v out work e =
-    let both = first-append-zero (matrixChecks p A) (applyChecks p A g v out work) (numbered-matrix p A) (sym (applyRefusal-parts p A g v out work) ∙ e) in
+    let both = first-append-zero (matrixChecks p A) (applyChecks p A g v out work) (numbered-matrix p A) e in
     let c8 = first-passed 8 (within 1 (size A + 1) (length g) && eqb (length v) (size A)) _ (omega arith) (both .1) in
     let c9 = first-passed 9 (elements p g && elements p v) _ (omega arith) (c8 .1) in
     let c11 = first-passed 11 (eqb (length out) (size A) && leb (2 * size A) (length work)) _ (omega arith) (c9 .1) in
@@ -234,17 +252,14 @@ apply-accepted p A g v out work e =
       room = leb-true (2 * size A) (length work) (and-right (eqb (length out) (size A)) (leb (2 * size A) (length work)) slices);
     }
 
-abbrev pub takesChecks : ℕ → Matrix → List ℕ → List ℕ → List Check
+abbrev takesChecks : ℕ → Matrix → List ℕ → List ℕ → List Check
 takesChecks p A x b =
     check 8 (not (eqb (length x) (size A) && eqb (length b) (size A))) ∷ check 9 (not (elements p x && elements p b)) ∷ []
 
-pub takesRefusal-parts : (p : ℕ) (A : Matrix) (x b : List ℕ) → takesRefusal p A x b ≡ first (matrixChecks p A ++ takesChecks p A x b)
-unfolding takesRefusal
-takesRefusal-parts p A x b = refl
-
 pub takes-accepted : (p : ℕ) (A : Matrix) (x b : List ℕ) → takesRefusal p A x b ≡ 0 → Accepted p A x × (length b ≡ size A)
+unfolding takesRefusal
 takes-accepted p A x b e =
-    let both = first-append-zero (matrixChecks p A) (takesChecks p A x b) (numbered-matrix p A) (sym (takesRefusal-parts p A x b) ∙ e) in
+    let both = first-append-zero (matrixChecks p A) (takesChecks p A x b) (numbered-matrix p A) e in
     let c8 = first-passed 8 (eqb (length x) (size A) && eqb (length b) (size A)) _ (omega arith) (both .1) in
     let c9 = first-passed 9 (elements p x && elements p b) _ (omega arith) (c8 .1) in
     let lengths = c8 .0 in

@@ -7,6 +7,7 @@
 --     Numbered cs                    no check is numbered 0
 --     numbered-matrix, numbered-system, numbered-run, numbered-text      .. of document 01's
 --     first-append-none, first-append-some, first-append, first-append-zero      checks followed by further ones
+--     zero-by, leading-refused, leading-passed      the same where the code has the leading checks' number
 --     no-words                       an empty list of words is taken
 --     unlessRefused-none, unlessRefused-some                       what is left behind, by the number
 --     within-low, within-high, within-of      what within says
@@ -103,6 +104,17 @@ first-append-zero cs ds n e = go (ℕ-discrete (first cs) 0)
     go : Dec (first cs ≡ 0) → (first cs ≡ 0) × (first ds ≡ 0)
     go (yes z) = (z, sym (first-append-none cs ds n z) ∙ e)
     go (no q) = absurd (q (sym (first-append-some cs ds q) ∙ e))
+
+-- the code's way past checks whose number it has
+pub zero-by : {a b : ℕ} → a ≡ b → a ≡ 0 → b ≡ 0
+zero-by e z = sym e ∙ z
+
+module _ (cs ds : List Check) {number : ℕ} (numbered : Numbered cs) (answer : number ≡ first cs) where
+  pub leading-refused : number ≢ 0 → number ≡ first (cs ++ ds)
+  leading-refused q = answer ∙ sym (first-append-some cs ds (λ z. q (answer ∙ z)))
+
+  pub leading-passed : {k : ℕ} → number ≡ 0 → first ds ≡ k → k ≡ first (cs ++ ds)
+  leading-passed z e = sym (first-append-none cs ds numbered (zero-by answer z) ∙ e)
 
 module _ {A : Type 0} where
   pub unlessRefused-none : (k : ℕ) (new old : A) → k ≡ 0 → unlessRefused k new old ≡ new
