@@ -25,6 +25,7 @@ use Rattle.meaning.specs.List.{all}
 use Rattle.meaning.specs.Field.{isPrime, isModulus}
 use Rattle.laws.specs.Bool.{and-left, and-right, and-both, and-false-right, same-test}
 use Rattle.laws.specs.List.{all-at, all-of}
+pub use Rattle.laws.specs.Accepted.{modulus-high as isModulus-le}
 use borrow.Author.Tests.{leb-true, ltb-true, ltb-false, eqb-false, le-leb, lt-leb, not-true, ne-eqb}
 
 pub record Prime (p : ℕ) : Type 0 where
@@ -141,10 +142,6 @@ isModulus-prime p e = and-left (isPrime p) (leb p 2147483647) e
 
 pub isModulus-Prime : (p : ℕ) → isModulus p ≡ true → Prime p
 isModulus-Prime p e = isPrime-Prime p .0 (isModulus-prime p e)
-
-pub isModulus-le : (p : ℕ) → isModulus p ≡ true → p ≤ 2147483647
-unfolding isModulus
-isModulus-le p e = leb-true p 2147483647 (and-right (isPrime p) (leb p 2147483647) e)
 
 pub isModulus-small : (p : ℕ) → p ≤ 2147483647 → isModulus p ≡ isPrime p
 unfolding isModulus
