@@ -12,7 +12,7 @@ use crate::slice::transfer;
 use checks::recurrence_refusal;
 use field::Field;
 ghost use mathlib.Core.Path.{_≡_};
-ghost use Prim.Native.Nat.{ℕ, _+_, _-_, _*_, _≤_, _<_};
+ghost use Prim.Native.Nat.{ℕ, _+_, _≤_, _<_};
 ghost use lib.ListN.{length};
 ghost use Rattle.meaning.specs.List.{at};
 ghost use Rattle.meaning.specs.Field.{minus, times};
