@@ -28,8 +28,7 @@ use Rattle.meaning.specs.Refusal.{Check, check, first, elements, matrixChecks, 
 use Rattle.meaning.specs.Solver.{Pass, Run, projections, terms, multiply, passTerms, pass}
 use Rattle.laws.specs.Refusal.{first-nil, first-past, first-stops, first-passed, first-append-none, first-append-some, numbered-matrix}
 use Rattle.laws.specs.Solver.{vectorCount-div, vectorCount-whole, vectorCount-few}
-use Rattle.checks.specs.Valid.{Vector}
-use Rattle.checks.specs.Matrix.{vector-of}
+use Rattle.checks.specs.Valid.{Vector, vector-of}
 use Rattle.wiedemann.specs.declared.pass.Pass.{Pass as CodePass}
 use Rattle.wiedemann.specs.declared.pass.Passed.{Passed}
 use Rattle.wiedemann.specs.declared.pass.Passed.the-variants.{Made, Refused}
