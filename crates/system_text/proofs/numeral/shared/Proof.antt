@@ -1,4 +1,4 @@
--- `numeral::word` meets its contract. The invariant: what is shared is what was passed and what is shared from there on. Assumes nothing.
+-- `numeral::shared` meets its contract. The invariant: what is shared is what was passed and what is shared from there on. Assumes nothing.
 use mathlib.Core.Path.{_≡_, sym, ap, _∙_}
 use Prim.Native.Nat.{_<_, _≤_, _+_, _-_}
 use native.Mathlib.Nat.{add-zero, zero-add}
@@ -7,20 +7,20 @@ use lib.ListN.{length, drop}
 use Rattle.system_text.specs.Scan.{common}
 use Rattle.system_text.proofs.Steps.{word-turn, word-stop, word-past, word-done}
 use borrow.Author.Needs.{needs}
-use Rattle.system_text.proofs.numeral.word.Statement.{statement}
-use Rattle.system_text.proofs.numeral.word.Tie as tie
+use Rattle.system_text.proofs.numeral.shared.Statement.{statement}
+use Rattle.system_text.proofs.numeral.shared.Tie as tie
 
 abbrev Inv-loop : tie.InvT-loop
-Inv-loop text from letters k₀ k =
-    (k ≤ length letters) × (from + k ≤ length text) × (common (drop from text) letters ≡ k + common (drop (from + k) text) (drop k letters))
+Inv-loop text from word k₀ k =
+    (k ≤ length word) × (from + k ≤ length text) × (common (drop from text) word ≡ k + common (drop (from + k) text) (drop k word))
 
 abbrev μ-loop : tie.MeasureT-loop
-μ-loop text from letters k₀ k = length letters - k
+μ-loop text from word k₀ k = length word - k
 
 loop-holds : tie.Need-loop-holds Inv-loop μ-loop
 loop-holds c =
     let a = c .args in
-    (omega arith, omega arith, sym (ap (λ i. 0 + common (drop i (a .text .now)) (a .letters .now)) (add-zero (a .from)) ∙ zero-add _))
+    (omega arith, omega arith, sym (ap (λ i. 0 + common (drop i (a .text .now)) (a .word .now)) (add-zero (a .from)) ∙ zero-add _))
 
 sub-if1 : tie.Need-sub-if1 Inv-loop μ-loop
 sub-if1 c = search needs
@@ -45,21 +45,21 @@ loop-again c =
     let b = c .before .before .before .before .before in
     let a = b .before .args in
     let l : a .from + b .loop .k < length (a .text .now) = omega arith in
-    let m : b .loop .k < length (a .letters .now) = omega arith in
-    (omega arith, omega arith, b .loop .inv .2 ∙ word-turn (a .text .now) (a .letters .now) (a .from) (b .loop .k) l m (c .if2 .left))
+    let m : b .loop .k < length (a .word .now) = omega arith in
+    (omega arith, omega arith, b .loop .inv .2 ∙ word-turn (a .text .now) (a .word .now) (a .from) (b .loop .k) l m (c .if2 .left))
 
 returns : tie.Need-returns Inv-loop μ-loop
 returns c =
     let b = c .before in
     let a = b .before .args in
-    let z = word-done (a .text .now) (a .letters .now) (a .from + b .loop .k) (b .loop .k) (c .loop-test .left) in
+    let z = word-done (a .text .now) (a .word .now) (a .from + b .loop .k) (b .loop .k) (c .loop-test .left) in
     omega (arith, b .loop .inv .2)
 
 returns-2 : tie.Need-returns-2 Inv-loop μ-loop
 returns-2 c =
     let b = c .before .before in
     let a = b .before .args in
-    let z = word-past (a .text .now) (a .letters .now) (a .from + b .loop .k) (b .loop .k) (omega arith) in
+    let z = word-past (a .text .now) (a .word .now) (a .from + b .loop .k) (b .loop .k) (omega arith) in
     omega (arith, b .loop .inv .2)
 
 returns-3 : tie.Need-returns-3 Inv-loop μ-loop
@@ -67,12 +67,12 @@ returns-3 c =
     let b = c .before .before .before .before .before in
     let a = b .before .args in
     let l : a .from + b .loop .k < length (a .text .now) = omega arith in
-    let m : b .loop .k < length (a .letters .now) = omega arith in
-    let z = word-stop (a .text .now) (a .letters .now) (a .from) (b .loop .k) l m (c .if2 .taken) in
+    let m : b .loop .k < length (a .word .now) = omega arith in
+    let z = word-stop (a .text .now) (a .word .now) (a .from) (b .loop .k) l m (c .if2 .taken) in
     omega (arith, b .loop .inv .2)
 
-pub word-spec : {M : Type 1} → statement M
-word-spec =
+pub shared-spec : {M : Type 1} → statement M
+shared-spec =
     tie.close
     (tie.spec
     Inv-loop
