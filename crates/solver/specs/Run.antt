@@ -58,9 +58,9 @@ pub record System (p : ℕ) (A : Matrix) (b : List ℕ) : Type 0 where
   pub valid : Valid p A
   pub accepted : Accepted p A b
 
-pub system-of : {p : ℕ} {A : Matrix} {b words : List ℕ} → first (runChecks p A b words) ≡ 0 → System p A b
+pub system-of : (p : ℕ) (A : Matrix) (b words : List ℕ) → first (runChecks p A b words) ≡ 0 → System p A b
 unfolding runChecks systemChecks
-system-of {p} {A} {b} {words} e =
+system-of p A b words e =
     record { checked = matrix; valid = valid-of (run-accepted p A b words e .system); accepted = accepted p A b words e }
   where
     system : first (systemChecks p A b) ≡ 0

@@ -33,7 +33,7 @@ run-requires c κs =
     let A = matrix (now (a .starts)) (now (a .columns)) (now (a .values)) in
     let passed = sym (c .before .before .solver-refusal .ensures) ∙ c .before .if1 .left in
     let t = call-accepted (a .field .p) A (now (a .b)) (now (a .words)) (now (a .vector)) (now (a .polynomial)) (now (a .work)) passed in
-    (system-of (run-passed (a .field .p) A (now (a .b)) (now (a .words)) (now (a .vector)) (now (a .polynomial)) (now (a .work)) passed), (t .run .words-taken, t .room))
+    (system-of (a .field .p) A (now (a .b)) (now (a .words)) (run-passed (a .field .p) A (now (a .b)) (now (a .words)) (now (a .vector)) (now (a .polynomial)) (now (a .work)) passed), (t .run .words-taken, t .room))
 
 finish-requires : tie.Need-finish-requires
 finish-requires c κs =
@@ -41,7 +41,7 @@ finish-requires c κs =
     let A = matrix (now (a .starts)) (now (a .columns)) (now (a .values)) in
     let passed = sym (c .before .before .before .before .before .before .before .before .solver-refusal .ensures) ∙ c .before .before .before .before .before .before .before .if1 .left in
     let t = call-accepted (a .field .p) A (now (a .b)) (now (a .words)) (now (a .vector)) (now (a .polynomial)) (now (a .work)) passed in
-    let system = system-of (run-passed (a .field .p) A (now (a .b)) (now (a .words)) (now (a .vector)) (now (a .polynomial)) (now (a .work)) passed) in
+    let system = system-of (a .field .p) A (now (a .b)) (now (a .words)) (run-passed (a .field .p) A (now (a .b)) (now (a .words)) (now (a .vector)) (now (a .polynomial)) (now (a .work)) passed) in
     (system, (closable system (c .before .before .before .before .before .run .ensures), (t .vector-size, t .polynomial-size)))
 
 same-length-4 : tie.Need-same-length-4
