@@ -8,22 +8,20 @@ ghost use Rattle.meaning.specs.Field.{isModulus};
 ghost use Rattle.meaning.specs.Matrix.{matrix};
 ghost use Rattle.meaning.specs.Solver.{projections, dot};
 ghost use Rattle.wiedemann.specs.Modulus.{Modular};
-ghost use Rattle.wiedemann.specs.Sums.{Summed};
 ghost use Rattle.checks.specs.Valid.{Valid, Vector};
 ghost use Rattle.wiedemann.specs.Region.{part};
 ghost use Rattle.wiedemann.specs.Projection.{Words};
 ghost use Rattle.wiedemann.specs.Turns.{Seat, Other, Turning, Advanced, Sequenced, Leading, Applied, Generated, Shortened};
-ghost use Rattle.wiedemann.specs.Factor.{cross, productAt, Multiplied, nothing};
+ghost use Rattle.wiedemann.specs.Factor.{Factors, productAt, Multiplied};
 ghost use Rattle.meaning.specs.Refusal.{first};
 ghost use Rattle.wiedemann.specs.Pass.{residualAt, stateChecks, Passes};
+use crate::convolution::crossed;
 use crate::matrix::step_within;
 use crate::modulus::Modulus;
 use crate::projection::Projection;
 use crate::projection::projected;
 use crate::recurrence::shortest;
 use crate::slice::copy;
-use crate::sums::Total;
-use crate::sums::times;
 use checks::are_elements;
 use checks::matrix_refusal;
 use checks::words_taken;
@@ -163,33 +161,20 @@ fn take_factor(
     t
 }
 
-// The sum of F[i] × f[k − i] from `from` up to but not including `to`: F stands at the front, f at `f`.
-fn crossed(work: &[u32], f: usize, k: usize, from: usize, to: usize) -> Total
-    requires { ⌜ (from ≤ to) × (to ≤ k + 1) × (k ≤ 8192) × (k < f) × (f + (k - from) < length (now work)) ⌝ }
-    ensures { λ r. ⌜ Summed nothing r from to (cross (now (work .entry)) f k) ⌝ }
-{
-    let mut total = Total { low: 0, high: 0 };
-    let mut i = from;
-    while i < to {
-        total = total.add(times(work[i], work[f + (k - i)]));
-        i += 1;
-    }
-    total
-}
-
 // Coefficient k of the product of F, of degree d, and f, of degree t: the sum over the places where both have a coefficient.
 fn coefficient(m: Modulus, work: &[u32], d: usize, f: usize, t: usize, k: usize) -> u32
-    requires { ⌜ Modular m × (0 < m .p) × (d + t ≤ 8192) × (d + t < f) × (f + t < length (now work)) × (k ≤ d + t) ⌝ }
+    requires { ⌜ Modular m × Factors (m .p) (now work) d f t × (k ≤ d + t) ⌝ }
     ensures { λ r. ⌜ r ≡ productAt (m .p) (now (work .entry)) d f t k ⌝ }
 {
     let from = if k < t { 0 } else { k - t };
     let to = if k < d { k + 1 } else { d + 1 };
-    crossed(work, f, k, from, to).residue(m)
+    let front: usize = 0;
+    crossed(work, front, f + k, from, to).residue(m)
 }
 
 // F becomes F × f, from the highest coefficient down: those that are still read stand below.
 fn multiply(m: Modulus, work: &mut [u32], d: usize, f: usize, t: usize)
-    requires { ⌜ Modular m × (0 < m .p) × (d + t ≤ 8192) × (d + t < f) × (f + t < length (now work)) ⌝ }
+    requires { ⌜ Modular m × Factors (m .p) (now work) d f t ⌝ }
     ensures { λ _. ⌜ Multiplied (m .p) (now (work .entry)) d f t (now (work .exit)) ⌝ }
 {
     let mut k = d + t + 1;
@@ -222,7 +207,7 @@ pub fn residual_at(n: u32) -> usize
     2 * (n as usize) + 1
 }
 
-// 8, 10, 11 and 9 of a run's state: D is below n, the words, the work slice, and r, which can be read then.
+// 8, 10, 11 and 9 of a run's state: D is below n, the words, the work slice, and F and r, which can be read then.
 fn state_refusal(p: u32, n: usize, d: usize, words: &[u32], work: &[u32]) -> u32
     requires { ⌜ n ≤ 4096 ⌝ }
     ensures { λ r. ⌜ r ≡ first (stateChecks p n d (now (words .entry)) (now (work .entry))) ⌝ }
@@ -236,9 +221,11 @@ fn state_refusal(p: u32, n: usize, d: usize, words: &[u32], work: &[u32]) -> u32
     if work.len() < 16 * n + 16 {
         return 11;
     }
+    let front: usize = 0;
+    let end = d + 1;
     let from = residual_at(n as u32);
     let to = from + n;
-    if !are_elements(p, &work[from..to]) {
+    if !(are_elements(p, &work[front..end]) & are_elements(p, &work[from..to])) {
         return 9;
     }
     0
