@@ -1,4 +1,5 @@
-// What a pass does, in a slice whose first three regions of n places hold r and, by turns, its iterates.
+// A pass of a run, in the run's work slice: F at the front, 2n + 1 places; r and two regions for its iterates Aⁱr, n places each; the recurrence's
+// part, 8 × left + 8 places; the rest is free. What needs no F runs in the `area` from r on.
 ghost use mathlib.Core.Path.{_≡_};
 ghost use mathlib.Core.Bool.{true};
 ghost use mathlib.Core.List.{[]};
@@ -27,7 +28,7 @@ use checks::matrix_refusal;
 use checks::words_taken;
 use field::Field;
 
-// The region that is to be written next: the second after the first and the third, the third after the second.
+// The region of the next iterate: the second after the first and the third, the third after the second.
 fn other(n: usize, from: usize) -> usize
     requires { ⌜ Seat n from × (n ≤ 4096) ⌝ }
     ensures { λ to. ⌜ Other n from to ⌝ }
@@ -35,7 +36,7 @@ fn other(n: usize, from: usize) -> usize
     if from == n { 2 * n } else { n }
 }
 
-// c × r plus the product with the vector at `from`, into the next region; the answer is where that begins.
+// Horner's step: c × r plus A times the iterate at `from`, into the next region; the answer is where that begins.
 fn advance(
     m: Modulus,
     c: u32,
@@ -47,7 +48,8 @@ fn advance(
 ) -> usize
     requires { ⌜ Valid (m .p) (matrix (now starts) (now columns) (now values)) ⌝ }
     requires { ⌜ Modular m × Turning (m .p) (length (now starts) - 1) from (now area) ⌝ }
-    ensures { λ to. ⌜ Advanced (m .p) (matrix (now (starts .entry)) (now (columns .entry)) (now (values .entry))) c (now (area .entry)) from (now (area .exit)) to ⌝ }
+    ensures { λ to. ⌜ Advanced (m .p) (matrix (now (starts .entry)) (now (columns .entry)) (now (values .entry))) c
+        (now (area .entry)) from (now (area .exit)) to ⌝ }
 {
     let n = starts.len() - 1;
     let to = other(n, from);
@@ -56,7 +58,7 @@ fn advance(
     to
 }
 
-// A term: what the projection makes of the vector at `from`, into `place`.
+// A term of the sequence: the projection's dot product with the iterate at `from`, into `place`.
 fn term(
     m: Modulus,
     words: &[u32],
@@ -67,7 +69,8 @@ fn term(
     place: usize,
 )
     requires { ⌜ Modular m × (n ≤ 4096) ⌝ }
-    requires { ⌜ Words n (u .vectors) (now words) × (from + n ≤ length (now area)) × (place < length (now area)) × Vector (m .p) n (part from n (now area)) ⌝ }
+    requires { ⌜ Words n (u .vectors) (now words) × (from + n ≤ length (now area)) × (place < length (now area))
+        × Vector (m .p) n (part from n (now area)) ⌝ }
     ensures { λ _. ⌜ now (area .exit) ≡ set (now (area .entry)) place
         (dot (m .p) (getD (projections (m .p) n (now (words .entry))) (u .index) []) (part from n (now (area .entry)))) ⌝ }
 {
@@ -75,7 +78,7 @@ fn term(
     area[place] = projected(m, words, u, &area[from..end]);
 }
 
-// The 2 × left terms u·r, u·Ar, u·A²r, .. after the three regions: 2 × left − 1 products.
+// The 2 × left terms u·r, u·Ar, u·A²r, .. where the recurrence begins: 2 × left − 1 products.
 fn terms(
     m: Modulus,
     starts: &[u32],
@@ -88,8 +91,11 @@ fn terms(
 )
     requires { ⌜ Valid (m .p) (matrix (now starts) (now columns) (now values)) ⌝ }
     requires { ⌜ Modular m × (0 < left) × (left ≤ 4096) × Words (length (now starts) - 1) (u .vectors) (now words) ⌝ }
-    requires { ⌜ (3 * (length (now starts) - 1) + 2 * left ≤ length (now area)) × Vector (m .p) (length (now starts) - 1) (part 0 (length (now starts) - 1) (now area)) ⌝ }
-    ensures { λ _. ⌜ Sequenced (m .p) (matrix (now (starts .entry)) (now (columns .entry)) (now (values .entry))) left (getD (projections (m .p) (length (now (starts .entry)) - 1) (now (words .entry))) (u .index) []) (now (area .entry)) (now (area .exit)) ⌝ }
+    requires { ⌜ (3 * (length (now starts) - 1) + 2 * left ≤ length (now area))
+        × Vector (m .p) (length (now starts) - 1) (part 0 (length (now starts) - 1) (now area)) ⌝ }
+    ensures { λ _. ⌜ Sequenced (m .p) (matrix (now (starts .entry)) (now (columns .entry)) (now (values .entry))) left
+        (getD (projections (m .p) (length (now (starts .entry)) - 1) (now (words .entry))) (u .index) [])
+        (now (area .entry)) (now (area .exit)) ⌝ }
 {
     let n = starts.len() - 1;
     let mut from = 0;
@@ -102,7 +108,7 @@ fn terms(
     }
 }
 
-// The shortest recurrence of the `count` terms from `from` on. Its part of the slice is lent to the recurrence's core, which begins afresh.
+// The degree of the shortest recurrence of the `count` terms from `from` on; its generator stands behind them.
 fn recurrence_of_terms(m: Modulus, area: &mut [u32], from: usize, count: usize) -> usize
     requires { ⌜ (isModulus (m .p) ≡ true) × Modular m × (count ≤ 8192) × (from ≤ 65536) ⌝ }
     requires { ⌜ (from + (4 * count + 8) ≤ length (now area)) × Vector (m .p) count (part from count (now area)) ⌝ }
@@ -112,7 +118,7 @@ fn recurrence_of_terms(m: Modulus, area: &mut [u32], from: usize, count: usize) 
     shortest(m, count, &mut area[from..end])
 }
 
-// r becomes f(A)r, by Horner's rule, for the f of degree t at `f`: t products.
+// r becomes f(A)r by Horner's rule, for the monic f of degree t at `f`: t products.
 fn apply_within(
     m: Modulus,
     starts: &[u32],
@@ -138,7 +144,7 @@ fn apply_within(
     copy(area, from, r, starts.len() - 1);
 }
 
-// The terms with the projection, their shortest recurrence f, and f(A)r in r's place; the answer is f's degree, and f stands behind the terms.
+// The terms with the projection, their generator f, and f(A)r in r's place; the answer is f's degree, and f stands behind the terms.
 fn take_factor(
     m: Modulus,
     starts: &[u32],
@@ -151,8 +157,11 @@ fn take_factor(
 ) -> usize
     requires { ⌜ Valid (m .p) (matrix (now starts) (now columns) (now values)) × (isModulus (m .p) ≡ true) ⌝ }
     requires { ⌜ Modular m × (0 < left) × (left ≤ 4096) × Words (length (now starts) - 1) (u .vectors) (now words) ⌝ }
-    requires { ⌜ (3 * (length (now starts) - 1) + (8 * left + 8) ≤ length (now area)) × Vector (m .p) (length (now starts) - 1) (part 0 (length (now starts) - 1) (now area)) ⌝ }
-    ensures { λ t. ⌜ Shortened (m .p) (matrix (now (starts .entry)) (now (columns .entry)) (now (values .entry))) left (getD (projections (m .p) (length (now (starts .entry)) - 1) (now (words .entry))) (u .index) []) (now (area .entry)) (now (area .exit)) t ⌝ }
+    requires { ⌜ (3 * (length (now starts) - 1) + (8 * left + 8) ≤ length (now area))
+        × Vector (m .p) (length (now starts) - 1) (part 0 (length (now starts) - 1) (now area)) ⌝ }
+    ensures { λ t. ⌜ Shortened (m .p) (matrix (now (starts .entry)) (now (columns .entry)) (now (values .entry))) left
+        (getD (projections (m .p) (length (now (starts .entry)) - 1) (now (words .entry))) (u .index) [])
+        (now (area .entry)) (now (area .exit)) t ⌝ }
 {
     let n = starts.len() - 1;
     terms(m, starts, columns, values, words, u, area, left);
@@ -161,7 +170,7 @@ fn take_factor(
     t
 }
 
-// Coefficient k of the product of F, of degree d, and f, of degree t: the sum over the places where both have a coefficient.
+// Coefficient k of the product of F, of degree d, and f, of degree t at `f`: the sum over the places where both have a coefficient.
 fn coefficient(m: Modulus, work: &[u32], d: usize, f: usize, t: usize, k: usize) -> u32
     requires { ⌜ Modular m × Factors (m .p) (now work) d f t × (k ≤ d + t) ⌝ }
     ensures { λ r. ⌜ r ≡ productAt (m .p) (now (work .entry)) d f t k ⌝ }
@@ -200,7 +209,7 @@ pub enum Passed {
     Refused(u32),
 }
 
-// Where r begins in a run's work slice: behind the 2n + 1 places that F may take.
+// Where r begins: behind the places that F may take.
 pub fn residual_at(n: u32) -> usize
     ensures { λ r. ⌜ r ≡ residualAt n ⌝ }
 {
