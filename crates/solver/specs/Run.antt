@@ -30,7 +30,7 @@ use Rattle.meaning.specs.Calls.{systemChecks, runChecks}
 use Rattle.meaning.specs.Recurrence.{degree}
 use Rattle.meaning.specs.Solver.{Pass, Run, projections, begin, spent, passTerms, pass, run}
 use Rattle.laws.specs.Accepted.{run-accepted}
-use Rattle.laws.specs.Bool.{test-cases, never}
+use Rattle.laws.specs.Bool.{and-both, test-cases, never}
 use Rattle.laws.specs.List.{all-of, length-table, table-of}
 use Rattle.laws.specs.Refusal.{first-append-zero, numbered-matrix, numbered-system}
 use Rattle.laws.specs.Solver.{spent-nil, spent-snoc}
@@ -238,6 +238,16 @@ module _ {p : ℕ} {A : Matrix} {b words W : List ℕ} {j : ℕ} {c : Counts} (s
         below = λ i l. subst (λ (q : Run). at (q .residual) i < p) (sym (m .state)) (stands .reduced-residual i (omega (arith, stands .size-residual, l)));
       }
 
+  factor : Vector p (c .degree + 1) (part 0 (c .degree + 1) W)
+  factor =
+      record {
+        places = ap (λ (q : Run). length (q .factor)) (m .state) ∙ stands .size-factor ∙ ap (λ (q : Run). q .found + 1) (sym (m .state));
+        below =
+            λ i l.
+            subst (λ (q : Run). at (q .factor) i < p) (sym (m .state))
+            (stands .reduced-factor i (omega (arith, l, stands .size-factor, ap (λ (q : Run). q .found) (m .state))));
+      }
+
   below : isZero (part (residualAt (size A)) (size A) W) ≡ false → c .degree < size A
   unfolding h us
   below z =
@@ -248,7 +258,8 @@ module _ {p : ℕ} {A : Matrix} {b words W : List ℕ} {j : ℕ} {c : Counts} (s
   pub midway-state : isZero (part (residualAt (size A)) (size A) W) ≡ false → wordsTaken (size A) words ≡ true → passRefusal p A words (c .degree) W ≡ 0
   midway-state z t =
       refused-state p A words (c .degree) W (s .checked)
-      ∙ state-0 p (size A) (c .degree) words W (below z) t (m .room) (vector-elements p (size A) (part (residualAt (size A)) (size A) W) residual)
+      ∙ state-0 p (size A) (c .degree) words W (below z) t (m .room)
+      (and-both (vector-elements p (c .degree + 1) (part 0 (c .degree + 1) W) factor) (vector-elements p (size A) (part (residualAt (size A)) (size A) W) residual))
 
   pub midway-made : isZero (part (residualAt (size A)) (size A) W) ≡ false → wordsTaken (size A) words ≡ true → (W′ : List ℕ) (k : ℕ)
       → Passes p A words j (c .degree) W (Refused k) W′ → ⊥

@@ -1,42 +1,48 @@
--- One pass of a run in its work slice, whatever led there (src/pass.rt). The slice holds F at the front, 2n + 1 places; r and two regions for its
--- iterates, n places each; then the recurrence's part, 8 × left + 8 places; what is behind them is free. F may take 2n + 1 places: a pass of a state that
--- no run led to finds a degree of up to 2 × left.
+-- One pass of a run in its work slice, whatever led there (src/pass.rt, which has the slice's layout). F may take 2n + 1 places: a pass of a state
+-- that no run led to finds a degree of up to 2 × left.
 --     residualAt           where r begins
 --     generatorAt          where f stands after the recurrence of 2 × left terms
 --     held                 the run that a work slice holds, its degree D and its passes being known
---     stateChecks          8: D is below n; 10: the words; 11: the work slice; 9: an element of r
+--     heldElements         F and r hold elements below p
+--     stateChecks          8: D is below n; 10: the words; 11: the work slice; 9: an element of F or r
 --     passRefusal          3 to 7 for field and matrix, then these
 --     passOf, Answers      the meaning's record of a pass; what each case of an answer says
 --     Passes               what a call answers and leaves: the meaning's `pass` of what was held
 --     Narrowed, narrowed, narrowed-from      terms, recurrence and f(A)r in the slice's part from r on; F stays
+--     narrowed-factors     F and f are what the product asks
 --     made                 with F × f: a pass
 --     refused-matrix, refused-state, state-8, state-10, state-11, state-9, state-0      the number, by the first check that turns the input down
 --     State, state-of      what the checks leave known
 use mathlib.Core.Path.{_≡_, refl, sym, ap, ap₂, _∙_, subst}
 use mathlib.Core.Logic.{_≢_}
-use mathlib.Core.Bool.{true, false, not}
+use mathlib.Core.Bool.{Bool, true, false, not, _&&_}
 use mathlib.Core.List.{List, [], _∷_, _++_}
 use Prim.Native.Nat.{ℕ, _+_, _-_, _*_, _/_, _≤_, _<_}
-use native.Mathlib.Nat.{add-zero}
+use native.Mathlib.Nat.{zero-add, add-zero}
 use native.Mathlib.Omega.{arith}
 use lib.Dec.{ltb, leb}
 use lib.ListN.{length, take, getD}
 use borrow.Author.Tests.{ltb-true, leb-true, lt-ltb, le-ltb, le-leb, lt-leb}
+use Rattle.meaning.specs.List.{at}
 use Rattle.meaning.specs.Matrix.{Matrix, size, apply}
 use Rattle.meaning.specs.Recurrence.{degree, generator}
 use Rattle.meaning.specs.Refusal.{Check, check, first, elements, matrixChecks, wordsTaken}
 use Rattle.meaning.specs.Solver.{Pass, Run, projections, terms, multiply, passTerms, pass}
+use Rattle.laws.specs.Bool.{and-left, and-right}
 use Rattle.laws.specs.Refusal.{first-nil, first-past, first-stops, first-passed, first-append-none, first-append-some, numbered-matrix}
 use Rattle.laws.specs.Solver.{vectorCount-div, vectorCount-whole, vectorCount-few}
+use Rattle.residue.specs.Prime.{Prime}
+use Rattle.residue.specs.Lists.{reduced-getD}
+use Rattle.bridge.specs.Recurrence.{reduced-generator}
 use Rattle.checks.specs.Valid.{Vector, vector-of}
 use Rattle.wiedemann.specs.declared.pass.Pass.{Pass as CodePass}
 use Rattle.wiedemann.specs.declared.pass.Passed.{Passed}
 use Rattle.wiedemann.specs.declared.pass.Passed.the-variants.{Made, Refused}
 use Rattle.wiedemann.specs.Projection.{Words}
-use Rattle.wiedemann.specs.Region.{part, length-part}
+use Rattle.wiedemann.specs.Region.{part, length-part, at-part}
 use Rattle.wiedemann.specs.Lent.{lent, length-lent, take-lent, inner-lent, part-at, part-of-part, same-take, same-drop}
 use Rattle.wiedemann.specs.Turns.{Shortened}
-use Rattle.wiedemann.specs.Factor.{Multiplied}
+use Rattle.wiedemann.specs.Factor.{Factors, Multiplied}
 
 abbrev pub residualAt : ℕ → ℕ
 residualAt n = 2 * n + 1
@@ -47,12 +53,15 @@ generatorAt n left = residualAt n + (3 * n + (2 * left + 2))
 abbrev pub held : ℕ → List ℕ → ℕ → List Pass → Run
 held n W D qs = record { residual = part (residualAt n) n W; factor = part 0 (D + 1) W; found = D; passes = qs }
 
+abbrev pub heldElements : ℕ → ℕ → ℕ → List ℕ → Bool
+heldElements p n D work = elements p (part 0 (D + 1) work) && elements p (part (residualAt n) n work)
+
 unfoldable pub stateChecks : ℕ → ℕ → ℕ → List ℕ → List ℕ → List Check
 stateChecks p n D words work =
     check 8 (not (ltb D n))
     ∷ check 10 (not (wordsTaken n words))
     ∷ check 11 (not (leb (16 * n + 16) (length work)))
-    ∷ check 9 (not (elements p (part (residualAt n) n work)))
+    ∷ check 9 (not (heldElements p n D work))
     ∷ []
 
 unfoldable pub passRefusal : ℕ → Matrix → List ℕ → ℕ → List ℕ → ℕ
@@ -129,6 +138,42 @@ same-held {r} {r′} {F} {F′} {D} {D′} {qs} {qs′} a b c d =
     ∙ ap {B = Run} (λ x. record { residual = r′; factor = F′; found = x; passes = qs }) c
     ∙ ap {B = Run} (λ x. record { residual = r′; factor = F′; found = D′; passes = x }) d
 
+-- F's coefficients passed check 9, f's are a generator's
+pub narrowed-factors : {p : ℕ} {A : Matrix} {u W W₁ : List ℕ} (D t : ℕ) → Prime p → size A ≤ 4096 → D < size A → Vector p (D + 1) (part 0 (D + 1) W)
+    → Narrowed p A (size A - D) u W W₁ t → (f m : ℕ) → f ≡ generatorAt (size A) (size A - D) → f + t < m → m ≤ length W → Factors p (part 0 m W₁) D f t
+narrowed-factors {p} {A} {u} {W} {W₁} D t prime sized below F a f m e inside fits =
+    record {
+      few = omega (arith, within, sized);
+      below = omega (arith, within, e);
+      room = omega (arith, length-part 0 m W₁ long, inside);
+      left =
+          λ i l.
+          subst (λ x. x < p)
+          (ap (λ g. at g i) (sym front) ∙ at-part 0 (D + 1) W₁ i (omega (arith, l)) ∙ sym (at-part 0 m W₁ i (omega (arith, l, within, e, inside))))
+          (F .below i (omega (arith, l)));
+      right =
+          λ i l.
+          subst (λ x. x < p)
+          (ap (λ g. at g i) (sym (part-at W₁ f (t + 1) (generatorAt n (n - D)) (t + 1) e refl ∙ a .f)) ∙ at-part f (t + 1) W₁ i (omega (arith, l))
+          ∙ sym (at-part 0 m W₁ (f + i) (omega (arith, l, inside)) ∙ ap (at W₁) (zero-add (f + i))))
+          (reduced-getD p (generator p s) (omega (arith, prime .two-le)) (reduced-generator p prime s) i);
+    }
+  where
+    n : ℕ
+    n = size A
+
+    s : List ℕ
+    s = terms p A (size A - D) u (part (residualAt (size A)) (size A) W)
+
+    within : D + t ≤ 2 * n
+    within = omega (arith, a .short, below)
+
+    long : 0 + m ≤ length W₁
+    long = omega (arith, fits, a .same-length)
+
+    front : part 0 (D + 1) W₁ ≡ part 0 (D + 1) W
+    front = same-take 0 (D + 1) (residualAt n) W W₁ (omega (arith, below)) (omega (arith, fits, inside, e)) (a .same-length) (a .front)
+
 pub made : {p : ℕ} {A : Matrix} {u W W₁ W₂ : List ℕ} (D t : ℕ) → D < size A → 16 * size A + 16 ≤ length W → Narrowed p A (size A - D) u W W₁ t
     → (f : ℕ) → f ≡ generatorAt (size A) (size A - D) → Multiplied p W₁ D f t W₂ → (qs : List Pass)
     → held (size A) W₂ (D + t) (qs ++ (record { left = size A - D; degree = t; applications = 2 * (size A - D) - 1 + t } ∷ [])) ≡ pass p A u (held (size A) W D qs)
@@ -181,7 +226,7 @@ module _ (p n D : ℕ) (words work : List ℕ) where
 
     module _ (taken : wordsTaken n words ≡ true) where
       past-10 : first (stateChecks p n D words work)
-          ≡ first (check 11 (not (leb (16 * n + 16) (length work))) ∷ check 9 (not (elements p (part (residualAt n) n work))) ∷ [])
+          ≡ first (check 11 (not (leb (16 * n + 16) (length work))) ∷ check 9 (not (heldElements p n D work)) ∷ [])
       unfolding stateChecks
       past-10 = first-past 8 (not (ltb D n)) _ (ap not (lt-ltb D n below)) ∙ first-past 10 (not (wordsTaken n words)) _ (ap not taken)
 
@@ -189,19 +234,20 @@ module _ (p n D : ℕ) (words work : List ℕ) where
       state-11 l = past-10 ∙ first-stops 11 (not (leb (16 * n + 16) (length work))) _ (ap not (lt-leb (16 * n + 16) (length work) l))
 
       module _ (room : 16 * n + 16 ≤ length work) where
-        past-11 : first (stateChecks p n D words work) ≡ first (check 9 (not (elements p (part (residualAt n) n work))) ∷ [])
+        past-11 : first (stateChecks p n D words work) ≡ first (check 9 (not (heldElements p n D work)) ∷ [])
         past-11 = past-10 ∙ first-past 11 (not (leb (16 * n + 16) (length work))) _ (ap not (le-leb (16 * n + 16) (length work) room))
 
-        pub state-9 : elements p (part (residualAt n) n work) ≡ false → first (stateChecks p n D words work) ≡ 9
-        state-9 t = past-11 ∙ first-stops 9 (not (elements p (part (residualAt n) n work))) _ (ap not t)
+        pub state-9 : heldElements p n D work ≡ false → first (stateChecks p n D words work) ≡ 9
+        state-9 t = past-11 ∙ first-stops 9 (not (heldElements p n D work)) _ (ap not t)
 
-        pub state-0 : elements p (part (residualAt n) n work) ≡ true → first (stateChecks p n D words work) ≡ 0
-        state-0 t = past-11 ∙ first-past 9 (not (elements p (part (residualAt n) n work))) _ (ap not t) ∙ first-nil
+        pub state-0 : heldElements p n D work ≡ true → first (stateChecks p n D words work) ≡ 0
+        state-0 t = past-11 ∙ first-past 9 (not (heldElements p n D work)) _ (ap not t) ∙ first-nil
 
 pub record State (p n D : ℕ) (words work : List ℕ) : Type 0 where
   pub below : D < n
   pub words-taken : Words n (length words / n) words
   pub room : 16 * n + 16 ≤ length work
+  pub factor : Vector p (D + 1) (part 0 (D + 1) work)
   pub residual : Vector p n (part (residualAt n) n work)
 
 pub state-of : (p n D : ℕ) (words work : List ℕ) → first (stateChecks p n D words work) ≡ 0 → State p n D words work
@@ -210,11 +256,14 @@ state-of p n D words work e =
     let eight = first-passed 8 (ltb D n) _ (omega arith) e in
     let ten = first-passed 10 (wordsTaken n words) _ (omega arith) (eight .1) in
     let eleven = first-passed 11 (leb (16 * n + 16) (length work)) _ (omega arith) (ten .1) in
-    let nine = first-passed 9 (elements p (part (residualAt n) n work)) _ (omega arith) (eleven .1) in
+    let nine = first-passed 9 (heldElements p n D work) _ (omega arith) (eleven .1) in
+    let below = ltb-true D n (eight .0) in
     let room = leb-true (16 * n + 16) (length work) (eleven .0) in
+    let F = part 0 (D + 1) work in
+    let r = part (residualAt n) n work in
     let count = vectorCount-div n words in
     record {
-      below = ltb-true D n (eight .0);
+      below = below;
       words-taken =
           record {
             count = refl;
@@ -222,5 +271,6 @@ state-of p n D words work e =
             few = omega (arith, vectorCount-few n words (ten .0), count);
           };
       room = room;
-      residual = vector-of p (part (residualAt n) n work) n (length-part (residualAt n) n work (omega (arith, room))) (nine .0);
+      factor = vector-of p F (D + 1) (length-part 0 (D + 1) work (omega (arith, below, room))) (and-left (elements p F) (elements p r) (nine .0));
+      residual = vector-of p r n (length-part (residualAt n) n work (omega (arith, room))) (and-right (elements p F) (elements p r) (nine .0));
     }

@@ -1,4 +1,5 @@
-// What a pass does, in a slice whose first three regions of n places hold r and, by turns, its iterates.
+// A pass of a run, in the run's work slice: F at the front, 2n + 1 places; r and two regions for its iterates Aⁱr, n places each; the recurrence's
+// part, 8 × left + 8 places; the rest is free. What needs no F runs in the `area` from r on.
 ghost use mathlib.Core.Path.{_≡_};
 ghost use mathlib.Core.Bool.{true};
 ghost use mathlib.Core.List.{[]};
@@ -8,28 +9,26 @@ ghost use Rattle.meaning.specs.Field.{isModulus};
 ghost use Rattle.meaning.specs.Matrix.{matrix};
 ghost use Rattle.meaning.specs.Solver.{projections, dot};
 ghost use Rattle.wiedemann.specs.Modulus.{Modular};
-ghost use Rattle.wiedemann.specs.Sums.{Summed};
 ghost use Rattle.checks.specs.Valid.{Valid, Vector};
 ghost use Rattle.wiedemann.specs.Region.{part};
 ghost use Rattle.wiedemann.specs.Projection.{Words};
 ghost use Rattle.wiedemann.specs.Turns.{Seat, Other, Turning, Advanced, Sequenced, Leading, Applied, Generated, Shortened};
-ghost use Rattle.wiedemann.specs.Factor.{cross, productAt, Multiplied, nothing};
+ghost use Rattle.wiedemann.specs.Factor.{Factors, productAt, Multiplied};
 ghost use Rattle.meaning.specs.Refusal.{first};
 ghost use Rattle.wiedemann.specs.Pass.{residualAt, stateChecks, Passes};
+use crate::convolution::crossed;
 use crate::matrix::step_within;
 use crate::modulus::Modulus;
 use crate::projection::Projection;
 use crate::projection::projected;
 use crate::recurrence::shortest;
 use crate::slice::copy;
-use crate::sums::Total;
-use crate::sums::times;
 use checks::are_elements;
 use checks::matrix_refusal;
 use checks::words_taken;
 use field::Field;
 
-// The region that is to be written next: the second after the first and the third, the third after the second.
+// The region of the next iterate: the second after the first and the third, the third after the second.
 fn other(n: usize, from: usize) -> usize
     requires { ⌜ Seat n from × (n ≤ 4096) ⌝ }
     ensures { λ to. ⌜ Other n from to ⌝ }
@@ -37,7 +36,7 @@ fn other(n: usize, from: usize) -> usize
     if from == n { 2 * n } else { n }
 }
 
-// c × r plus the product with the vector at `from`, into the next region; the answer is where that begins.
+// Horner's step: c × r plus A times the iterate at `from`, into the next region; the answer is where that begins.
 fn advance(
     m: Modulus,
     c: u32,
@@ -49,7 +48,8 @@ fn advance(
 ) -> usize
     requires { ⌜ Valid (m .p) (matrix (now starts) (now columns) (now values)) ⌝ }
     requires { ⌜ Modular m × Turning (m .p) (length (now starts) - 1) from (now area) ⌝ }
-    ensures { λ to. ⌜ Advanced (m .p) (matrix (now (starts .entry)) (now (columns .entry)) (now (values .entry))) c (now (area .entry)) from (now (area .exit)) to ⌝ }
+    ensures { λ to. ⌜ Advanced (m .p) (matrix (now (starts .entry)) (now (columns .entry)) (now (values .entry))) c
+        (now (area .entry)) from (now (area .exit)) to ⌝ }
 {
     let n = starts.len() - 1;
     let to = other(n, from);
@@ -58,7 +58,7 @@ fn advance(
     to
 }
 
-// A term: what the projection makes of the vector at `from`, into `place`.
+// A term of the sequence: the projection's dot product with the iterate at `from`, into `place`.
 fn term(
     m: Modulus,
     words: &[u32],
@@ -69,7 +69,8 @@ fn term(
     place: usize,
 )
     requires { ⌜ Modular m × (n ≤ 4096) ⌝ }
-    requires { ⌜ Words n (u .vectors) (now words) × (from + n ≤ length (now area)) × (place < length (now area)) × Vector (m .p) n (part from n (now area)) ⌝ }
+    requires { ⌜ Words n (u .vectors) (now words) × (from + n ≤ length (now area)) × (place < length (now area))
+        × Vector (m .p) n (part from n (now area)) ⌝ }
     ensures { λ _. ⌜ now (area .exit) ≡ set (now (area .entry)) place
         (dot (m .p) (getD (projections (m .p) n (now (words .entry))) (u .index) []) (part from n (now (area .entry)))) ⌝ }
 {
@@ -77,7 +78,7 @@ fn term(
     area[place] = projected(m, words, u, &area[from..end]);
 }
 
-// The 2 × left terms u·r, u·Ar, u·A²r, .. after the three regions: 2 × left − 1 products.
+// The 2 × left terms u·r, u·Ar, u·A²r, .. where the recurrence begins: 2 × left − 1 products.
 fn terms(
     m: Modulus,
     starts: &[u32],
@@ -90,8 +91,11 @@ fn terms(
 )
     requires { ⌜ Valid (m .p) (matrix (now starts) (now columns) (now values)) ⌝ }
     requires { ⌜ Modular m × (0 < left) × (left ≤ 4096) × Words (length (now starts) - 1) (u .vectors) (now words) ⌝ }
-    requires { ⌜ (3 * (length (now starts) - 1) + 2 * left ≤ length (now area)) × Vector (m .p) (length (now starts) - 1) (part 0 (length (now starts) - 1) (now area)) ⌝ }
-    ensures { λ _. ⌜ Sequenced (m .p) (matrix (now (starts .entry)) (now (columns .entry)) (now (values .entry))) left (getD (projections (m .p) (length (now (starts .entry)) - 1) (now (words .entry))) (u .index) []) (now (area .entry)) (now (area .exit)) ⌝ }
+    requires { ⌜ (3 * (length (now starts) - 1) + 2 * left ≤ length (now area))
+        × Vector (m .p) (length (now starts) - 1) (part 0 (length (now starts) - 1) (now area)) ⌝ }
+    ensures { λ _. ⌜ Sequenced (m .p) (matrix (now (starts .entry)) (now (columns .entry)) (now (values .entry))) left
+        (getD (projections (m .p) (length (now (starts .entry)) - 1) (now (words .entry))) (u .index) [])
+        (now (area .entry)) (now (area .exit)) ⌝ }
 {
     let n = starts.len() - 1;
     let mut from = 0;
@@ -104,7 +108,7 @@ fn terms(
     }
 }
 
-// The shortest recurrence of the `count` terms from `from` on. Its part of the slice is lent to the recurrence's core, which begins afresh.
+// The degree of the shortest recurrence of the `count` terms from `from` on; its generator stands behind them.
 fn recurrence_of_terms(m: Modulus, area: &mut [u32], from: usize, count: usize) -> usize
     requires { ⌜ (isModulus (m .p) ≡ true) × Modular m × (count ≤ 8192) × (from ≤ 65536) ⌝ }
     requires { ⌜ (from + (4 * count + 8) ≤ length (now area)) × Vector (m .p) count (part from count (now area)) ⌝ }
@@ -114,7 +118,7 @@ fn recurrence_of_terms(m: Modulus, area: &mut [u32], from: usize, count: usize) 
     shortest(m, count, &mut area[from..end])
 }
 
-// r becomes f(A)r, by Horner's rule, for the f of degree t at `f`: t products.
+// r becomes f(A)r by Horner's rule, for the monic f of degree t at `f`: t products.
 fn apply_within(
     m: Modulus,
     starts: &[u32],
@@ -140,7 +144,7 @@ fn apply_within(
     copy(area, from, r, starts.len() - 1);
 }
 
-// The terms with the projection, their shortest recurrence f, and f(A)r in r's place; the answer is f's degree, and f stands behind the terms.
+// The terms with the projection, their generator f, and f(A)r in r's place; the answer is f's degree, and f stands behind the terms.
 fn take_factor(
     m: Modulus,
     starts: &[u32],
@@ -153,8 +157,11 @@ fn take_factor(
 ) -> usize
     requires { ⌜ Valid (m .p) (matrix (now starts) (now columns) (now values)) × (isModulus (m .p) ≡ true) ⌝ }
     requires { ⌜ Modular m × (0 < left) × (left ≤ 4096) × Words (length (now starts) - 1) (u .vectors) (now words) ⌝ }
-    requires { ⌜ (3 * (length (now starts) - 1) + (8 * left + 8) ≤ length (now area)) × Vector (m .p) (length (now starts) - 1) (part 0 (length (now starts) - 1) (now area)) ⌝ }
-    ensures { λ t. ⌜ Shortened (m .p) (matrix (now (starts .entry)) (now (columns .entry)) (now (values .entry))) left (getD (projections (m .p) (length (now (starts .entry)) - 1) (now (words .entry))) (u .index) []) (now (area .entry)) (now (area .exit)) t ⌝ }
+    requires { ⌜ (3 * (length (now starts) - 1) + (8 * left + 8) ≤ length (now area))
+        × Vector (m .p) (length (now starts) - 1) (part 0 (length (now starts) - 1) (now area)) ⌝ }
+    ensures { λ t. ⌜ Shortened (m .p) (matrix (now (starts .entry)) (now (columns .entry)) (now (values .entry))) left
+        (getD (projections (m .p) (length (now (starts .entry)) - 1) (now (words .entry))) (u .index) [])
+        (now (area .entry)) (now (area .exit)) t ⌝ }
 {
     let n = starts.len() - 1;
     terms(m, starts, columns, values, words, u, area, left);
@@ -163,33 +170,20 @@ fn take_factor(
     t
 }
 
-// The sum of F[i] × f[k − i] from `from` up to but not including `to`: F stands at the front, f at `f`.
-fn crossed(work: &[u32], f: usize, k: usize, from: usize, to: usize) -> Total
-    requires { ⌜ (from ≤ to) × (to ≤ k + 1) × (k ≤ 8192) × (k < f) × (f + (k - from) < length (now work)) ⌝ }
-    ensures { λ r. ⌜ Summed nothing r from to (cross (now (work .entry)) f k) ⌝ }
-{
-    let mut total = Total { low: 0, high: 0 };
-    let mut i = from;
-    while i < to {
-        total = total.add(times(work[i], work[f + (k - i)]));
-        i += 1;
-    }
-    total
-}
-
-// Coefficient k of the product of F, of degree d, and f, of degree t: the sum over the places where both have a coefficient.
+// Coefficient k of the product of F, of degree d, and f, of degree t at `f`: the sum over the places where both have a coefficient.
 fn coefficient(m: Modulus, work: &[u32], d: usize, f: usize, t: usize, k: usize) -> u32
-    requires { ⌜ Modular m × (0 < m .p) × (d + t ≤ 8192) × (d + t < f) × (f + t < length (now work)) × (k ≤ d + t) ⌝ }
+    requires { ⌜ Modular m × Factors (m .p) (now work) d f t × (k ≤ d + t) ⌝ }
     ensures { λ r. ⌜ r ≡ productAt (m .p) (now (work .entry)) d f t k ⌝ }
 {
     let from = if k < t { 0 } else { k - t };
     let to = if k < d { k + 1 } else { d + 1 };
-    crossed(work, f, k, from, to).residue(m)
+    let front: usize = 0;
+    crossed(work, front, f + k, from, to).residue(m)
 }
 
 // F becomes F × f, from the highest coefficient down: those that are still read stand below.
 fn multiply(m: Modulus, work: &mut [u32], d: usize, f: usize, t: usize)
-    requires { ⌜ Modular m × (0 < m .p) × (d + t ≤ 8192) × (d + t < f) × (f + t < length (now work)) ⌝ }
+    requires { ⌜ Modular m × Factors (m .p) (now work) d f t ⌝ }
     ensures { λ _. ⌜ Multiplied (m .p) (now (work .entry)) d f t (now (work .exit)) ⌝ }
 {
     let mut k = d + t + 1;
@@ -215,14 +209,14 @@ pub enum Passed {
     Refused(u32),
 }
 
-// Where r begins in a run's work slice: behind the 2n + 1 places that F may take.
+// Where r begins: behind the places that F may take.
 pub fn residual_at(n: u32) -> usize
     ensures { λ r. ⌜ r ≡ residualAt n ⌝ }
 {
     2 * (n as usize) + 1
 }
 
-// 8, 10, 11 and 9 of a run's state: D is below n, the words, the work slice, and r, which can be read then.
+// 8, 10, 11 and 9 of a run's state: D is below n, the words, the work slice, and F and r, which can be read then.
 fn state_refusal(p: u32, n: usize, d: usize, words: &[u32], work: &[u32]) -> u32
     requires { ⌜ n ≤ 4096 ⌝ }
     ensures { λ r. ⌜ r ≡ first (stateChecks p n d (now (words .entry)) (now (work .entry))) ⌝ }
@@ -236,9 +230,11 @@ fn state_refusal(p: u32, n: usize, d: usize, words: &[u32], work: &[u32]) -> u32
     if work.len() < 16 * n + 16 {
         return 11;
     }
+    let front: usize = 0;
+    let end = d + 1;
     let from = residual_at(n as u32);
     let to = from + n;
-    if !are_elements(p, &work[from..to]) {
+    if !(are_elements(p, &work[front..end]) & are_elements(p, &work[from..to])) {
         return 9;
     }
     0

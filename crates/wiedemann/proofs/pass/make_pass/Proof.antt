@@ -1,7 +1,8 @@
-use Rattle.wiedemann.specs.Pass.{residualAt, held, narrowed-from, made, refused-matrix, refused-state, State, state-of}
+use Rattle.wiedemann.specs.Pass.{residualAt, held, stateChecks, Narrowed, narrowed-from, narrowed-factors, made, refused-matrix, refused-state, State, state-of}
 use Rattle.wiedemann.specs.Factor.{multiplied-lent}
-use Rattle.wiedemann.specs.Lent.{lent, length-lent, part-at, part-of-part}
+use Rattle.wiedemann.specs.Lent.{lent, part-at, part-of-part}
 use Rattle.wiedemann.specs.Region.{part, length-part}
+use Rattle.residue.specs.Prime.{isModulus-Prime}
 use Rattle.checks.specs.Valid.{Valid, Vector}
 use Rattle.checks.specs.Matrix.{matrix-valid, matrix-modulus}
 use Rattle.meaning.specs.Matrix.{matrix}
@@ -39,8 +40,11 @@ matrix-refusal-requires c κs = search needs
 returns : tie.Need-returns
 returns c =
     let a = c .before .before .before .before .before .before .before .args in
+    let A = matrix (now (a .starts)) (now (a .columns)) (now (a .values)) in
+    let turned = first (matrixChecks (a .field .p) A) in
     let number = c .before .matrix-refusal .ensures in
-    (refused-matrix (a .field .p) (matrix (now (a .starts)) (now (a .columns)) (now (a .values))) (now (a .words)) (a .d) (now (a .work)) (λ z. c .if1 .taken (number ∙ z)) ∙ sym number, c .if1 .taken, refl)
+    let refused = refused-matrix (a .field .p) A (now (a .words)) (a .d) (now (a .work)) (λ z. c .if1 .taken (_∙_ {b = turned} number z)) in
+    (_∙_ {b = turned} refused (sym {b = turned} number), c .if1 .taken, refl)
 
 sub-n : tie.Need-sub-n
 sub-n c = omega (arith, valid c .one-more)
@@ -54,7 +58,10 @@ same-length c = search needs
 returns-2 : tie.Need-returns-2
 returns-2 c =
     let a = c .before .before .before .before .before .before .before .before .before .before .args in
-    (refused-state (a .field .p) (matrix (now (a .starts)) (now (a .columns)) (now (a .values))) (now (a .words)) (a .d) (now (a .work)) (passed (c .before .before .before)) ∙ sym (c .before .state-refusal .ensures), c .if2 .taken, refl)
+    let A = matrix (now (a .starts)) (now (a .columns)) (now (a .values)) in
+    let turned = first (stateChecks (a .field .p) (length (now (a .starts)) - 1) (a .d) (now (a .words)) (now (a .work))) in
+    let refused = refused-state (a .field .p) A (now (a .words)) (a .d) (now (a .work)) (passed (c .before .before .before)) in
+    (_∙_ {b = turned} refused (sym {b = turned} (c .before .state-refusal .ensures)), c .if2 .taken, refl)
 
 sub-left : tie.Need-sub-left
 sub-left c = let below = state c .below in omega (arith, below)
@@ -111,16 +118,22 @@ take-factor-requires c κs =
       ),
     )
 
--- the work slice when its part from r on has come back: as long as it was
+-- the work slice when its part from r on has come back
 abbrev returned : tie.After-slice-known2 → List ℕ
 returned c = lent (now (c .before .before .before .before .before .before .before .before .before .before .before .before .before .before .before .before .args .work)) (c .before .before .before .before .before .residual-at .result) (length (now (c .before .before .before .before .before .before .before .before .before .before .before .before .before .before .before .before .args .work)) - c .before .before .before .before .before .residual-at .result) (c .before .before .take-factor .last .1 .1 .1 .1 .1 .1 .0)
 
-same : (c : tie.After-slice-known2) → length (returned c) ≡ length (now (c .before .before .before .before .before .before .before .before .before .before .before .before .before .before .before .before .args .work))
-same c =
+-- terms, recurrence and f(A)r, seen from the whole slice
+done : (c : tie.After-slice-known2)
+    → Narrowed (c .before .before .before .before .of .result .p) (matrix (now (c .before .before .before .before .before .before .before .before .before .before .before .before .before .before .before .before .args .starts)) (now (c .before .before .before .before .before .before .before .before .before .before .before .before .before .before .before .before .args .columns)) (now (c .before .before .before .before .before .before .before .before .before .before .before .before .before .before .before .before .args .values))) (length (now (c .before .before .before .before .before .before .before .before .before .before .before .before .before .before .before .before .args .starts)) - 1 - c .before .before .before .before .before .before .before .before .before .before .before .before .before .before .before .before .args .d)
+    (getD (projections (c .before .before .before .before .of .result .p) (length (now (c .before .before .before .before .before .before .before .before .before .before .before .before .before .before .before .before .args .starts)) - 1) (now (c .before .before .before .before .before .before .before .before .before .before .before .before .before .before .before .before .args .words))) (c .before .before .before .before .before .before .before .before .before .before .before .before .before .before .before .before .args .j) []) (now (c .before .before .before .before .before .before .before .before .before .before .before .before .before .before .before .before .args .work)) (returned c) (c .before .before .take-factor .result)
+done c =
     let W = now (c .before .before .before .before .before .before .before .before .before .before .before .before .before .before .before .before .args .work) in
     let first = c .before .before .before .before .before .residual-at .result in
-    let fits : first + (length W - first) ≤ length W = omega (arith, c .before .before .before .before .before .residual-at .ensures, state (c .before .before .before .before .before .before) .room) in
-    length-lent W first (length W - first) (c .before .before .take-factor .last .1 .1 .1 .1 .1 .1 .0) fits (c .before .before .take-factor .kept .1 .1 .1 .1 .1 .1 .0 ∙ length-part first (length W - first) W fits)
+    let place = c .before .before .before .before .before .residual-at .ensures in
+    let room = state (c .before .before .before .before .before .before) .room in
+    let m = length W - first in
+    let fits : first + m ≤ length W = omega (arith, place, room) in
+    narrowed-from first m place fits (omega (arith, room, place)) (c .before .before .take-factor .kept .1 .1 .1 .1 .1 .1 .0 ∙ length-part first m W fits) (c .before .before .take-factor .ensures)
 
 mul-f : tie.Need-mul-f
 mul-f c = search needs
@@ -169,20 +182,27 @@ part-multiply-end c =
     let below = state (c .before .before .before .before .before .before) .below in
     let sized = valid (c .before .before .before .before .before .before .before .before .before) .sized in
     let room = state (c .before .before .before .before .before .before) .room in
-    let long = same c in
+    let long = done c .same-length in
     omega (arith, short, place, sized, below, long, room)
 
 multiply-requires : tie.Need-multiply-requires
 multiply-requires c κs =
-    let short = c .before .before .before .take-factor .ensures .short in
+    let a = c .before .before .before .before .before .before .before .before .before .before .before .before .before .before .before .before .before .args in
+    let s = state (c .before .before .before .before .before .before .before) in
+    let v = valid (c .before .before .before .before .before .before .before .before .before .before) in
+    let n = length (now (a .starts)) - 1 in
     let place = c .before .before .before .before .before .before .residual-at .ensures in
-    let below = state (c .before .before .before .before .before .before .before) .below in
-    let sized = valid (c .before .before .before .before .before .before .before .before .before .before) .sized in
-    let room = state (c .before .before .before .before .before .before .before) .room in
-    let long = same (c .before) in
-    let m = c .before .before .before .before .before .of .ensures .1 in
-    let size = length-part 0 (c .before .before .before .before .before .before .residual-at .result + (3 * (length (now (c .before .before .before .before .before .before .before .before .before .before .before .before .before .before .before .before .before .args .starts)) - 1) + (2 * (length (now (c .before .before .before .before .before .before .before .before .before .before .before .before .before .before .before .before .before .args .starts)) - 1 - c .before .before .before .before .before .before .before .before .before .before .before .before .before .before .before .before .before .args .d) + 2)) + c .before .before .before .take-factor .result + 1 - 0) (returned (c .before)) (omega (arith, short, place, sized, below, long, room)) in
-    (m, m .positive, omega (arith, short, below, sized), omega (arith, short, below, place), omega (arith, size))
+    let t = c .before .before .before .take-factor .result in
+    let f = c .before .before .before .before .before .before .residual-at .result + (3 * n + (2 * (n - a .d) + 2)) in
+    let P = c .before .before .before .before .before .of .result .p in
+    let e : a .field .p ≡ P = sym (c .before .before .before .before .before .of .ensures .0) in
+    let A = matrix (now (a .starts)) (now (a .columns)) (now (a .values)) in
+    let modulus = subst (λ x. isModulus x ≡ true) {x = a .field .p} {y = P} e (matrix-modulus (a .field .p) A (passed (c .before .before .before .before .before .before .before .before .before .before))) in
+    let factor = subst (λ x. Vector x (a .d + 1) (part 0 (a .d + 1) (now (a .work)))) {x = a .field .p} {y = P} e (s .factor) in (
+      c .before .before .before .before .before .of .ensures .1,
+      narrowed-factors (a .d) t (isModulus-Prime P modulus) (v .sized) (s .below) factor (done (c .before)) f (f + t + 1 - 0)
+          (ap (λ x. x + (3 * n + (2 * (n - a .d) + 2))) place) (omega arith) (omega (arith, s .below, s .room, place, done (c .before) .short)),
+    )
 
 mul-applications : tie.Need-mul-applications
 mul-applications c = search needs
@@ -205,34 +225,30 @@ returns-3 : tie.Need-returns-3
 returns-3 c =
     let a = c .before .before .before .before .before .before .before .before .before .before .before .before .before .before .before .before .before .before .before .before .args in
     let s = state (c .before .before .before .before .before .before .before .before .before .before) in
-    let v = valid (c .before .before .before .before .before .before .before .before .before .before .before .before .before) in
     let W = now (a .work) in
     let n = length (now (a .starts)) - 1 in
-    let first = c .before .before .before .before .before .before .before .before .before .residual-at .result in
     let place = c .before .before .before .before .before .before .before .before .before .residual-at .ensures in
-    let m = length W - first in
-    let room = s .room in
-    let below = s .below in
-    let fits : first + m ≤ length W = omega (arith, room, place) in
     let A = matrix (now (a .starts)) (now (a .columns)) (now (a .values)) in
     let P = c .before .before .before .before .before .before .before .before .of .result .p in
     let u = getD (projections P n (now (a .words))) (a .j) [] in
-    let done =
-    narrowed-from {p = P} {A = A} {left = n - a .d} {u = u} {W = W} first m place fits (omega (arith, room, place)) (c .before .before .before .before .before .before .take-factor .kept .1 .1 .1 .1 .1 .1 .0 ∙ length-part first m W fits) (c .before .before .before .before .before .before .take-factor .ensures) in
-    let short = done .short in
-    let long = done .same-length in
-    let sized = v .sized in
-    let f = first + (3 * n + (2 * (n - a .d) + 2)) in
+    let turned = first (stateChecks (a .field .p) n (a .d) (now (a .words)) W) in
+    let found = done (c .before .before .before .before) in
+    let short = found .short in
+    let long = found .same-length in
+    let f = c .before .before .before .before .before .before .before .before .before .residual-at .result + (3 * n + (2 * (n - a .d) + 2)) in
     let t = c .before .before .before .before .before .before .take-factor .result in
     let end = f + t + 1 - 0 in
-    let within : end ≤ length W = omega (arith, short, place, sized, below, room) in
+    let below = s .below in
+    let room = s .room in
+    let within : end ≤ length W = omega (arith, short, place, below, room) in
     let product =
     multiplied-lent end (omega (arith, short, below, place)) (omega arith) (omega (arith, within, long))
-    (c .before .before .multiply .kept .1 .0 ∙ length-part 0 end _ (omega (arith, within, long))) (c .before .before .multiply .ensures) in (
-      refused-state (a .field .p) A (now (a .words)) (a .d) W (passed (c .before .before .before .before .before .before .before .before .before .before .before .before .before)) ∙ sym (c .before .before .before .before .before .before .before .before .before .before .before .state-refusal .ensures) ∙ c .before .before .before .before .before .before .before .before .before .before .if2 .left,
+    (c .before .before .multiply .kept .1 .0 ∙ length-part 0 end (returned (c .before .before .before .before)) (omega (arith, within, long))) (c .before .before .multiply .ensures) in (
+      _∙_ {b = turned} (refused-state (a .field .p) A (now (a .words)) (a .d) W (passed (c .before .before .before .before .before .before .before .before .before .before .before .before .before)))
+          (_∙_ {a = turned} (sym {b = turned} (c .before .before .before .before .before .before .before .before .before .before .before .state-refusal .ensures)) (c .before .before .before .before .before .before .before .before .before .before .if2 .left)),
       product .same-length ∙ long,
       λ qs.
-          made {p = P} {A = A} {u = u} {W = W} (a .d) t below room done f (ap (λ x. x + (3 * n + (2 * (n - a .d) + 2))) place) product qs
+          made {p = P} {A = A} {u = u} {W = W} (a .d) t below room found f (ap (λ x. x + (3 * n + (2 * (n - a .d) + 2))) place) product qs
           ∙ ap (λ x. pass x A (getD (projections x n (now (a .words))) (a .j) []) (held n W (a .d) qs)) (c .before .before .before .before .before .before .before .before .of .ensures .0),
     )
 

@@ -71,7 +71,7 @@ apply-within-requires c κs =
           one = found .monic;
           elements =
               subst (λ l. Vector (a .m .p) n l) {x = part 0 n (now (a .area))}
-              (sym {b = part 0 n (now (a .area))} (same-take 0 n (3 * n) _ _ (omega arith) (omega (arith, long, room)) (found .same-length) (found .before) ∙ done .front)) (pre .1 .1 .1);
+              (sym {b = part 0 n (now (a .area))} (_∙_ {c = part 0 n (now (a .area))} (same-take 0 n (3 * n) _ _ (omega arith) (omega (arith, long, room)) (found .same-length) (found .before)) (done .front))) (pre .1 .1 .1);
         },
       ),
     )

@@ -52,11 +52,13 @@ returns c =
     let a = c .before .before .before .before .before .args in
     let pre = c .before .before .before .before .before .pre in
     let W = now (a .area) in
-    let words = now (a .words) in
+    let lent = part (a .from) (a .from + a .n - a .from) W in
+    let v = part (a .from) (a .n) W in
+    let made : ℕ → List ℕ → ℕ = λ m l. dot (a .m .p) (getD (projections (a .m .p) m (now (a .words))) (a .u .index) []) l in
     ap (λ v. set W (a .place) v)
-    (c .projected .ensures
-    ∙ ap (λ l. dot (a .m .p) (getD (projections (a .m .p) (length l) words) (a .u .index) []) l) (whole (a .from) (a .n) W)
-    ∙ ap (λ m. dot (a .m .p) (getD (projections (a .m .p) m words) (a .u .index) []) (part (a .from) (a .n) W)) (length-part (a .from) (a .n) W (pre .1 .1)))
+    (_∙_ {b = made (length lent) lent} (c .projected .ensures)
+    (_∙_ {b = made (length v) v} {c = made (a .n) v} (ap (λ l. made (length l) l) {x = lent} {y = v} (whole (a .from) (a .n) W))
+    (ap (λ m. made m v) {x = length v} {y = a .n} (length-part (a .from) (a .n) W (pre .1 .1)))))
 
 pub term-spec : {M : Type 1} → statement M
 term-spec =

@@ -94,7 +94,7 @@ term-requires-2 c κs =
     let loop = c .before .before .before .before .before .before .loop in
     let n = length (now (a .starts)) - 1 in
     let next = c .before .before .before .advance .ensures in
-    let low = seat-low (next .seat) in
+    let low = seat-low {n = n} (next .seat) in
     let long = next .same-length in
     let held = loop .inv .3 .same-length in (
       (pre .1 .0 .0, pre .0 .sized),
@@ -102,7 +102,7 @@ term-requires-2 c κs =
         pre .1 .0 .3,
         omega (arith, low, long, held, loop .inv .1),
         omega (arith, long, held, loop .inv .1, c .before .before .before .before .before .loop-test .taken),
-        rw (next .holds) (vector-step (a .m .p) A 0 _ _ (pre .0 .positive)),
+        rw (next .holds) (vector-step (a .m .p) A 0 (part 0 n (loop .area)) (part (loop .from) n (loop .area)) (pre .0 .positive)),
       ),
     )
 
