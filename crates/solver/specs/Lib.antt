@@ -1,4 +1,3 @@
 -- what the contracts cite
 pub mod Run
 pub mod Verdict
-pub mod Taken

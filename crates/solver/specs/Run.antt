@@ -1,5 +1,5 @@
 -- The solver's run in its work slice, which is laid out as a pass has it (wiedemann's Pass).
---     System             what the checks leave known of a system
+--     System, system-of  what the checks leave known of a system
 --     none, counted      the counts before the first pass, and after one more
 --     begun              r = b, F = 1, D = 0 in the slice
 --     run-append         a run with projections after others
@@ -12,7 +12,7 @@
 --     Closable, closable       what the end asks: F is monic of degree D ≤ n
 use mathlib.Core.Path.{_≡_, refl, sym, ap, ap₂, _∙_, subst}
 use mathlib.Core.Logic.{_⊎_, inl, inr}
-use mathlib.Core.Bool.{true, false}
+use mathlib.Core.Bool.{true, false, not}
 use mathlib.Core.List.{List, [], _∷_, _++_}
 use Prim.Native.Nat.{ℕ, _+_, _-_, _*_, _≤_, _<_}
 use native.Mathlib.Nat.{zero-add, eq-or-lt-of-le}
@@ -24,13 +24,15 @@ use lib.ListN.{length, take, drop, getD, set, length-set, length-append, take-ap
 use lib.Seq.{take-suc, take-all, getD-set-same, getD-set-other}
 use borrow.Author.Tests.{lt-ltb}
 use Rattle.meaning.specs.List.{at, isZero, padded}
-use Rattle.meaning.specs.Field.{isModulus}
 use Rattle.meaning.specs.Matrix.{Matrix, size}
-use Rattle.meaning.specs.Refusal.{first, elements, matrixChecks, wordsTaken}
+use Rattle.meaning.specs.Refusal.{check, first, elements, matrixChecks, wordsTaken}
+use Rattle.meaning.specs.Calls.{systemChecks, runChecks}
 use Rattle.meaning.specs.Recurrence.{degree}
 use Rattle.meaning.specs.Solver.{Pass, Run, projections, begin, spent, passTerms, pass, run}
+use Rattle.laws.specs.Accepted.{run-accepted}
 use Rattle.laws.specs.Bool.{and-both, test-cases, never}
 use Rattle.laws.specs.List.{all-of, length-table, table-of}
+use Rattle.laws.specs.Refusal.{first-append-zero, numbered-matrix, numbered-system}
 use Rattle.laws.specs.Solver.{spent-nil, spent-snoc}
 use Rattle.algebra.specs.Ring.{Field}
 use Rattle.residue.specs.Prime.{Prime}
@@ -39,9 +41,9 @@ use Rattle.residue.specs.Lists.{coef, coef-below}
 use Rattle.krylov.specs.Run.{kept, kept-full}
 use Rattle.bridge.specs.Operator.{operator, operator-linear, null-isZero}
 use Rattle.bridge.specs.Run.{Stands, run-begun, run-nil, run-stop, run-pass, run-rest, run-found}
-use Rattle.bridge.specs.ThirdCondition.{Accepted, projections-zero, end-monic}
-use Rattle.checks.specs.Valid.{Valid, Vector}
-use Rattle.checks.specs.Matrix.{all-elements}
+use Rattle.bridge.specs.ThirdCondition.{Accepted, accepted, projections-zero, end-monic}
+use Rattle.checks.specs.Valid.{Valid, Vector, valid-of}
+use Rattle.checks.specs.Matrix.{vectorChecks, all-elements}
 use Rattle.wiedemann.specs.declared.pass.Pass.{Pass as CodePass}
 use Rattle.wiedemann.specs.declared.pass.Passed.{Passed}
 use Rattle.wiedemann.specs.declared.pass.Passed.the-variants.{Made, Refused}
@@ -53,9 +55,19 @@ use Rattle.solver.specs.declared.Counts.{Counts}
 
 pub record System (p : ℕ) (A : Matrix) (b : List ℕ) : Type 0 where
   pub checked : first (matrixChecks p A) ≡ 0
-  pub modulus : isModulus p ≡ true
   pub valid : Valid p A
   pub accepted : Accepted p A b
+
+pub system-of : (p : ℕ) (A : Matrix) (b words : List ℕ) → first (runChecks p A b words) ≡ 0 → System p A b
+unfolding runChecks systemChecks
+system-of p A b words e =
+    record { checked = matrix; valid = valid-of (run-accepted p A b words e .system); accepted = accepted p A b words e }
+  where
+    system : first (systemChecks p A b) ≡ 0
+    system = first-append-zero (systemChecks p A b) (check 10 (not (wordsTaken (size A) words)) ∷ []) (numbered-system p A b) e .0
+
+    matrix : first (matrixChecks p A) ≡ 0
+    matrix = first-append-zero (matrixChecks p A) (vectorChecks p A b) (numbered-matrix p A) system .0
 
 abbrev pub none : Counts
 none = record { degree = 0; passes = 0; applications = 0 }

@@ -34,7 +34,6 @@ use Rattle.wiedemann.specs.Pass.{held}
 use Rattle.laws.specs.Bool.{and-both}
 use Rattle.laws.specs.List.{length-table, getD-table}
 use Rattle.laws.specs.Refusal.{first-nil, first-pass, first-append-none, first-append-zero, numbered-matrix, numbered-run, unlessRefused-none}
-use Rattle.checks.specs.Matrix.{applyChecks, applyRefusal-parts}
 use Rattle.solver.specs.Run.{System, Closable, Finished, vector-elements}
 
 pub record Counted (c : Counts) (o : Outcome) : Type 0 where
@@ -163,9 +162,9 @@ module _ {p : ℕ} {A : Matrix} {b W : List ℕ} {c : Counts} (s : System p A b)
     long = ap length coefficients ∙ length-drop 1 (part 0 (c .degree + 1) W) ∙ omega (arith, sized)
 
     not-refused : applyRefusal p A (part 1 (c .degree) P) b out work ≡ 0
+    unfolding applyRefusal
     not-refused =
-        applyRefusal-parts p A (part 1 (c .degree) P) b out work
-        ∙ first-append-none (matrixChecks p A) (applyChecks p A (part 1 (c .degree) P) b out work) (numbered-matrix p A) (s .checked)
+        first-append-none (matrixChecks p A) _ (numbered-matrix p A) (s .checked)
         ∙ first-pass 8 _ _
         (and-both
         (and-both (le-leb 1 (length (part 1 (c .degree) P)) (omega (arith, long, some))) (le-leb (length (part 1 (c .degree) P)) (size A + 1) (omega (arith, long, q .found))))

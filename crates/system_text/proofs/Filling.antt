@@ -1,7 +1,7 @@
 -- The second pass: what the slices hold after k lines.
 --     laid-more, laid-all              k places of a list are laid over another; one place more; all places
 --     front-fill                       a table laid over a list, extended by a run of one value
---     EntriesFilled                    after k `a` lines; entry-is, entry-line-more, entries-done: its turn and its end
+--     EntriesFilled                    after k `a` lines; entry-here, entry-line-more, entries-done: its turn and its end
 use mathlib.Core.Path.{_≡_, refl, sym, ap, ap₂, _∙_, subst}
 use mathlib.Core.Logic.{_⊎_, inl, inr}
 use mathlib.Core.Bool.{Bool, true, false, not, _&&_, _||_}
@@ -22,11 +22,10 @@ use Rattle.laws.specs.Bool.{and-left, and-right, test-cases}
 use Rattle.laws.specs.List.{table-suc, table-zero, length-table, every-nil}
 use Rattle.text_laws.specs.Lists.{select-nil, select-no, select-append, select-all, every-join, every-one, every-head, every-tail, every-more, every-weaken}
 use Rattle.system_text.specs.Order.{body, right-none, body-entry}
-use Rattle.system_text.specs.Lines.{Here, said, Says}
-use Rattle.system_text.specs.Places.{entryTaken, elementTaken, entriesTaken, entriesTaken-cons, entriesOf, saying-here, not-entry}
+use Rattle.system_text.specs.Lines.{Here, said, LineAt, entry-word, entry-missing}
+use Rattle.system_text.specs.Places.{entryTaken, elementTaken, entriesTaken, entriesTaken-cons, entriesOf, saying-here}
 use Rattle.system_text.specs.Fill.{startsOf, columnsOf, valuesOf, EntriesAhead}
-use Rattle.system_text.specs.declared.line.Line.{Line}
-use Rattle.system_text.specs.declared.line.Line.the-variants.{Entry}
+use Rattle.system_text.specs.declared.numeral.Numbers.{Numbers}
 
 -- ---- a list laid over another
 
@@ -177,10 +176,15 @@ module _ (s : List ℕ) (from count n : ℕ) (starts₀ columns₀ values₀ sta
   all-entries = entriesOf (drop from s)
 
   -- before the last: an `a` line is there
-  pub entry-is : k < count → (l : Line) → Says s i l → ((x y z next : ℕ) → l ≡ Entry x y z next → ⊥) → ⊥
-  entry-is h l said other =
-      let none : drop k all-entries ≡ [] = sym (f .rest) ∙ right-none (lines (drop i s)) (sym (not-entry s i l said other) ∙ f .form) in
-      omega (arith, ap length none, length-drop k all-entries, a .all)
+  pub entry-here : k < count → (r : Numbers) → LineAt s i (97 ∷ []) 3 r → Here s i (r .next) text.entry (r .first ∷ r .second ∷ r .third ∷ [])
+  entry-here h r l = go (test-cases (r .taken))
+    where
+      go : (r .taken ≡ true) ⊎ (r .taken ≡ false) → Here s i (r .next) text.entry (r .first ∷ r .second ∷ r .third ∷ [])
+      go (inl e) = l text.entry refl entry-word refl .found e
+      go (inr e) =
+          let m = l text.entry refl entry-word refl .missing e in
+          let none : drop k all-entries ≡ [] = sym (f .rest) ∙ right-none (lines (drop i s)) (sym (entry-missing (lines (drop i s)) m) ∙ f .form) in
+          absurd (omega (arith, ap length none, length-drop k all-entries, a .all))
 
   module _ (x y z next : ℕ) (h : k < count) (line : Here s i next text.entry (x ∷ y ∷ z ∷ [])) where
     inside : k < length all-entries

@@ -1,7 +1,8 @@
 -- The second pass over the `b` lines: what the slice holds after k of them.
---     ElementsFilled                   after k `b` lines; elements-begin, element-is, element-line-more, elements-done: its begin, its turn and its end
+--     ElementsFilled                   after k `b` lines; elements-begin, element-here, element-line-more, elements-done: its begin, its turn and its end
 use mathlib.Core.Path.{_≡_, refl, sym, ap, ap₂, _∙_, subst}
-use mathlib.Core.Bool.{Bool, true, not, _&&_}
+use mathlib.Core.Logic.{_⊎_, inl, inr}
+use mathlib.Core.Bool.{Bool, true, false, not, _&&_}
 use mathlib.Core.List.{List, [], _∷_, _++_, append-nil}
 use Prim.Native.Nat.{ℕ, _+_, _-_, _≤_, _<_}
 use native.Mathlib.Omega.{arith}
@@ -15,15 +16,14 @@ use Rattle.meaning.specs.List.{at, table, every, select, overwrite}
 use Rattle.meaning.specs.Text as text
 use Rattle.meaning.specs.Text.{lines, row}
 use Rattle.meaning.specs.Refusal.{within}
-use Rattle.laws.specs.Bool.{and-left, and-right}
+use Rattle.laws.specs.Bool.{and-left, and-right, test-cases}
 use Rattle.laws.specs.List.{table-zero, length-table, getD-table, table-of, every-nil}
 use Rattle.text_laws.specs.Lists.{select-nil, select-yes, select-no, select-append, every-weaken}
 use Rattle.system_text.specs.Order.{rightSide, closing-element, right-element}
-use Rattle.system_text.specs.Lines.{Here, said, Says}
-use Rattle.system_text.specs.Places.{elementTaken, elementsTaken, elementsTaken-cons, elementsOf, saying-here, not-element}
+use Rattle.system_text.specs.Lines.{Here, said, LineAt, element-word, element-missing}
+use Rattle.system_text.specs.Places.{elementTaken, elementsTaken, elementsTaken-cons, elementsOf, saying-here}
 use Rattle.system_text.specs.Fill.{rightOf, ElementsAhead}
-use Rattle.system_text.specs.declared.line.Line.{Line}
-use Rattle.system_text.specs.declared.line.Line.the-variants.{Element}
+use Rattle.system_text.specs.declared.numeral.Numbers.{Numbers}
 use Rattle.system_text.proofs.Filling.{front-fill, select-nothing, passed-more, head-is, tail-is, element-low}
 
 -- ---- after k `b` lines
@@ -82,10 +82,15 @@ module _ (s : List ℕ) (from count n : ℕ) (right₀ right : List ℕ) (i k : 
   abbrev all-elements : List (List ℕ)
   all-elements = elementsOf (drop from s)
 
-  pub element-is : k < count → (l : Line) → Says s i l → ((x z next : ℕ) → l ≡ Element x z next → ⊥) → ⊥
-  element-is h l said other =
-      let none : drop k all-elements ≡ [] = sym (f .rest) ∙ closing-element (lines (drop i s)) (sym (not-element s i l said other) ∙ f .form) in
-      omega (arith, ap length none, length-drop k all-elements, a .all)
+  pub element-here : k < count → (r : Numbers) → LineAt s i (98 ∷ []) 2 r → Here s i (r .next) text.element (r .first ∷ r .second ∷ [])
+  element-here h r l = go (test-cases (r .taken))
+    where
+      go : (r .taken ≡ true) ⊎ (r .taken ≡ false) → Here s i (r .next) text.element (r .first ∷ r .second ∷ [])
+      go (inl e) = l text.element refl element-word refl .found e
+      go (inr e) =
+          let m = l text.element refl element-word refl .missing e in
+          let none : drop k all-elements ≡ [] = sym (f .rest) ∙ closing-element (lines (drop i s)) (sym (element-missing (lines (drop i s)) m) ∙ f .form) in
+          absurd (omega (arith, ap length none, length-drop k all-elements, a .all))
 
   module _ (x z next : ℕ) (h : k < count) (line : Here s i next text.element (x ∷ z ∷ [])) where
     inside : k < length all-elements

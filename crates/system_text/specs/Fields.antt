@@ -1,6 +1,7 @@
 -- What the functions on fields say of a text at a place.
 --     Follows              a numeral's field, and what it leaves of the line
---     FieldAt              .. or none begins there, so that no form with a field more does
+--     NumeralAt            the longest numeral at a place
+--     FieldAt              a numeral's field, or none begins there, so that no form with a field more does
 --     Fails k s            no line with k numerals left goes on so, or it does not end
 --     Numbered             k numerals and the line's end
 --     NumbersAt            .. or it fails
@@ -11,12 +12,13 @@ use mathlib.Core.Bool.{true, false}
 use mathlib.Core.List.{List, [], _∷_, map}
 use Prim.Native.Nat.{ℕ, zero, suc, _+_, _-_, _≤_, _<_}
 use native.Mathlib.Omega.{arith}
+use lib.Dec.{ltb}
 use lib.ListN.{getD, length, take, drop, drop-of-length-le, length-drop}
 use lib.Seq.{drop-drop}
-use borrow.Author.Tests.{ne-eqb}
+use borrow.Author.Tests.{ne-eqb, ltb-true, ltb-false}
 use Rattle.meaning.specs.Text.{valueOf, parts}
 use Rattle.system_text.specs.Scan.{drop-here, run, runValue, run-within, fieldsOf, later, after, fields-end, later-nil, later-end, later-byte, later-run, after-tab, numbers-tab, after-no-numeral, after-none, after-not-tab, after-end, after-not-end}
-use Rattle.system_text.specs.declared.numeral.Found.{Found}
+use Rattle.system_text.specs.declared.numeral.Number.{Number}
 use Rattle.system_text.specs.declared.numeral.Numbers.{Numbers}
 
 pub record Follows (text : List ℕ) (from value next : ℕ) : Type 0 where
@@ -27,7 +29,13 @@ pub record Follows (text : List ℕ) (from value next : ℕ) : Type 0 where
       → map valueOf (fieldsOf (drop from text)) ≡ value ∷ map valueOf (fieldsOf (drop next text))
   pub later : later (drop from text) ≡ later (drop next text)
 
-pub record FieldAt (text : List ℕ) (from : ℕ) (r : Found) : Type 0 where
+-- the longest numeral at the head of s, which stands at the place `from`
+pub record NumeralAt (s : List ℕ) (from : ℕ) (r : Number) : Type 0 where
+  pub some : r .taken ≡ ltb from (r .next)
+  pub next : r .next ≡ from + run false 0 s
+  pub value : r .value ≡ runValue false 0 s
+
+pub record FieldAt (text : List ℕ) (from : ℕ) (r : Number) : Type 0 where
   pub here : r .taken ≡ true → Follows text from (r .value) (r .next)
   pub missing : r .taken ≡ false → (k : ℕ) → after (suc k) (drop from text) ≡ false
 
@@ -51,7 +59,7 @@ module _ (text : List ℕ) (from : ℕ) (l : from < length text) (t : getD text 
   tab-here : drop from text ≡ 9 ∷ drop (from + 1) text
   tab-here = drop-here text from l ∙ ap (λ c. c ∷ drop (from + 1) text) t
 
-  pub field-here : (value next : ℕ) → next ≡ (from + 1) + run false 0 (drop (from + 1) text) → value ≡ runValue false 0 (drop (from + 1) text)
+  field-here : (value next : ℕ) → next ≡ (from + 1) + run false 0 (drop (from + 1) text) → value ≡ runValue false 0 (drop (from + 1) text)
       → from + 1 < next → Follows text from value next
   field-here value next e v h =
       let s = drop (from + 1) text in
@@ -69,8 +77,14 @@ module _ (text : List ℕ) (from : ℕ) (l : from < length text) (t : getD text 
         later = ap later tab-here ∙ later-byte 9 s refl ∙ later-run false 0 s ∙ ap later (sym d);
       }
 
-  pub field-empty : run false 0 (drop (from + 1) text) ≡ 0 → (k : ℕ) → after (suc k) (drop from text) ≡ false
-  field-empty e k = ap (after (suc k)) tab-here ∙ after-no-numeral k (drop (from + 1) text) e
+  pub field-at : (r : Number) → NumeralAt (drop (from + 1) text) (from + 1) r → FieldAt text from r
+  field-at r n =
+      record {
+        here = λ e. field-here (r .value) (r .next) (n .next) (n .value) (ltb-true (from + 1) (r .next) (sym (n .some) ∙ e));
+        missing =
+            λ e k. let none : run false 0 (drop (from + 1) text) ≡ 0 = omega (arith, n .next, ltb-false (from + 1) (r .next) (sym (n .some) ∙ e)) in
+            ap (after (suc k)) tab-here ∙ after-no-numeral k (drop (from + 1) text) none;
+      }
 
 pub field-past : (text : List ℕ) (from : ℕ) → length text ≤ from → (k : ℕ) → after (suc k) (drop from text) ≡ false
 field-past text from h k = ap (after (suc k)) (drop-of-length-le text {i = from} h) ∙ after-none k

@@ -1,29 +1,33 @@
 -- What a line at a place of a text says.
 --     said f numbers       a line of that form, with those numbers
 --     Here                 it stands at a place, and the lines after it begin at another
---     Says                 what the code's line says: a form and its numbers, or that nothing in form begins there
--- Laws: ending-here, not-ending, the end of a text; word-here, word-fails for a word and its numerals; word-missing; line-past, line-other.
+--     Missing              no line of that form begins there, or it does not end
+--     LineOf               what was found where a line of that form was looked for
+--     LineAt               .. of the form with that word and so many numbers
+-- Laws: header-word .. ending-word: the forms' words as the code writes them; line-other, line-word: another word, or the word and its numbers; entry-missing, element-missing, ending-missing, header-missing: what is
+-- left of the form then; ending-here: the end of a text.
 use mathlib.Core.Path.{_≡_, refl, sym, ap, ap₂, _∙_, subst}
 use mathlib.Core.Logic.{_⊎_, inl, inr}
-use mathlib.Core.Bool.{Bool, true, false, cond, _&&_}
-use mathlib.Core.List.{List, [], _∷_, _++_, map}
+use mathlib.Core.Bool.{Bool, true, false, not, cond, _&&_}
+use mathlib.Core.List.{List, [], _∷_, _++_, map, append-nil}
 use Prim.Native.Nat.{ℕ, suc, _+_, _≤_, _<_}
 use native.Mathlib.Omega.{arith}
 use lib.Dec.{eqb}
 use lib.ListN.{getD, length, take, drop, drop-of-length-le, length-drop}
 use lib.Seq.{drop-drop}
-use borrow.Author.Tests.{eqb-true, eqb-false, ne-eqb}
+use borrow.Author.Tests.{eqb-true, eqb-false, eq-eqb, ne-eqb}
 use Rattle.meaning.specs.List.{every, equal, bytes}
 use Rattle.meaning.specs.Text as text
-use Rattle.meaning.specs.Text.{lines, parts, lineOf, formOf, hasForm, isNumeral, valueOf, rank}
-use Rattle.laws.specs.Bool.{and-false-left, and-false-right, test-cases}
-use Rattle.text_laws.specs.Line.{parts-some}
-use Rattle.system_text.specs.Scan.{drop-here, headOf, fieldsOf, later, after, after-split, lines-here, head-cases, head-nil, head-tab, head-byte, fields-nil, fields-tab, fields-byte, later-nil, later-end, plain, head-word, fields-word, later-word, common, common-word, common-head, common-within}
-use Rattle.system_text.specs.Order.{ranks, closing, Unformed, unformed-last, unformed-broken}
+use Rattle.meaning.specs.Text.{lines, parts, lineOf, formOf, hasForm, isNumeral, valueOf, rank, isOf}
+use Rattle.laws.specs.Bool.{and-left, and-right, and-false-left, and-false-right, test-cases, never}
+use Rattle.laws.specs.List.{equal→≡}
+use Rattle.text_laws.specs.Line.{parts-some, lines-parts}
+use Rattle.text_laws.specs.Form.{word, arity, word-free, has-form, has-form-other, form-of-word, form-cases, line-of}
+use Rattle.text_laws.specs.Document.{same-form}
+use Rattle.system_text.specs.Scan.{drop-here, headOf, fieldsOf, later, after, after-split, lines-here, head-nil, head-tab, head-byte, fields-nil, fields-tab, fields-byte, later-nil, later-end, head-word, fields-word, later-word, common, common-word, common-head, common-within}
+use Rattle.system_text.specs.Order.{ranks, closing, body, rightSide, whole, body-other, body-last, right-other, right-last, close-last, whole-other, whole-last}
 use Rattle.system_text.specs.Fields.{Fails, Numbered}
 use Rattle.system_text.specs.declared.numeral.Numbers.{Numbers}
-use Rattle.system_text.specs.declared.line.Line.{Line}
-use Rattle.system_text.specs.declared.line.Line.the-variants.{Header, Entry, Element, Ending, Broken}
 
 abbrev pub said : text.Form → List ℕ → text.Line
 said f numbers = record { form = f; numbers = numbers }
@@ -33,174 +37,168 @@ pub record Here (s : List ℕ) (from next : ℕ) (f : text.Form) (numbers : List
   pub within : next ≤ length s
   pub lines : lines (drop from s) ≡ said f numbers ∷ lines (drop next s)
 
-abbrev pub Says : List ℕ → ℕ → Line → Type 0
-Says s from (Header p n k next) = Here s from next text.header (p ∷ n ∷ k ∷ [])
-Says s from (Entry i j a next) = Here s from next text.entry (i ∷ j ∷ a ∷ [])
-Says s from (Element i a next) = Here s from next text.element (i ∷ a ∷ [])
-Says s from (Ending next) = Here s from next text.ending []
-Says s from Broken = Unformed (lines (drop from s))
+pub record Missing (f : text.Form) (ls : List text.Line) : Type 0 where
+  pub line : text.Line
+  pub more : List text.Line
+  pub here : ls ≡ line ∷ more
+  pub other : (isOf f line ≡ false) ⊎ (more ≡ [])
 
--- ---- the form by the first field
+pub record LineOf (f : text.Form) (s : List ℕ) (from : ℕ) (r : Numbers) : Type 0 where
+  pub found : r .taken ≡ true → Here s from (r .next) f (take (arity f) (r .first ∷ r .second ∷ r .third ∷ []))
+  pub missing : r .taken ≡ false → Missing f (lines (drop from s))
 
-abbrev rest : ℕ → List ℕ → List (List ℕ) → Bool
-rest k h fs = equal h [] && eqb (length fs) k && every isNumeral fs
+abbrev pub LineAt : List ℕ → ℕ → List ℕ → ℕ → Numbers → Type 0
+LineAt s from w k r = (f : text.Form) → eqb (rank f) 5 ≡ false → w ≡ word f → k ≡ arity f → LineOf f s from r
 
-pub form-system : (h : List ℕ) (fs : List (List ℕ)) → formOf ((115 ∷ 121 ∷ 115 ∷ 116 ∷ 101 ∷ 109 ∷ h) ∷ fs) ≡ cond (rest 3 h fs) text.header text.broken
-unfolding formOf hasForm equal bytes
-form-system h fs = refl
+-- ---- the words
 
-pub form-a : (h : List ℕ) (fs : List (List ℕ)) → formOf ((97 ∷ h) ∷ fs) ≡ cond (rest 3 h fs) text.entry text.broken
-unfolding formOf hasForm equal bytes
-form-a h fs = refl
+pub header-word : 115 ∷ 121 ∷ 115 ∷ 116 ∷ 101 ∷ 109 ∷ [] ≡ word text.header
+unfolding bytes
+header-word = refl
 
-pub form-b : (h : List ℕ) (fs : List (List ℕ)) → formOf ((98 ∷ h) ∷ fs) ≡ cond (rest 2 h fs) text.element text.broken
-unfolding formOf hasForm equal bytes
-form-b h fs = refl
+pub entry-word : 97 ∷ [] ≡ word text.entry
+unfolding bytes
+entry-word = refl
 
-pub form-end : (h : List ℕ) (fs : List (List ℕ)) → formOf ((101 ∷ 110 ∷ 100 ∷ h) ∷ fs) ≡ cond (rest 0 h fs) text.ending text.broken
-unfolding formOf hasForm equal bytes
-form-end h fs = refl
+pub element-word : 98 ∷ [] ≡ word text.element
+unfolding bytes
+element-word = refl
 
--- the letters s and e decide the word
-form-s : (h : List ℕ) (fs : List (List ℕ)) → equal (115 ∷ h) (115 ∷ 121 ∷ 115 ∷ 116 ∷ 101 ∷ 109 ∷ []) ≡ false → formOf ((115 ∷ h) ∷ fs) ≡ text.broken
-unfolding formOf hasForm equal bytes
-form-s h fs e = ap (λ t. cond (t && eqb (length fs) 3 && every isNumeral fs) text.header text.broken) e
+pub ending-word : 101 ∷ 110 ∷ 100 ∷ [] ≡ word text.ending
+unfolding bytes
+ending-word = refl
 
-form-e : (h : List ℕ) (fs : List (List ℕ)) → equal (101 ∷ h) (101 ∷ 110 ∷ 100 ∷ []) ≡ false → formOf ((101 ∷ h) ∷ fs) ≡ text.broken
-unfolding formOf hasForm equal bytes
-form-e h fs e = ap (λ t. cond (t && eqb (length fs) 0 && every isNumeral fs) text.ending text.broken) e
+-- ---- a word and its numbers
 
-form-empty : (fs : List (List ℕ)) → 4 ≤ rank (formOf ([] ∷ fs))
-unfolding formOf hasForm equal bytes
-form-empty fs = go (eqb (length fs) 0 && every isNumeral fs)
-  where
-    go : (t : Bool) → 4 ≤ rank (cond t text.nothing text.broken)
-    go true = omega arith
-    go false = omega arith
+equal-prefix : (w h : List ℕ) → equal (w ++ h) w ≡ equal h []
+unfolding equal
+equal-prefix [] h = refl
+equal-prefix (c ∷ w) h = ap (λ t. t && equal (w ++ h) w) (eq-eqb c c refl) ∙ equal-prefix w h
 
-form-other : (c : ℕ) (h : List ℕ) (fs : List (List ℕ)) → (c ≡ 97 → ⊥) → (c ≡ 98 → ⊥) → (c ≡ 115 → ⊥) → (c ≡ 101 → ⊥) → 4 ≤ rank (formOf ((c ∷ h) ∷ fs))
-unfolding formOf hasForm equal bytes
-form-other c h fs a b s e = simp (ne-eqb c 97 a, ne-eqb c 98 b, ne-eqb c 115 s, ne-eqb c 101 e) (omega arith)
+abbrev fieldsHere : List ℕ → List (List ℕ)
+fieldsHere s = headOf s ∷ fieldsOf s
 
--- ---- a word and its numerals
+abbrev linesLater : List ℕ → List text.Line
+linesLater s = map (λ l. lineOf (parts 9 l)) (later s)
 
-lineOf-said : (h : List ℕ) (fs : List (List ℕ)) → lineOf (h ∷ fs) ≡ said (formOf (h ∷ fs)) (map valueOf fs)
-unfolding lineOf
-lineOf-said h fs = refl
+module _ (f : text.Form) (known : eqb (rank f) 5 ≡ false) where
+  -- a line is of a form exactly if it has the form's word and numbers
+  other-form : (ws : List (List ℕ)) → hasForm (word f) (arity f) ws ≡ false → isOf f (lineOf ws) ≡ false
+  other-form ws e = ap (isOf f) (line-of ws) ∙ go (form-cases ws) (test-cases (eqb (rank (formOf ws)) (rank f)))
+    where
+      go : (formOf ws ≡ text.broken) ⊎ (hasForm (word (formOf ws)) (arity (formOf ws)) ws ≡ true)
+          → (eqb (rank (formOf ws)) (rank f) ≡ true) ⊎ (eqb (rank (formOf ws)) (rank f) ≡ false) → eqb (rank (formOf ws)) (rank f) ≡ false
+      go (inl b) t = ap (λ g. eqb (rank g) (rank f)) b ∙ ne-eqb 5 (rank f) (λ z. eqb-false (rank f) 5 known (sym z))
+      go (inr h) (inl t) = never (hasForm (word f) (arity f) ws) (subst (λ g. hasForm (word g) (arity g) ws ≡ true) (same-form (formOf ws) f (eqb-true (rank (formOf ws)) (rank f) t)) h) e
+      go (inr h) (inr t) = t
 
-lines-map : (s : List ℕ) → map (λ l. lineOf (parts 9 l)) (parts 10 s) ≡ lines s
-unfolding lines
-lines-map s = refl
+  module _ (t : List ℕ) where
+    abbrev here : List ℕ
+    here = word f ++ t
 
-module _ (s : List ℕ) (from : ℕ) (w : List ℕ) (k : ℕ) (f : text.Form) (pw : plain w ≡ true) (d : drop from s ≡ w ++ drop (from + length w) s)
-    (form : (h : List ℕ) (fs : List (List ℕ)) → formOf ((w ++ h) ∷ fs) ≡ cond (equal h [] && eqb (length fs) k && every isNumeral fs) f text.broken) where
-  abbrev next-place : List ℕ
-  next-place = drop (from + length w) s
+    fields-here : fieldsHere here ≡ (word f ++ headOf t) ∷ fieldsOf t
+    fields-here = ap₂ _∷_ (head-word (word f) t (word-free f .0) (word-free f .1)) (fields-word (word f) t (word-free f .0) (word-free f .1))
 
-  line-word : lines (drop from s) ≡ said (cond (after k next-place) f text.broken) (map valueOf (fieldsOf next-place)) ∷ map (λ l. lineOf (parts 9 l)) (later next-place)
-  line-word =
-      ap lines d ∙ lines-here (w ++ next-place)
-      ∙ ap (λ l. lineOf (headOf (w ++ next-place) ∷ fieldsOf (w ++ next-place)) ∷ map (λ l. lineOf (parts 9 l)) l) (later-word w next-place pw)
-      ∙ ap₂ (λ h fs. lineOf (h ∷ fs) ∷ map (λ l. lineOf (parts 9 l)) (later next-place)) (head-word w next-place pw) (fields-word w next-place pw)
-      ∙ ap (λ l. l ∷ map (λ l. lineOf (parts 9 l)) (later next-place))
-      (lineOf-said (w ++ headOf next-place) (fieldsOf next-place)
-      ∙ ap (λ g. said g (map valueOf (fieldsOf next-place)))
-      (form (headOf next-place) (fieldsOf next-place) ∙ ap (λ t. cond t f text.broken) (sym (after-split k next-place))))
+    has-form-here : hasForm (word f) (arity f) (fieldsHere here) ≡ after (arity f) t
+    has-form-here =
+        ap (hasForm (word f) (arity f)) fields-here ∙ has-form (word f) (arity f) (word f ++ headOf t) (fieldsOf t)
+        ∙ ap (λ b. b && eqb (length (fieldsOf t)) (arity f) && every isNumeral (fieldsOf t)) (equal-prefix (word f) (headOf t))
+        ∙ sym (after-split (arity f) t)
 
-  pub word-here : (r : Numbers) → Numbered s (from + length w) k r → Here s from (r .next) f (take k (r .first ∷ r .second ∷ r .third ∷ []))
-  word-here r n =
+    line-here : after (arity f) t ≡ true → lineOf (fieldsHere here) ≡ said f (map valueOf (fieldsOf t))
+    line-here e =
+        let both = sym (after-split (arity f) t) ∙ e in
+        let start = and-left (equal (headOf t) [] && eqb (length (fieldsOf t)) (arity f)) (every isNumeral (fieldsOf t)) both in
+        let ended : headOf t ≡ [] = equal→≡ (headOf t) [] (and-left (equal (headOf t) []) (eqb (length (fieldsOf t)) (arity f)) start) in
+        let exact : fieldsHere here ≡ word f ∷ fieldsOf t = fields-here ∙ ap (λ h. (word f ++ h) ∷ fieldsOf t) ended ∙ ap (λ w. w ∷ fieldsOf t) (append-nil (word f)) in
+        ap lineOf exact ∙ line-of (word f ∷ fieldsOf t)
+        ∙ ap (λ g. said g (map valueOf (fieldsOf t)))
+        (form-of-word f (fieldsOf t) known (and-right (equal (headOf t) []) (eqb (length (fieldsOf t)) (arity f)) start)
+        (and-right (equal (headOf t) [] && eqb (length (fieldsOf t)) (arity f)) (every isNumeral (fieldsOf t)) both))
+
+    later-here : later here ≡ later t
+    later-here = later-word (word f) t (word-free f .1)
+
+pub word-within : (s : List ℕ) (from : ℕ) (w : List ℕ) → from ≤ length s → from + common (drop from s) w ≤ length s
+word-within s from w l = omega (arith, common-within (drop from s) w, length-drop from s)
+
+-- another word stands there
+word-other : (f : text.Form) → eqb (rank f) 5 ≡ false → (s : List ℕ) → common s (word f) < length (word f) → Missing f (lines s)
+word-other f known s h =
+    record {
+      line = lineOf (fieldsHere s);
+      more = linesLater s;
+      here = lines-here s;
+      other = inl (other-form f known (fieldsHere s) (has-form-other (word f) (headOf s) (arity f) (fieldsOf s) (common-head s (word f) h)));
+    }
+
+module _ (s : List ℕ) (from : ℕ) (w : List ℕ) (k : ℕ) where
+  pub line-other : common (drop from s) w < length w → (r : Numbers) → r .taken ≡ false → LineAt s from w k r
+  line-other h r e f known ew ek =
       record {
-        beyond = omega (arith, n .beyond);
-        within = n .within;
-        lines =
-            line-word
-            ∙ ap₂ (λ t l. said (cond t f text.broken) (map valueOf (fieldsOf next-place)) ∷ map (λ l. lineOf (parts 9 l)) l) (n .form) (n .later)
-            ∙ ap₂ (λ v l. said f v ∷ l) (n .numbers) (lines-map (drop (r .next) s));
+        found = λ t. never (r .taken) t e;
+        missing = λ _. word-other f known (drop from s) (subst (λ v. common (drop from s) v < length v) ew h);
       }
 
-  pub word-fails : Fails k next-place → Unformed (lines (drop from s))
-  word-fails (inl e) =
-      subst Unformed (sym line-word)
-      (subst (λ t. Unformed (said (cond t f text.broken) (map valueOf (fieldsOf next-place)) ∷ map (λ l. lineOf (parts 9 l)) (later next-place))) (sym e)
-      (unformed-broken (said text.broken (map valueOf (fieldsOf next-place))) (map (λ l. lineOf (parts 9 l)) (later next-place)) (omega arith)))
-  word-fails (inr e) =
-      subst Unformed (sym (line-word ∙ ap (λ l. said (cond (after k next-place) f text.broken) (map valueOf (fieldsOf next-place)) ∷ map (λ l. lineOf (parts 9 l)) l) e))
-      (unformed-last (said (cond (after k next-place) f text.broken) (map valueOf (fieldsOf next-place))))
+  -- the word is all there
+  pub line-word : length w ≤ common (drop from s) w → (r : Numbers) → (r .taken ≡ true → Numbered s (from + length w) k r)
+      → (r .taken ≡ false → Fails k (drop (from + length w) s)) → LineAt s from w k r
+  line-word h r numbered fails f known ew ek =
+      let t = drop (from + length w) s in
+      let d : drop from s ≡ word f ++ t = common-word (drop from s) w h ∙ ap (λ x. w ++ x) (drop-drop (length w) from s) ∙ ap (λ x. x ++ t) ew in
+      let split : lines (drop from s) ≡ lineOf (fieldsHere (word f ++ t)) ∷ linesLater t =
+      ap lines d ∙ lines-here (word f ++ t) ∙ ap (λ l. lineOf (fieldsHere (word f ++ t)) ∷ map (λ l. lineOf (parts 9 l)) l) (later-here f known t) in
+      record {
+        found =
+            λ e. let n = numbered e in
+            record {
+              beyond = omega (arith, n .beyond);
+              within = n .within;
+              lines =
+                  split
+                  ∙ ap₂ _∷_ (line-here f known t (ap (λ i. after i t) (sym ek) ∙ n .form)) (ap (map (λ l. lineOf (parts 9 l))) (n .later) ∙ sym (lines-parts (drop (r .next) s)))
+                  ∙ ap (λ v. said f v ∷ lines (drop (r .next) s)) (n .numbers ∙ ap (λ i. take i (r .first ∷ r .second ∷ r .third ∷ [])) ek);
+            };
+        missing =
+            λ e. record {
+              line = lineOf (fieldsHere (word f ++ t));
+              more = linesLater t;
+              here = split;
+              other = go (fails e);
+            };
+      }
+    where
+      go : Fails k (drop (from + length w) s)
+          → (isOf f (lineOf (fieldsHere (word f ++ drop (from + length w) s))) ≡ false) ⊎ (linesLater (drop (from + length w) s) ≡ [])
+      go (inl e) = inl (other-form f known (fieldsHere (word f ++ drop (from + length w) s)) (has-form-here f known (drop (from + length w) s) ∙ ap (λ i. after i (drop (from + length w) s)) (sym ek) ∙ e))
+      go (inr e) = inr (ap (map (λ l. lineOf (parts 9 l))) e)
 
--- ---- places where nothing in form begins
+-- ---- what is left of the form where a line is missing
 
-line-of-rank : (s : List ℕ) → 4 ≤ rank (formOf (headOf s ∷ fieldsOf s)) → Unformed (lines s)
-line-of-rank s h =
-    subst Unformed (sym (lines-here s ∙ ap (λ l. l ∷ map (λ l. lineOf (parts 9 l)) (later s)) (lineOf-said (headOf s) (fieldsOf s))))
-    (unformed-broken (said (formOf (headOf s ∷ fieldsOf s)) (map valueOf (fieldsOf s))) (map (λ l. lineOf (parts 9 l)) (later s)) h)
+closing-cons : (l : text.Line) (ls : List text.Line) → closing (l ∷ ls) ≡ eqb (rank (l .form)) 3 && equal (ranks ls) (4 ∷ [])
+unfolding closing ranks equal
+closing-cons l ls = refl
 
-pub line-past : (s : List ℕ) (from : ℕ) → length s ≤ from → Unformed (lines (drop from s))
-line-past s from h =
-    subst Unformed (sym (ap lines (drop-of-length-le s {i = from} h) ∙ lines-here [] ∙ ap (λ l. lineOf (headOf [] ∷ fieldsOf []) ∷ map (λ l. lineOf (parts 9 l)) l) later-nil))
-    (unformed-last (lineOf (headOf [] ∷ fieldsOf [])))
+module _ (ls : List text.Line) where
+  by-other : (f : text.Form) (x y : List text.Line → Bool) → ((l : text.Line) (more : List text.Line) → isOf f l ≡ false → x (l ∷ more) ≡ y (l ∷ more))
+      → ((l : text.Line) → x (l ∷ []) ≡ y (l ∷ [])) → Missing f ls → x ls ≡ y ls
+  by-other f x y other last m = ap x (m .here) ∙ go (m .other) ∙ sym (ap y (m .here))
+    where
+      go : (isOf f (m .line) ≡ false) ⊎ (m .more ≡ []) → x (m .line ∷ m .more) ≡ y (m .line ∷ m .more)
+      go (inl e) = other (m .line) (m .more) e
+      go (inr e) = ap (λ more. x (m .line ∷ more)) e ∙ last (m .line) ∙ sym (ap (λ more. y (m .line ∷ more)) e)
 
-pub line-other : (s : List ℕ) (from : ℕ) → from < length s → (getD s from 0 ≡ 97 → ⊥) → (getD s from 0 ≡ 98 → ⊥) → (getD s from 0 ≡ 115 → ⊥)
-    → (getD s from 0 ≡ 101 → ⊥) → Unformed (lines (drop from s))
-line-other s from l a b x e = subst (λ t. Unformed (lines t)) (sym (drop-here s from l)) (line-of-rank (c ∷ t) (go (head-cases c t)))
-  where
-    c : ℕ
-    c = getD s from 0
+  pub entry-missing : Missing text.entry ls → body ls ≡ rightSide ls
+  entry-missing = by-other text.entry body rightSide body-other (λ l. body-last l ∙ sym (right-last l))
 
-    t : List ℕ
-    t = drop (from + 1) s
+  pub element-missing : Missing text.element ls → rightSide ls ≡ closing ls
+  element-missing = by-other text.element rightSide closing right-other (λ l. right-last l ∙ sym (close-last l))
 
-    go : (headOf (c ∷ t) ≡ []) ⊎ (headOf (c ∷ t) ≡ c ∷ headOf t) → 4 ≤ rank (formOf (headOf (c ∷ t) ∷ fieldsOf (c ∷ t)))
-    go (inl q) = subst (λ h. 4 ≤ rank (formOf (h ∷ fieldsOf (c ∷ t)))) (sym q) (form-empty (fieldsOf (c ∷ t)))
-    go (inr q) = subst (λ h. 4 ≤ rank (formOf (h ∷ fieldsOf (c ∷ t)))) (sym q) (form-other c (headOf t) (fieldsOf (c ∷ t)) a b x e)
+  pub ending-missing : Missing text.ending ls → closing ls ≡ false
+  ending-missing = by-other text.ending closing (λ _. false) (λ l more e. closing-cons l more ∙ and-false-left (equal (ranks more) (4 ∷ [])) e) close-last
 
--- a word that is not all there
-module _ (s : List ℕ) (from : ℕ) (l : from < length s) where
-  abbrev behind : List ℕ
-  behind = drop (from + 1) s
-
-  at-letter : (c : ℕ) (w : List ℕ) → eqb c 9 ≡ false → eqb c 10 ≡ false → getD s from 0 ≡ c → common (drop from s) (c ∷ w) < suc (length w)
-      → ((h : List ℕ) (fs : List (List ℕ)) → equal (c ∷ h) (c ∷ w) ≡ false → formOf ((c ∷ h) ∷ fs) ≡ text.broken) → Unformed (lines (drop from s))
-  at-letter c w p q e h form =
-      let d : drop from s ≡ c ∷ behind = drop-here s from l ∙ ap (λ x. x ∷ behind) e in
-      let hd = head-byte c behind p q in
-      let n : equal (c ∷ headOf behind) (c ∷ w) ≡ false =
-      ap (λ x. equal x (c ∷ w)) (sym hd) ∙ common-head (c ∷ behind) (c ∷ w) (subst (λ x. common x (c ∷ w) < suc (length w)) d h) in
-      subst (λ x. Unformed (lines x)) (sym d)
-      (line-of-rank (c ∷ behind)
-      (subst (λ g. 4 ≤ rank g) (sym (ap (λ x. formOf (x ∷ fieldsOf (c ∷ behind))) hd ∙ form (headOf behind) (fieldsOf (c ∷ behind)) n)) (omega arith)))
-
-  pub system-missing : getD s from 0 ≡ 115 → common (drop from s) (115 ∷ 121 ∷ 115 ∷ 116 ∷ 101 ∷ 109 ∷ []) < 6 → Unformed (lines (drop from s))
-  system-missing e h = at-letter 115 (121 ∷ 115 ∷ 116 ∷ 101 ∷ 109 ∷ []) refl refl e h form-s
-
-  pub end-missing : getD s from 0 ≡ 101 → common (drop from s) (101 ∷ 110 ∷ 100 ∷ []) < 3 → Unformed (lines (drop from s))
-  end-missing e h = at-letter 101 (110 ∷ 100 ∷ []) refl refl e h form-e
-
--- a word that is all there
-pub word-place : (s : List ℕ) (from : ℕ) (w : List ℕ) → length w ≤ common (drop from s) w → drop from s ≡ w ++ drop (from + length w) s
-word-place s from w h = common-word (drop from s) w h ∙ ap (λ t. w ++ t) (drop-drop (length w) from s)
-
-pub letter-place : (s : List ℕ) (from c : ℕ) → from < length s → getD s from 0 ≡ c → drop from s ≡ (c ∷ []) ++ drop (from + 1) s
-letter-place s from c l e = drop-here s from l ∙ ap (λ x. x ∷ drop (from + 1) s) e
-
-pub word-room : (s : List ℕ) (from k : ℕ) (w : List ℕ) → from ≤ length s → k ≤ common (drop from s) w → from + k ≤ length s
-word-room s from k w l h = omega (arith, common-within (drop from s) w, length-drop from s)
-
--- the words part nothing
-pub plain-system : plain (115 ∷ 121 ∷ 115 ∷ 116 ∷ 101 ∷ 109 ∷ []) ≡ true
-unfolding plain every
-plain-system = refl
-
-pub plain-a : plain (97 ∷ []) ≡ true
-unfolding plain every
-plain-a = refl
-
-pub plain-b : plain (98 ∷ []) ≡ true
-unfolding plain every
-plain-b = refl
-
-pub plain-end : plain (101 ∷ 110 ∷ 100 ∷ []) ≡ true
-unfolding plain every
-plain-end = refl
+  pub header-missing : Missing text.header ls → whole ls ≡ false
+  header-missing = by-other text.header whole (λ _. false) whole-other whole-last
 
 -- ---- the end of a text
 
@@ -233,7 +231,7 @@ unfolding ranks equal
 over-nil =
     ap (λ ls. equal (ranks ls) (4 ∷ []))
     (lines-here [] ∙ ap₂ (λ h fs. lineOf (h ∷ fs) ∷ map (λ l. lineOf (parts 9 l)) (later [])) head-nil fields-nil
-    ∙ ap₂ (λ l r. l ∷ map (λ l. lineOf (parts 9 l)) r) (lineOf-said [] []) later-nil)
+    ∙ ap₂ (λ l r. l ∷ map (λ l. lineOf (parts 9 l)) r) (line-of ([] ∷ [])) later-nil)
     ∙ ap (λ r. eqb r 4 && true) rank-nothing
 
 pub over-more : (c : ℕ) (t : List ℕ) → equal (ranks (lines (c ∷ t))) (4 ∷ []) ≡ false
@@ -247,7 +245,7 @@ over-more c t = ap (λ ls. equal (ranks ls) (4 ∷ [])) (lines-here (c ∷ t)) �
         → eqb (rank (lineOf (headOf (c ∷ t) ∷ fieldsOf (c ∷ t)) .form)) 4 && equal (map (λ l. rank (l .form)) (map (λ l. lineOf (parts 9 l)) (later (c ∷ t)))) [] ≡ false
     first h fs p q r =
         and-false-left (equal (map (λ l. rank (l .form)) (map (λ l. lineOf (parts 9 l)) (later (c ∷ t)))) [])
-        (ap (λ l. eqb (rank (l .form)) 4) (ap₂ (λ a b. lineOf (a ∷ b)) p q ∙ lineOf-said h fs) ∙ r)
+        (ap (λ l. eqb (rank (l .form)) 4) (ap₂ (λ a b. lineOf (a ∷ b)) p q ∙ line-of (h ∷ fs)) ∙ r)
 
     go : (eqb c 9 ≡ true) ⊎ (eqb c 9 ≡ false) → (eqb c 10 ≡ true) ⊎ (eqb c 10 ≡ false)
         → eqb (rank (lineOf (headOf (c ∷ t) ∷ fieldsOf (c ∷ t)) .form)) 4 && equal (map (λ l. rank (l .form)) (map (λ l. lineOf (parts 9 l)) (later (c ∷ t)))) [] ≡ false
@@ -261,10 +259,6 @@ over-more c t = ap (λ ls. equal (ranks ls) (4 ∷ [])) (lines-here (c ∷ t)) �
         ∙ and-false-right (eqb x 4) refl
     go (inr e) (inr f) = first (c ∷ headOf t) (fieldsOf t) (head-byte c t e f) (fields-byte c t e f) (rank-word c (headOf t) (fieldsOf t))
 
-closing-cons : (l : text.Line) (ls : List text.Line) → closing (l ∷ ls) ≡ eqb (rank (l .form)) 3 && equal (ranks ls) (4 ∷ [])
-unfolding closing ranks equal
-closing-cons l ls = refl
-
 pub ending-here : (s : List ℕ) (i next : ℕ) → Here s i next text.ending [] → closing (lines (drop i s)) ≡ eqb next (length s)
 ending-here s i next h = ap closing (h .lines) ∙ closing-cons (said text.ending []) (lines (drop next s)) ∙ go (test-cases (eqb next (length s)))
   where
@@ -276,10 +270,3 @@ ending-here s i next h = ap closing (h .lines) ∙ closing-cons (said text.endin
         let q = eqb-false next (length s) e in
         let l : next < length s = omega (arith, h .within, q) in
         ap (λ t. equal (ranks (lines t)) (4 ∷ [])) (drop-here s next l) ∙ over-more (getD s next 0) (drop (next + 1) s) ∙ sym e
-
-pub not-ending : (s : List ℕ) (i : ℕ) (l : Line) → Says s i l → ((next : ℕ) → l ≡ Ending next → ⊥) → closing (lines (drop i s)) ≡ false
-not-ending s i (Header p n k next) h other = ap closing (h .lines) ∙ closing-cons _ _
-not-ending s i (Entry x y z next) h other = ap closing (h .lines) ∙ closing-cons _ _
-not-ending s i (Element x z next) h other = ap closing (h .lines) ∙ closing-cons _ _
-not-ending s i (Ending next) h other = absurd (other next refl)
-not-ending s i Broken h other = h .close

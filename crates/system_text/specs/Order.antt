@@ -1,7 +1,6 @@
 -- The order of the lines' letters, read from left to right.
 --     ranks ls                     the forms of lines, as numbers
 --     closing, rightSide, body, whole      `end` and nothing after it; `b` lines before that; `a` lines before that; the `system` line before that
---     Unformed ls                  no form begins with these lines
 -- Laws: whole-form : inForm text ≡ whole (lines text); what each step leaves; no `a` line stands in a right side, and so on.
 use mathlib.Core.Path.{_≡_, refl, sym, ap, ap₂, _∙_}
 use mathlib.Core.Logic.{_⊎_, inl, inr}
@@ -39,12 +38,6 @@ body (l ∷ ls) =
 unfoldable pub whole : List Line → Bool
 whole [] = false
 whole (l ∷ ls) = isOf header l && body ls
-
-pub record Unformed (ls : List Line) : Type 0 where
-  pub whole : whole ls ≡ false
-  pub body : body ls ≡ false
-  pub right : rightSide ls ≡ false
-  pub close : closing ls ≡ false
 
 -- ---- clauses
 
@@ -221,14 +214,13 @@ inForm-ranks text =
 pub whole-form : (text : List ℕ) → inForm text ≡ whole (lines text)
 whole-form text = inForm-ranks text ∙ formed-whole (lines text)
 
--- ---- lines with which no form begins
+-- ---- a line that does not end, and none after it
 
--- a line that does not end, and none after it
-close-last : (l : Line) → closing (l ∷ []) ≡ false
+pub close-last : (l : Line) → closing (l ∷ []) ≡ false
 unfolding closing ranks equal
 close-last l = and-false-right (eqb (rank (l .form)) 3) refl
 
-right-last : (l : Line) → rightSide (l ∷ []) ≡ false
+pub right-last : (l : Line) → rightSide (l ∷ []) ≡ false
 unfolding rightSide
 right-last l = go (test-cases (isOf element l))
   where
@@ -236,7 +228,7 @@ right-last l = go (test-cases (isOf element l))
     go (inl q) = right-element l [] q
     go (inr q) = right-other l [] q ∙ close-last l
 
-body-last : (l : Line) → body (l ∷ []) ≡ false
+pub body-last : (l : Line) → body (l ∷ []) ≡ false
 unfolding body
 body-last l = go (test-cases (isOf entry l))
   where
@@ -244,20 +236,6 @@ body-last l = go (test-cases (isOf entry l))
     go (inl q) = body-entry l [] q
     go (inr q) = body-other l [] q ∙ right-last l
 
-pub unformed-last : (l : Line) → Unformed (l ∷ [])
+pub whole-last : (l : Line) → whole (l ∷ []) ≡ false
 unfolding whole body
-unformed-last l = record { whole = and-false-right (isOf header l) refl; body = body-last l; right = right-last l; close = close-last l }
-
--- a line of no form, or an empty one
-pub unformed-broken : (l : Line) (ls : List Line) → 4 ≤ rank (l .form) → Unformed (l ∷ ls)
-unfolding closing ranks equal
-unformed-broken l ls h =
-    let n : (x : ℕ) → x < 4 → eqb (rank (l .form)) x ≡ false = λ x k. ne-eqb (rank (l .form)) x (λ z. omega arith) in
-    let c : closing (l ∷ ls) ≡ false = and-false-left (equal (ranks ls) (4 ∷ [])) (n 3 (omega arith)) in
-    let r : rightSide (l ∷ ls) ≡ false = right-other l ls (n 2 (omega arith)) ∙ c in
-    record {
-      whole = whole-other l ls (n 0 (omega arith));
-      body = body-other l ls (n 1 (omega arith)) ∙ r;
-      right = r;
-      close = c;
-    }
+whole-last l = and-false-right (isOf header l) refl

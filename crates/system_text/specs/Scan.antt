@@ -22,7 +22,7 @@ use Rattle.meaning.specs.Text.{isDigit, isNumeral, valueAfter, valueOf, onFirst
 use Rattle.laws.specs.Bool.{and-left, and-right, and-both, and-false-left, and-false-right, test-cases, never, same-test}
 use Rattle.laws.specs.List.{every-nil, every-cons}
 use Rattle.text_laws.specs.Numeral.{value-nil, value-cons, digit-low, digit-high, numeral-digits, numeral-lead, numeral-bounded, numeral-of}
-use Rattle.text_laws.specs.Line.{parts-nil, parts-cut, parts-other, parts-some, onFirst-cons}
+use Rattle.text_laws.specs.Line.{free, free-head, free-tail, parts-nil, parts-cut, parts-other, parts-some, onFirst-cons}
 
 -- what follows a place: its byte, and what follows that
 pub drop-here : (text : List ℕ) (i : ℕ) → i < length text → drop i text ≡ getD text i 0 ∷ drop (i + 1) text
@@ -538,35 +538,20 @@ common-head (c ∷ s) (d ∷ w) h = go (head-cases c s) (test-cases (eqb c d)) (
         ap (λ l. equal l (d ∷ w)) q ∙ and-false-right (eqb c d) (ih (omega (arith, common-yes c d s w (eqb-true c d e))))
     go (inr q) (inr e) ih = ap (λ l. equal l (d ∷ w)) q ∙ and-false-left (equal (headOf s) w) e
 
--- bytes that part nothing
-unfoldable pub plain : List ℕ → Bool
-plain w = every (λ c. not (eqb c 9) && not (eqb c 10)) w
+-- a word that parts nothing, being without bytes 9 and 10
+pub head-word : (w s : List ℕ) → free 9 w ≡ true → free 10 w ≡ true → headOf (w ++ s) ≡ w ++ headOf s
+head-word [] s e f = refl
+head-word (c ∷ w) s e f =
+    head-byte c (w ++ s) (free-head 9 c w e) (free-head 10 c w f) ∙ ap (λ l. c ∷ l) (head-word w s (free-tail 9 c w e) (free-tail 10 c w f))
 
-module _ (c : ℕ) (w : List ℕ) (e : plain (c ∷ w) ≡ true) where
-  both : (not (eqb c 9) && not (eqb c 10)) && plain w ≡ true
-  unfolding plain
-  both = sym (every-cons (λ c. not (eqb c 9) && not (eqb c 10)) c w) ∙ e
+pub fields-word : (w s : List ℕ) → free 9 w ≡ true → free 10 w ≡ true → fieldsOf (w ++ s) ≡ fieldsOf s
+fields-word [] s e f = refl
+fields-word (c ∷ w) s e f =
+    fields-byte c (w ++ s) (free-head 9 c w e) (free-head 10 c w f) ∙ fields-word w s (free-tail 9 c w e) (free-tail 10 c w f)
 
-  plain-tail : plain w ≡ true
-  plain-tail = and-right (not (eqb c 9) && not (eqb c 10)) (plain w) both
-
-  plain-9 : eqb c 9 ≡ false
-  plain-9 = not-true (eqb c 9) (and-left (not (eqb c 9)) (not (eqb c 10)) (and-left (not (eqb c 9) && not (eqb c 10)) (plain w) both))
-
-  plain-10 : eqb c 10 ≡ false
-  plain-10 = not-true (eqb c 10) (and-right (not (eqb c 9)) (not (eqb c 10)) (and-left (not (eqb c 9) && not (eqb c 10)) (plain w) both))
-
-pub head-word : (w s : List ℕ) → plain w ≡ true → headOf (w ++ s) ≡ w ++ headOf s
-head-word [] s e = refl
-head-word (c ∷ w) s e = head-byte c (w ++ s) (plain-9 c w e) (plain-10 c w e) ∙ ap (λ l. c ∷ l) (head-word w s (plain-tail c w e))
-
-pub fields-word : (w s : List ℕ) → plain w ≡ true → fieldsOf (w ++ s) ≡ fieldsOf s
-fields-word [] s e = refl
-fields-word (c ∷ w) s e = fields-byte c (w ++ s) (plain-9 c w e) (plain-10 c w e) ∙ fields-word w s (plain-tail c w e)
-
-pub later-word : (w s : List ℕ) → plain w ≡ true → later (w ++ s) ≡ later s
-later-word [] s e = refl
-later-word (c ∷ w) s e = later-byte c (w ++ s) (plain-10 c w e) ∙ later-word w s (plain-tail c w e)
+pub later-word : (w s : List ℕ) → free 10 w ≡ true → later (w ++ s) ≡ later s
+later-word [] s f = refl
+later-word (c ∷ w) s f = later-byte c (w ++ s) (free-head 10 c w f) ∙ later-word w s (free-tail 10 c w f)
 
 pub common-within : (s w : List ℕ) → common s w ≤ length s
 common-within [] w = omega (arith, common-none w)
@@ -574,5 +559,14 @@ common-within (c ∷ s) [] = omega (arith, common-all (c ∷ s))
 common-within (c ∷ s) (d ∷ w) = go (test-cases (eqb c d)) (common-within s w)
   where
     go : (eqb c d ≡ true) ⊎ (eqb c d ≡ false) → common s w ≤ length s → common (c ∷ s) (d ∷ w) ≤ suc (length s)
+    go (inl e) ih = omega (arith, common-yes c d s w (eqb-true c d e))
+    go (inr e) ih = omega (arith, common-no c d s w (eqb-false c d e))
+
+pub common-within-word : (s w : List ℕ) → common s w ≤ length w
+common-within-word s [] = omega (arith, common-all s)
+common-within-word [] (d ∷ w) = omega (arith, common-none (d ∷ w))
+common-within-word (c ∷ s) (d ∷ w) = go (test-cases (eqb c d)) (common-within-word s w)
+  where
+    go : (eqb c d ≡ true) ⊎ (eqb c d ≡ false) → common s w ≤ length w → common (c ∷ s) (d ∷ w) ≤ suc (length w)
     go (inl e) ih = omega (arith, common-yes c d s w (eqb-true c d e))
     go (inr e) ih = omega (arith, common-no c d s w (eqb-false c d e))

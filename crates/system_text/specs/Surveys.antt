@@ -1,5 +1,5 @@
 -- What the first pass finds, and that it is the document.
---     SurveyedFrom         after a `system` line
+--     Content, SurveyedFrom        the lines after a `system` line
 --     Known, Surveyed      of a whole text: in form or not, and if it is, what its document says
 --     surveyRefusal        the reader's checks on what was found
 -- Laws: whole-surveyed, not-header; reader-refusal: surveyRefusal is readerRefusal.
@@ -20,18 +20,15 @@ use Rattle.meaning.specs.Calls.{textChecks, readerRefusal}
 use borrow.Author.Tests.{le-leb, lt-leb, leb-true, eqb-true, eq-eqb, ne-eqb, not-false}
 use Rattle.laws.specs.Bool.{and-left, and-right, and-false-left, and-false-right, test-cases, never}
 use Rattle.laws.specs.Refusal.{first-past, first-stops}
-use Rattle.system_text.specs.Order.{whole, body, rightSide, closing, whole-header, whole-other, whole-form}
-use Rattle.system_text.specs.Lines.{Here, said, Says}
+use Rattle.system_text.specs.Order.{whole, body, rightSide, closing, whole-header, whole-form}
+use Rattle.system_text.specs.Lines.{Here, said, Missing, header-missing}
 use Rattle.system_text.specs.Places.{entriesOf, elementsOf, entriesTaken, elementsTaken, entryValues, elementValues, entries-places, elements-places, EntriesRead, ElementsRead, saying-here, saying-past}
 use Rattle.system_text.specs.Fill.{EntriesAhead, ElementsAhead, startsOf, columnsOf, valuesOf, rightOf}
-use Rattle.system_text.specs.declared.line.Line.{Line}
-use Rattle.system_text.specs.declared.line.Line.the-variants.{Header, Entry, Element, Ending, Broken}
-use Rattle.system_text.specs.declared.survey.Entries.{Entries}
-use Rattle.system_text.specs.declared.survey.Elements.{Elements}
+use Rattle.system_text.specs.declared.survey.Group.{Group}
 use Rattle.system_text.specs.declared.survey.Survey.{Survey}
 
 -- the `b` lines begin at `right`
-pub record Found (s : List ℕ) (p n i : ℕ) (r : Survey) : Type 0 where
+pub record Content (s : List ℕ) (p n i : ℕ) (r : Survey) : Type 0 where
   pub entries : length (entriesOf (drop i s)) ≡ r .entries
   pub elements : length (elementsOf (drop i s)) ≡ r .elements
   pub placed : entriesTaken n 0 0 (entriesOf (drop i s)) && elementsTaken n 0 (elementsOf (drop i s)) ≡ r .places
@@ -46,7 +43,7 @@ pub record SurveyedFrom (s : List ℕ) (p n k i : ℕ) (r : Survey) : Type 0 whe
   pub size : r .n ≡ n
   pub count : r .count ≡ k
   pub place : r .body ≡ i
-  pub found : r .formed ≡ true → Found s p n i r
+  pub content : r .formed ≡ true → Content s p n i r
 
 pub record Known (s : List ℕ) (r : Survey) : Type 0 where
   pub modulus : document s .modulus ≡ r .p
@@ -69,28 +66,29 @@ pub record Surveyed (s : List ℕ) (r : Survey) : Type 0 where
 
 -- ---- after the `system` line
 
-pub surveyed-from : (s : List ℕ) (p n k i : ℕ) (a : Entries) (b : Elements) (formed places values : Bool) → EntriesRead s i p n a → ElementsRead s (a .next) p n b
+pub surveyed-from : (s : List ℕ) (p n k i : ℕ) (a b : Group) (formed places values : Bool) → EntriesRead s i p n a → ElementsRead s (a .next) p n b
     → formed ≡ closing (lines (drop (b .next) s)) → places ≡ a .places && b .places → values ≡ a .values && b .values
     → SurveyedFrom s p n k i
     (record { formed = formed; p = p; n = n; count = k; entries = a .count; elements = b .count; places = places; values = values; body = i; right = a .next })
 surveyed-from s p n k i a b formed places values ea eb f q v =
+    let ea-elements = ea .others text.element refl in
     record {
       form = ea .form ∙ eb .form ∙ sym f;
       modulus = refl;
       size = refl;
       count = refl;
       place = refl;
-      found =
+      content =
           λ t. let c = sym f ∙ t in
           let r = eb .form ∙ c in
           record {
             entries = ea .count r;
-            elements = ap length (ea .elements) ∙ eb .count c;
-            placed = ap₂ _&&_ (ea .placed r) (ap (elementsTaken n 0) (ea .elements) ∙ eb .placed c) ∙ sym q;
-            valued = ap₂ _&&_ (ea .valued r) (ap (elementValues p) (ea .elements) ∙ eb .valued c) ∙ sym v;
+            elements = ap length (ea-elements) ∙ eb .count c;
+            placed = ap₂ _&&_ (ea .placed r) (ap (elementsTaken n 0) (ea-elements) ∙ eb .placed c) ∙ sym q;
+            valued = ap₂ _&&_ (ea .valued r) (ap (elementValues p) (ea-elements) ∙ eb .valued c) ∙ sym v;
             within = ea .within;
             right = r;
-            elementsHere = ea .elements;
+            elementsHere = ea-elements;
           };
     }
 
@@ -142,7 +140,7 @@ whole-surveyed s p n k next r l h f =
     record {
       form = ap₂ _&&_ (le-leb (length s) 2097152 l) (form-header s p n k next h ∙ f .form);
       known =
-          λ t. let g = f .found t in
+          λ t. let g = f .content t in
           let em = document-modulus s p n k next h in
           let en = document-size s p n k next h in
           let ee = document-entries s p n k next h in
@@ -176,17 +174,10 @@ long-surveyed s r l e =
       known = λ t. never (r .formed) t e;
     }
 
-not-whole : (s : List ℕ) (l : Line) → Says s 0 l → ((p n k next : ℕ) → l ≡ Header p n k next → ⊥) → whole (lines s) ≡ false
-not-whole s (Header p n k next) h other = absurd (other p n k next refl)
-not-whole s (Entry x y z next) h other = ap whole (h .lines) ∙ whole-other _ _ refl
-not-whole s (Element x z next) h other = ap whole (h .lines) ∙ whole-other _ _ refl
-not-whole s (Ending next) h other = ap whole (h .lines) ∙ whole-other _ _ refl
-not-whole s Broken h other = h .whole
-
-pub not-header : (s : List ℕ) (l : Line) (r : Survey) → Says s 0 l → ((p n k next : ℕ) → l ≡ Header p n k next → ⊥) → r .formed ≡ false → Surveyed s r
-not-header s l r h other e =
+pub not-header : (s : List ℕ) (r : Survey) → Missing text.header (lines s) → r .formed ≡ false → Surveyed s r
+not-header s r m e =
     record {
-      form = and-false-right (leb (length s) 2097152) (whole-form s ∙ not-whole s l h other) ∙ sym e;
+      form = and-false-right (leb (length s) 2097152) (whole-form s ∙ header-missing (lines s) m) ∙ sym e;
       known = λ t. never (r .formed) t e;
     }
 

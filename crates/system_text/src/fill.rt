@@ -6,8 +6,7 @@ ghost use lib.Seq.{sets};
 ghost use Rattle.meaning.specs.List.{overwrite};
 ghost use Rattle.system_text.specs.Places.{entriesOf, elementsOf};
 ghost use Rattle.system_text.specs.Fill.{startsOf, columnsOf, valuesOf, rightOf, EntriesAhead, ElementsAhead};
-use crate::line::Line;
-use crate::line::line_at;
+use crate::line::line;
 
 pub(crate) fn wide(x: u32) -> usize
     ensures { λ r. ⌜ (r ≡ x) × (r ≤ 4294967295) ⌝ }
@@ -47,16 +46,13 @@ pub(crate) fn fill_entries(
     let mut above: usize = 0;
     let mut k: usize = 0;
     while k < count {
-        let l = line_at(text, at);
-        let Line::Entry(row, column, value, next) = l else {
-            return;
-        };
-        let below = wide(row);
+        let l = line(text, at, b"a", 3);
+        let below = wide(l.first);
         fill(starts, above, below, k as u32);
-        columns[k] = column - 1;
-        values[k] = value;
+        columns[k] = l.second - 1;
+        values[k] = l.third;
         above = below;
-        at = next;
+        at = l.next;
         k += 1;
     }
     fill(starts, above, n + 1, count as u32);
@@ -72,13 +68,10 @@ pub(crate) fn fill_elements(text: &[u8], from: usize, count: usize, n: usize, ri
     let mut at = from;
     let mut k: usize = 0;
     while k < count {
-        let l = line_at(text, at);
-        let Line::Element(row, value, next) = l else {
-            return;
-        };
-        let below = wide(row);
-        right[below - 1] = value;
-        at = next;
+        let l = line(text, at, b"b", 2);
+        let below = wide(l.first);
+        right[below - 1] = l.second;
+        at = l.next;
         k += 1;
     }
 }

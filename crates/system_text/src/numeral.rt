@@ -2,12 +2,13 @@
 // byte that breaks the form where one does.
 ghost use mathlib.Core.Path.{_≡_};
 ghost use Prim.Native.Nat.{_+_, _-_, _*_, _≤_};
-ghost use mathlib.Core.Bool.{false};
 ghost use lib.ListN.{drop};
-ghost use Rattle.system_text.specs.Scan.{extendsBy, run, runValue, common};
-ghost use Rattle.system_text.specs.Fields.{FieldAt, NumbersAt};
+ghost use Rattle.system_text.specs.Scan.{extendsBy, common};
+ghost use Rattle.system_text.specs.Fields.{NumeralAt, FieldAt, NumbersAt};
 
+// A number, and the place after it; not taken where no numeral stands.
 pub(crate) struct Number {
+    pub taken: bool,
     pub value: u32,
     pub next: usize,
 }
@@ -41,7 +42,7 @@ pub(crate) fn extended(value: u32, c: u8) -> u32
 // The longest numeral that begins at `from`; an empty one stops where it began.
 pub(crate) fn numeral(text: &[u8], from: usize) -> Number
     requires { do ⌜ from ≤ (← ⟦text.len()⟧) ⌝ }
-    ensures { λ r. ⌜ (r .next ≡ from + run false 0 (drop from (now (text .entry)))) × (r .value ≡ runValue false 0 (drop from (now (text .entry)))) ⌝ }
+    ensures { λ r. ⌜ NumeralAt (drop from (now (text .entry))) from r ⌝ }
 {
     let mut value: u32 = 0;
     let mut at = from;
@@ -53,43 +54,31 @@ pub(crate) fn numeral(text: &[u8], from: usize) -> Number
         value = extended(value, c);
         at += 1;
     }
-    Number { value, next: at }
-}
-
-pub(crate) struct Found {
-    pub taken: bool,
-    pub value: u32,
-    pub next: usize,
+    Number {
+        taken: from < at,
+        value,
+        next: at,
+    }
 }
 
 // A field that is a numeral, with the tab before it.
-pub(crate) fn field(text: &[u8], from: usize) -> Found
+pub(crate) fn field(text: &[u8], from: usize) -> Number
     requires { do ⌜ from ≤ (← ⟦text.len()⟧) ⌝ }
     ensures { λ r. ⌜ FieldAt (now (text .entry)) from r ⌝ }
 {
-    if text.len() <= from {
-        return Found {
-            taken: false,
-            value: 0,
-            next: from,
-        };
+    if from < text.len() {
+        if text[from] == 9 {
+            return numeral(text, from + 1);
+        }
     }
-    if text[from] != 9 {
-        return Found {
-            taken: false,
-            value: 0,
-            next: from,
-        };
-    }
-    let first = from + 1;
-    let n = numeral(text, first);
-    Found {
-        taken: first < n.next,
-        value: n.value,
-        next: n.next,
+    Number {
+        taken: false,
+        value: 0,
+        next: from,
     }
 }
 
+// The numbers of a line, as many as were wanted, and the place after its byte 10; not taken where the line has another form.
 pub(crate) struct Numbers {
     pub taken: bool,
     pub first: u32,
@@ -151,17 +140,17 @@ pub(crate) fn fields(text: &[u8], from: usize, wanted: u32) -> Numbers
     }
 }
 
-// How many bytes of the word stand at `from`.
-pub(crate) fn word(text: &[u8], from: usize, letters: &[u8]) -> usize
+// How many leading bytes the word shares with what stands at `from`.
+pub(crate) fn shared(text: &[u8], from: usize, word: &[u8]) -> usize
     requires { do ⌜ from ≤ (← ⟦text.len()⟧) ⌝ }
-    ensures { λ r. ⌜ r ≡ common (drop from (now (text .entry))) (now (letters .entry)) ⌝ }
+    ensures { λ r. ⌜ r ≡ common (drop from (now (text .entry))) (now (word .entry)) ⌝ }
 {
     let mut k: usize = 0;
-    while k < letters.len() {
+    while k < word.len() {
         if text.len() - from <= k {
             break;
         }
-        if text[from + k] != letters[k] {
+        if text[from + k] != word[k] {
             break;
         }
         k += 1;

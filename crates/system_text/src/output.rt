@@ -1,92 +1,19 @@
-// The text of a system, written at a place of a slice. Each function answers the place after what it writes, and writes it if there is
-// room for all of it: lent no room, the functions measure the text.
+// The text of a system, written at a place of a slice, line by line. Each function answers the place after what it writes; in a slice
+// without room they measure the text.
+ghost use Prim.Native.Nat.{_-_, _≤_, _<_};
 ghost use mathlib.Core.Path.{_≡_};
-ghost use mathlib.Core.Bool.{cond};
-ghost use mathlib.Core.List.{[], _∷_};
-ghost use Prim.Native.Nat.{_+_, _-_, _*_, _≤_, _<_};
-ghost use lib.Dec.{eqb};
 ghost use lib.ListN.{length};
-ghost use Rattle.meaning.specs.List.{at, flat, table, bytes};
 ghost use Rattle.meaning.specs.Matrix.{matrix};
-ghost use Rattle.meaning.specs.Text.{decimal, line, writeRow, writeElement, write};
-ghost use Rattle.system_text.specs.Writes.{Wrote, entryLine, elementLine, Rows};
+ghost use Rattle.meaning.specs.Text.{write};
+ghost use Rattle.line_writer.specs.Written.{Wrote};
+ghost use Rattle.system_text.specs.Writes.{Rows, rowText, rowsText, elementsText};
 use crate::fill::wide;
-
-pub(crate) fn letters(out: &mut [u8], at: usize, word: &[u8]) -> usize
-    requires { ⌜ (at ≤ 4294967295) × (length (now word) ≤ 8) ⌝ }
-    ensures { λ r. ⌜ Wrote (now (out .entry)) at (now (word .entry)) r (now (out .exit)) ⌝ }
-{
-    decimal::put_bytes(out, at, word);
-    at + word.len()
-}
-
-pub(crate) fn number(out: &mut [u8], at: usize, k: u64) -> usize
-    requires { ⌜ (at ≤ 4294967295) × (k ≤ 4294967296) ⌝ }
-    ensures { λ r. ⌜ Wrote (now (out .entry)) at (decimal k) r (now (out .exit)) ⌝ }
-    ensures { λ r. ⌜ r ≤ at + 10 ⌝ }
-{
-    let next = at + decimal::length_of(k);
-    decimal::put(out, at, k);
-    next
-}
-
-// A tab and a numeral.
-pub(crate) fn number_field(out: &mut [u8], at: usize, k: u64) -> usize
-    requires { ⌜ (at ≤ 4294967290) × (k ≤ 4294967296) ⌝ }
-    ensures { λ r. ⌜ Wrote (now (out .entry)) at (9 ∷ decimal k) r (now (out .exit)) ⌝ }
-    ensures { λ r. ⌜ r ≤ at + 11 ⌝ }
-{
-    let next = letters(out, at, b"\t");
-    number(out, next, k)
-}
-
-// A line of a word and two numerals.
-pub(crate) fn line_of_two(out: &mut [u8], at: usize, word: &[u8], a: u64, b: u64) -> usize
-    requires { ⌜ (at ≤ 4294967000) × (length (now word) ≤ 8) ⌝ }
-    requires { ⌜ (a ≤ 4294967296) × (b ≤ 4294967296) ⌝ }
-    ensures { λ r. ⌜ Wrote (now (out .entry)) at (line (now (word .entry) ∷ decimal a ∷ decimal b ∷ [])) r (now (out .exit)) ⌝ }
-    ensures { λ r. ⌜ r ≤ at + 64 ⌝ }
-{
-    let next = letters(out, at, word);
-    let next = number_field(out, next, a);
-    let next = number_field(out, next, b);
-    letters(out, next, b"\n")
-}
-
-// .. and three.
-pub(crate) fn line_of_three(out: &mut [u8], at: usize, word: &[u8], a: u64, b: u64, c: u64) -> usize
-    requires { ⌜ (at ≤ 4294967000) × (length (now word) ≤ 8) ⌝ }
-    requires { ⌜ (a ≤ 4294967296) × (b ≤ 4294967296) × (c ≤ 4294967296) ⌝ }
-    ensures { λ r. ⌜ Wrote (now (out .entry)) at (line (now (word .entry) ∷ decimal a ∷ decimal b ∷ decimal c ∷ [])) r (now (out .exit)) ⌝ }
-    ensures { λ r. ⌜ r ≤ at + 64 ⌝ }
-{
-    let next = letters(out, at, word);
-    let next = number_field(out, next, a);
-    let next = number_field(out, next, b);
-    let next = number_field(out, next, c);
-    letters(out, next, b"\n")
-}
+use line_writer::put_line;
 
 fn long(x: u32) -> u64
     ensures { λ r. ⌜ (r ≡ x) × (r ≤ 4294967295) ⌝ }
 {
     x as u64
-}
-
-// The line of an entry.
-pub(crate) fn entry_written(out: &mut [u8], at: usize, row: usize, column: u32, value: u32) -> usize
-    requires { ⌜ (at ≤ 400000000) × (row ≤ 4096) ⌝ }
-    ensures { λ r. ⌜ Wrote (now (out .entry)) at (line (bytes "a" ∷ decimal (row + 1) ∷ decimal (column + 1) ∷ decimal value ∷ [])) r (now (out .exit)) ⌝ }
-    ensures { λ r. ⌜ r ≤ at + 64 ⌝ }
-{
-    line_of_three(
-        out,
-        at,
-        b"a",
-        (row + 1) as u64,
-        long(column) + 1,
-        long(value),
-    )
 }
 
 // The `a` lines of a row.
@@ -99,15 +26,15 @@ pub(crate) fn row_lines(
     columns: &[u32],
     values: &[u32],
 ) -> usize
-    requires { ⌜ (at ≤ 300000000) × (row ≤ 4096) × (from ≤ to) × (to ≤ 65536) ⌝ }
-    requires { ⌜ (to ≤ length (now columns)) × (to ≤ length (now values)) ⌝ }
-    ensures { λ r. ⌜ Wrote (now (out .entry)) at (flat (table (to - from) (entryLine (now (columns .entry)) (now (values .entry)) row from))) r (now (out .exit)) ⌝ }
-    ensures { λ r. ⌜ r ≤ at + 64 * (to - from) ⌝ }
+    requires { ⌜ (row < 4096) × (from ≤ to) × (to ≤ length (now columns)) × (to ≤ length (now values)) ⌝ }
+    ensures { λ r. ⌜ Wrote (now (out .entry)) at (rowText (now (columns .entry)) (now (values .entry)) row from (to - from)) r (now (out .exit)) ⌝ }
 {
     let mut next = at;
     let mut k = from;
     while k < to {
-        next = entry_written(out, next, row, columns[k], values[k]);
+        let column = long(columns[k]) + 1;
+        let value = long(values[k]);
+        next = put_line(out, next, b"a", &[(row + 1) as u64, column, value]);
         k += 1;
     }
     next
@@ -121,24 +48,16 @@ pub(crate) fn all_rows(
     columns: &[u32],
     values: &[u32],
 ) -> usize
-    requires { ⌜ at ≤ 1000 ⌝ }
     requires { ⌜ Rows (now starts) (now columns) (now values) ⌝ }
-    ensures { λ r. ⌜ Wrote (now (out .entry)) at (flat (table (length (now (starts .entry)) - 1) (writeRow (matrix (now (starts .entry)) (now (columns .entry)) (now (values .entry)))))) r (now (out .exit)) ⌝ }
-    ensures { λ r. ⌜ r ≤ at + 4194304 ⌝ }
+    ensures { λ r. ⌜ Wrote (now (out .entry)) at (rowsText (now (starts .entry)) (now (columns .entry)) (now (values .entry))) r (now (out .exit)) ⌝ }
 {
     let n = starts.len() - 1;
     let mut next = at;
     let mut i: usize = 0;
     while i < n {
-        next = row_lines(
-            out,
-            next,
-            i,
-            wide(starts[i]),
-            wide(starts[i + 1]),
-            columns,
-            values,
-        );
+        let from = wide(starts[i]);
+        let to = wide(starts[i + 1]);
+        next = row_lines(out, next, i, from, to, columns, values);
         i += 1;
     }
     next
@@ -146,29 +65,19 @@ pub(crate) fn all_rows(
 
 // The `b` lines: the elements that are not 0.
 pub(crate) fn all_elements(out: &mut [u8], at: usize, right: &[u32]) -> usize
-    requires { ⌜ (at ≤ 10000000) × (length (now right) ≤ 4096) ⌝ }
-    ensures { λ r. ⌜ Wrote (now (out .entry)) at (flat (table (length (now (right .entry))) (writeElement (now (right .entry))))) r (now (out .exit)) ⌝ }
-    ensures { λ r. ⌜ r ≤ at + 262144 ⌝ }
+    ensures { λ r. ⌜ Wrote (now (out .entry)) at (elementsText (now (right .entry))) r (now (out .exit)) ⌝ }
 {
     let mut next = at;
     let mut i: usize = 0;
     while i < right.len() {
-        next = element_written(out, next, i, right[i]);
+        let value = right[i];
         i += 1;
+        if value == 0 {
+            continue;
+        }
+        next = put_line(out, next, b"b", &[i as u64, long(value)]);
     }
     next
-}
-
-// One of them, if it is not 0.
-pub(crate) fn element_written(out: &mut [u8], at: usize, row: usize, value: u32) -> usize
-    requires { ⌜ (at ≤ 20000000) × (row ≤ 4096) ⌝ }
-    ensures { λ r. ⌜ Wrote (now (out .entry)) at (cond (eqb value 0) [] (elementLine row value)) r (now (out .exit)) ⌝ }
-    ensures { λ r. ⌜ r ≤ at + 64 ⌝ }
-{
-    if value == 0 {
-        return at;
-    }
-    line_of_two(out, at, b"b", (row + 1) as u64, long(value))
 }
 
 // The whole text.
@@ -185,8 +94,8 @@ pub(crate) fn whole_text(
     ensures { λ r. ⌜ Wrote (now (out .entry)) 0 (write p (matrix (now (starts .entry)) (now (columns .entry)) (now (values .entry))) (now (right .entry))) r (now (out .exit)) ⌝ }
 {
     let n = (starts.len() - 1) as u64;
-    let next = line_of_three(out, 0, b"system", long(p), n, columns.len() as u64);
+    let next = put_line(out, 0, b"system", &[p as u64, n, columns.len() as u64]);
     let next = all_rows(out, next, starts, columns, values);
     let next = all_elements(out, next, right);
-    letters(out, next, b"end\n")
+    put_line(out, next, b"end", &[])
 }

@@ -8,8 +8,7 @@ ghost use Rattle.meaning.specs.Text.{lines};
 ghost use Rattle.system_text.specs.Order.{closing};
 ghost use Rattle.system_text.specs.Places.{entryTaken, elementTaken, EntriesRead, ElementsRead};
 ghost use Rattle.system_text.specs.Surveys.{SurveyedFrom, Surveyed};
-use crate::line::Line;
-use crate::line::line_at;
+use crate::line::line;
 
 pub(crate) fn both(a: bool, b: bool) -> bool
     ensures { λ r. ⌜ r ≡ a && b ⌝ }
@@ -61,7 +60,8 @@ pub(crate) fn value_taken(p: u32, value: u32) -> bool
     value < p
 }
 
-pub(crate) struct Entries {
+// Lines of one form, one after the other: where the next one stands, how many there are, and whether all places and all values are taken.
+pub(crate) struct Group {
     pub next: usize,
     pub count: usize,
     pub places: bool,
@@ -69,7 +69,7 @@ pub(crate) struct Entries {
 }
 
 // The `a` lines from a place on.
-pub(crate) fn entry_lines(text: &[u8], from: usize, p: u32, n: u32) -> Entries
+pub(crate) fn entry_lines(text: &[u8], from: usize, p: u32, n: u32) -> Group
     requires { do ⌜ from ≤ (← ⟦text.len()⟧) ⌝ }
     ensures { λ r. ⌜ EntriesRead (now (text .entry)) from p n r ⌝ }
 {
@@ -80,33 +80,26 @@ pub(crate) fn entry_lines(text: &[u8], from: usize, p: u32, n: u32) -> Entries
     let mut places = true;
     let mut values = true;
     loop {
-        let l = line_at(text, at);
-        let Line::Entry(row, column, value, next) = l else {
-            return Entries {
+        let l = line(text, at, b"a", 3);
+        if !l.taken {
+            return Group {
                 next: at,
                 count,
                 places,
                 values,
             };
-        };
-        places = both(places, entry_taken(n, above, left, row, column));
-        values = both(values, value_taken(p, value));
-        above = row;
-        left = column;
+        }
+        places = both(places, entry_taken(n, above, left, l.first, l.second));
+        values = both(values, value_taken(p, l.third));
+        above = l.first;
+        left = l.second;
         count += 1;
-        at = next;
+        at = l.next;
     }
 }
 
-pub(crate) struct Elements {
-    pub next: usize,
-    pub count: usize,
-    pub places: bool,
-    pub values: bool,
-}
-
 // The `b` lines from a place on.
-pub(crate) fn element_lines(text: &[u8], from: usize, p: u32, n: u32) -> Elements
+pub(crate) fn element_lines(text: &[u8], from: usize, p: u32, n: u32) -> Group
     requires { do ⌜ from ≤ (← ⟦text.len()⟧) ⌝ }
     ensures { λ r. ⌜ ElementsRead (now (text .entry)) from p n r ⌝ }
 {
@@ -116,20 +109,20 @@ pub(crate) fn element_lines(text: &[u8], from: usize, p: u32, n: u32) -> Element
     let mut places = true;
     let mut values = true;
     loop {
-        let l = line_at(text, at);
-        let Line::Element(row, value, next) = l else {
-            return Elements {
+        let l = line(text, at, b"b", 2);
+        if !l.taken {
+            return Group {
                 next: at,
                 count,
                 places,
                 values,
             };
-        };
-        places = both(places, element_taken(n, above, row));
-        values = both(values, value_taken(p, value));
-        above = row;
+        }
+        places = both(places, element_taken(n, above, l.first));
+        values = both(values, value_taken(p, l.second));
+        above = l.first;
         count += 1;
-        at = next;
+        at = l.next;
     }
 }
 
@@ -138,11 +131,8 @@ pub(crate) fn ended(text: &[u8], from: usize) -> bool
     requires { do ⌜ from ≤ (← ⟦text.len()⟧) ⌝ }
     ensures { λ r. ⌜ r ≡ closing (lines (drop from (now (text .entry)))) ⌝ }
 {
-    let l = line_at(text, from);
-    let Line::Ending(next) = l else {
-        return false;
-    };
-    next == text.len()
+    let l = line(text, from, b"end", 0);
+    if l.taken { l.next == text.len() } else { false }
 }
 
 pub(crate) struct Survey {
@@ -207,9 +197,9 @@ pub(crate) fn first_pass(text: &[u8]) -> Survey
     if 2097152 < text.len() {
         return unformed();
     }
-    let l = line_at(text, 0);
-    let Line::Header(p, n, count, next) = l else {
+    let l = line(text, 0, b"system", 3);
+    if !l.taken {
         return unformed();
-    };
-    survey_from(text, p, n, count, next)
+    }
+    survey_from(text, l.first, l.second, l.third, l.next)
 }

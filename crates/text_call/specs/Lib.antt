@@ -3,9 +3,9 @@
 --     Checks       its checks, by the reader's
 --     Loaded       a system in the arrays, from the reader to the answer
 --     Program      what the program prints
---     Put          the answer's text, put part by part
+--     AnswerText   the answer's text by its lines
 pub mod Bounds
 pub mod Checks
-pub mod Put
+pub mod AnswerText
 pub mod Loaded
 pub mod Program

@@ -24,8 +24,8 @@ use lib.Seq.{take-at, length-take-le}
 use borrow.Author.Tests.{leb-true, le-leb, eq-eqb}
 use Rattle.meaning.specs.List.{at, padded, overwrite, bytes, select}
 use Rattle.meaning.specs.Matrix.{Matrix, matrix, size}
-use Rattle.meaning.specs.Text.{Document, document, system, row, line}
-use Rattle.meaning.specs.Solver.{solved, singular, Outcome, passes, solve}
+use Rattle.meaning.specs.Text.{Document, document, system, row, decimal, line}
+use Rattle.meaning.specs.Solver.{solved, singular, Outcome, passCount, applications, solve}
 use Rattle.meaning.specs.Refusal.{check, first, unlessRefused}
 use Rattle.meaning.specs.Answer.{answerText}
 use Rattle.meaning.specs.Calls.{systemChecks, runChecks, textChecks, solverRefusal, readerRefusal, readerAnswer, readerAfter, solvedText}
@@ -34,13 +34,13 @@ use Rattle.laws.specs.List.{length-table, getD-table}
 use Rattle.laws.specs.Refusal.{first-nil, first-passed, first-pass, numbered-run, numbered-text, first-append-none, first-append-zero, unlessRefused-none}
 use Rattle.text_laws.specs.Accepted.{system-accepted, document-accepted, modulus-low, modulus-high}
 use Rattle.text_laws.specs.RoundTrip.{systemOf, read-and-written, text-accepted}
-use Rattle.wiedemann.specs.declared.solver.Counts.{Counts}
-use Rattle.wiedemann.specs.declared.solver.Verdict.{Verdict}
-use Rattle.wiedemann.specs.declared.solver.Verdict.the-variants.{Solved, Singular, Refused}
-use Rattle.wiedemann.specs.Verdict.{Says, Solves}
+use Rattle.solver.specs.declared.Counts.{Counts}
+use Rattle.solver.specs.declared.Verdict.{Verdict}
+use Rattle.solver.specs.declared.Verdict.the-variants.{Solved, Singular, Refused}
+use Rattle.solver.specs.Verdict.{Says, Solves}
 use Rattle.text_call.specs.Bounds.{Small, run-small, answer-fits}
 use Rattle.text_call.specs.Checks.{run-checked}
-use Rattle.text_call.specs.Put.{linesOf, linesOf-ext, headOf, textOf, answer-solved, answer-singular}
+use Rattle.text_call.specs.AnswerText.{elementLines, elementLines-ext, textOf, answer-solved, answer-singular}
 
 abbrev pub loadedMatrix : ℕ → ℕ → List ℕ → List ℕ → List ℕ → Matrix
 loadedMatrix n count starts columns values = matrix (take (n + 1) starts) (take count columns) (take count values)
@@ -185,8 +185,8 @@ refused-number text starts columns values right (suc k) e z = omega arith
 -- ---- the answer, of what the solver says
 
 unfoldable pub verdictText : Verdict → List ℕ → List ℕ → List ℕ
-verdictText (Solved c) polynomial vector = textOf (bytes "solved") 120 (c .degree) (c .passes) (c .applications) polynomial vector
-verdictText (Singular c) polynomial vector = textOf (bytes "singular") 119 (c .degree) (c .passes) (c .applications) polynomial vector
+verdictText (Solved c) polynomial vector = textOf (bytes "answer\tsolved") (bytes "x") (c .degree) (c .passes) (c .applications) polynomial vector
+verdictText (Singular c) polynomial vector = textOf (bytes "answer\tsingular") (bytes "w") (c .degree) (c .passes) (c .applications) polynomial vector
 verdictText (Refused k) polynomial vector = []
 
 abbrev pub degreeOf : Verdict → ℕ
@@ -196,12 +196,12 @@ degreeOf (Refused k) = 0
 
 module _ (polynomial vector : List ℕ) where
   pub verdict-solved : (r : Verdict) (c : Counts) → r ≡ Solved c
-      → textOf (bytes "solved") 120 (c .degree) (c .passes) (c .applications) polynomial vector ≡ verdictText r polynomial vector
+      → textOf (bytes "answer\tsolved") (bytes "x") (c .degree) (c .passes) (c .applications) polynomial vector ≡ verdictText r polynomial vector
   unfolding verdictText
   verdict-solved r c e = ap (λ v. verdictText v polynomial vector) (sym e)
 
   pub verdict-singular : (r : Verdict) (c : Counts) → r ≡ Singular c
-      → textOf (bytes "singular") 119 (c .degree) (c .passes) (c .applications) polynomial vector ≡ verdictText r polynomial vector
+      → textOf (bytes "answer\tsingular") (bytes "w") (c .degree) (c .passes) (c .applications) polynomial vector ≡ verdictText r polynomial vector
   unfolding verdictText
   verdict-singular r c e = ap (λ v. verdictText v polynomial vector) (sym e)
 
@@ -211,24 +211,24 @@ module _ (polynomial vector : List ℕ) where
 
 module _ (p n : ℕ) (o : Outcome) (s : Small p n o) where
   -- the polynomial's zeros after F are not written
-  same-text : (word : List ℕ) (letter degree passed applications : ℕ) → degree ≡ o .degree → passed ≡ passes o → applications ≡ o .applications
-      → textOf word letter degree passed applications (padded (n + 1) (o .polynomial)) (o .vector)
-      ≡ textOf word letter (o .degree) (passes o) (o .applications) (o .polynomial) (o .vector)
+  same-text : (head w : List ℕ) (degree passed applied : ℕ) → degree ≡ o .degree → passed ≡ passCount o → applied ≡ applications o
+      → textOf head w degree passed applied (padded (n + 1) (o .polynomial)) (o .vector)
+      ≡ textOf head w (o .degree) (passCount o) (applications o) (o .polynomial) (o .vector)
   unfolding textOf
-  same-text word letter degree passed applications ed eq ea =
-      ap (λ D. textOf word letter D passed applications (padded (n + 1) (o .polynomial)) (o .vector)) ed
-      ∙ ap₂ (λ q a. textOf word letter (o .degree) q a (padded (n + 1) (o .polynomial)) (o .vector)) eq ea
-      ∙ ap (λ f. headOf word (o .degree) (passes o) (o .applications) ++ f ++ linesOf letter 1 (o .vector) (length (o .vector)) ++ line (bytes "end" ∷ []))
-      (linesOf-ext 102 0 (padded (n + 1) (o .polynomial)) (o .polynomial) (o .degree + 1)
+  same-text head w degree passed applied ed eq ea =
+      ap (λ D. textOf head w D passed applied (padded (n + 1) (o .polynomial)) (o .vector)) ed
+      ∙ ap₂ (λ q a. textOf head w (o .degree) q a (padded (n + 1) (o .polynomial)) (o .vector)) eq ea
+      ∙ ap (λ f. line (head ∷ decimal (o .degree) ∷ decimal (passCount o) ∷ decimal (applications o) ∷ []) ++ f ++ elementLines w 1 (o .vector) (length (o .vector)) ++ line (bytes "end" ∷ []))
+      (elementLines-ext (bytes "f") 0 (padded (n + 1) (o .polynomial)) (o .polynomial) (o .degree + 1)
       (λ i l. getD-table (n + 1) (λ i. at (o .polynomial) i) i 0 (omega (arith, s .degree-low))))
 
   pub said-answer : (r : Verdict) → Says r 0 o → verdictText r (padded (n + 1) (o .polynomial)) (o .vector) ≡ answerText o
   unfolding verdictText
   said-answer (Solved c) t =
-      same-text (bytes "solved") 120 (c .degree) (c .passes) (c .applications) (t .2 .degree) (t .2 .passes) (t .2 .applications)
+      same-text (bytes "answer\tsolved") (bytes "x") (c .degree) (c .passes) (c .applications) (t .2 .degree) (t .2 .passes) (t .2 .applications)
       ∙ sym (answer-solved o (t .1))
   said-answer (Singular c) t =
-      same-text (bytes "singular") 119 (c .degree) (c .passes) (c .applications) (t .2 .degree) (t .2 .passes) (t .2 .applications)
+      same-text (bytes "answer\tsingular") (bytes "w") (c .degree) (c .passes) (c .applications) (t .2 .degree) (t .2 .passes) (t .2 .applications)
       ∙ sym (answer-singular o (t .1))
   said-answer (Refused k) t = absurd (t .1 (sym (t .0)))
 

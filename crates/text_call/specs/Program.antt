@@ -1,11 +1,10 @@
 -- What the program prints.
 --     Printed              a slice of at least 4,608 bytes gets the program's output at its front; a shorter one stays
---     refused-parts, length-refused      the line of a refusal
 --     printed-as           what is printed, by another name
 --     printed-short, printed-answer, printed-refused      the three cases
 use mathlib.Core.Path.{_≡_, refl, sym, ap, subst, _∙_}
 use mathlib.Core.Bool.{not, cond, _&&_}
-use mathlib.Core.List.{List, [], _∷_, _++_, append-assoc}
+use mathlib.Core.List.{List, [], _∷_, _++_}
 use Prim.Native.Nat.{ℕ, _+_, _≤_, _<_}
 use native.Mathlib.Omega.{arith}
 use lib.Dec.{leb}
@@ -17,8 +16,9 @@ use Rattle.meaning.specs.Text.{decimal, document}
 use Rattle.meaning.specs.Answer.{refusedText}
 use Rattle.meaning.specs.Refusal.{check, first}
 use Rattle.meaning.specs.Calls.{textChecks, textRefusal, solvedText, textAnswer, textAfter, programOutput}
-use Rattle.text_laws.specs.Line.{line-last, line-more}
+use Rattle.text_laws.specs.Line.{length-line-last, length-line-more}
 use Rattle.text_laws.specs.Numeral.{decimal-short}
+use Rattle.line_writer.specs.Written.{Wrote, wrote-start}
 use Rattle.text_call.specs.Checks.{text-taken, solved-fits, answer-or-number, text-refused, text-given}
 
 pub record Printed (text out : List ℕ) (r : ℕ) (after : List ℕ) : Type 0 where
@@ -26,15 +26,9 @@ pub record Printed (text out : List ℕ) (r : ℕ) (after : List ℕ) : Type 0 w
   pub slice : after ≡ cond (leb 4608 (length out)) (overwrite (programOutput text) out) out
   pub within : r ≤ length after
 
-pub refused-parts : (k : ℕ) → refusedText k ≡ bytes "refused" ++ (9 ∷ decimal k) ++ (10 ∷ [])
-unfolding refusedText
-refused-parts k =
-    line-more (bytes "refused") (decimal k) [] ∙ ap (λ l. bytes "refused" ++ 9 ∷ l) (line-last (decimal k))
-    ∙ sym (append-assoc (bytes "refused") (9 ∷ decimal k) (10 ∷ []))
-
-pub length-refused : (k : ℕ) → length (refusedText k) ≡ 7 + (1 + length (decimal k)) + 1
-unfolding bytes
-length-refused k = ap length (refused-parts k) ∙ simp length-append (omega arith)
+length-refused : (k : ℕ) → length (refusedText k) ≡ 9 + length (decimal k)
+unfolding refusedText bytes
+length-refused k = omega (arith, length-line-more (bytes "refused") (decimal k) [], length-line-last (decimal k))
 
 printed-as : {text out : List ℕ} {r s : ℕ} {a b : List ℕ} → Printed text out r a → r ≡ s → a ≡ b → Printed text out s b
 printed-as {text} {out} {r} {s} {a} {b} p e f =
@@ -85,25 +79,19 @@ module _ (text out : List ℕ) where
               (call .0 ∙ sym en) (call .1 ∙ sym ea)
           go (inr t) = absurd (omega (arith, t .1, t .2, en))
 
-      pub printed-refused : number ≤ 18
-          → (length (refusedText number) ≤ length after)
-          × ((r : ℕ) (final : List ℕ) → r ≡ length (refusedText number) → final ≡ overwrite (refusedText number) after → Printed text out r final)
+      pub printed-refused : number ≤ 18 → (r : ℕ) (final : List ℕ) → Wrote after 0 (refusedText number) r final → Printed text out r final
       unfolding programOutput
-      printed-refused m = go (answer-or-number text (length out))
+      printed-refused m r final p = go (answer-or-number text (length out))
         where
-          go : ((refusal ≡ 0) × (18 < textAnswer text (length out))) ⊎ ((1 ≤ refusal) × (refusal ≤ 11) × (textAnswer text (length out) ≡ refusal))
-              → (length (refusedText number) ≤ length after)
-              × ((r : ℕ) (final : List ℕ) → r ≡ length (refusedText number) → final ≡ overwrite (refusedText number) after → Printed text out r final)
+          go : ((refusal ≡ 0) × (18 < textAnswer text (length out))) ⊎ ((1 ≤ refusal) × (refusal ≤ 11) × (textAnswer text (length out) ≡ refusal)) → Printed text out r final
           go (inl t) = absurd (omega (arith, t .1, en))
           go (inr t) =
               let is : number ≡ refusal = en ∙ t .2 in
-              let short = decimal-short 1 number (omega (arith, t .1, is)) in
+              let short : length (refusedText number) ≤ 11 = omega (arith, length-refused number, decimal-short 1 number (omega (arith, t .1, is))) in
               let as-before : out ≡ after = text-refused text out refusal refl (t .0) .1 ∙ sym ea in
               let shown : programOutput text ≡ refusedText number =
               ap (λ k. cond k (solvedText text) (refusedText (textRefusal text 4608))) (ne-eqb (textRefusal text 4608) 0 (λ z. omega (arith, t .0, room-enough, z)))
-              ∙ ap refusedText (sym (is ∙ room-enough)) in (
-                omega (arith, length-refused number, short, ap length as-before),
-                λ r final er ef.
-                    printed-as (printed (refusedText number) shown (omega (arith, length-refused number, short))) (sym er)
-                    (ap (overwrite (refusedText number)) as-before ∙ sym ef),
-              )
+              ∙ ap refusedText (sym (is ∙ room-enough)) in
+              let put = wrote-start p (omega (arith, short)) in
+              printed-as (printed (refusedText number) shown (omega (arith, short))) (sym (put .0))
+              (ap (overwrite (refusedText number)) as-before ∙ sym (put .1 (omega (arith, short, ap length as-before))))

@@ -1,16 +1,16 @@
 // The call on its arrays: the reader, the solver, the answer's writer.
 use crate::answer::put_answer;
 use field::Field;
+use solver::Verdict;
+use solver::solve;
 use system_text::reader::Reading;
 use system_text::reader::read;
-use wiedemann::solver::Verdict;
-use wiedemann::solver::solve;
 ghost use mathlib.Core.Path.{_≡_};
 ghost use Prim.Native.Nat.{_+_, _≤_, _<_};
 ghost use lib.ListN.{length};
 ghost use Rattle.meaning.specs.Answer.{answerText};
 ghost use Rattle.meaning.specs.Calls.{textAnswer, textAfter};
-ghost use Rattle.text_call.specs.Put.{Put};
+ghost use Rattle.line_writer.specs.Written.{Wrote};
 ghost use Rattle.text_call.specs.Loaded.{outcomeOf, Loaded, Ran, verdictText, degreeOf};
 
 // Solves the system in the leading parts of the arrays.
@@ -48,14 +48,13 @@ fn run(
 // The answer's text of a verdict; nothing of a refusal.
 fn put_verdict(answer: &mut [u8], verdict: Verdict, polynomial: &[u32], vector: &[u32]) -> usize
     requires { ⌜ degreeOf verdict < length (now polynomial) ⌝ }
-    requires { ⌜ length (verdictText verdict (now polynomial) (now vector)) ≤ length (now answer) ⌝ }
-    ensures { λ r. ⌜ Put (now (answer .entry)) 0 (verdictText verdict (now (polynomial .entry)) (now (vector .entry))) r (now (answer .exit)) ⌝ }
+    ensures { λ r. ⌜ Wrote (now (answer .entry)) 0 (verdictText verdict (now (polynomial .entry)) (now (vector .entry))) r (now (answer .exit)) ⌝ }
 {
     match verdict {
         Verdict::Solved(c) => put_answer(
             answer,
-            b"solved",
-            b'x',
+            b"answer\tsolved",
+            b"x",
             c.degree,
             c.passes,
             c.applications,
@@ -64,8 +63,8 @@ fn put_verdict(answer: &mut [u8], verdict: Verdict, polynomial: &[u32], vector: 
         ),
         Verdict::Singular(c) => put_answer(
             answer,
-            b"singular",
-            b'w',
+            b"answer\tsingular",
+            b"w",
             c.degree,
             c.passes,
             c.applications,
@@ -91,8 +90,8 @@ fn put_solved(
     work: &mut [u32],
 ) -> usize
     requires { ⌜ Loaded p n count (now starts) (now columns) (now values) (now right) ⌝ }
-    requires { ⌜ (length (now vector) ≡ 128) × (length (now polynomial) ≡ 129) × (length (now work) ≡ 2064) × (4608 ≤ length (now answer)) ⌝ }
-    ensures { λ r. ⌜ Put (now (answer .entry)) 0 (answerText (outcomeOf p n count (now (starts .entry)) (now (columns .entry)) (now (values .entry)) (now (right .entry)))) r (now (answer .exit)) ⌝ }
+    requires { ⌜ (length (now vector) ≡ 128) × (length (now polynomial) ≡ 129) × (length (now work) ≡ 2064) ⌝ }
+    ensures { λ r. ⌜ Wrote (now (answer .entry)) 0 (answerText (outcomeOf p n count (now (starts .entry)) (now (columns .entry)) (now (values .entry)) (now (right .entry)))) r (now (answer .exit)) ⌝ }
 {
     let verdict = run(
         p,

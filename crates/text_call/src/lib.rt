@@ -1,12 +1,12 @@
 // The text call: system text in, answer text out.
 //
-// The contracts cite the crate meaning (Answer: the answer's text; Calls: what the call refuses, answers and leaves), specs/Put.antt (what
-// each step of the answer's writer leaves) and specs/Loaded.antt (a system in the arrays).
+// The contracts cite the crate meaning (Answer: the answer's text; Calls: what the call refuses, answers and leaves), specs/AnswerText.antt
+// (the answer's lines) and specs/Loaded.antt (a system in the arrays).
 mod answer;
 mod call;
 
-use answer::put_refused;
 use call::answer_text;
+use line_writer::put_line;
 ghost use mathlib.Core.Path.{_≡_};
 ghost use lib.ListN.{length};
 ghost use Rattle.meaning.specs.Calls.{textAnswer, textAfter};
@@ -50,6 +50,6 @@ pub fn output(text: &[u8], out: &mut [u8]) -> usize
     if number > 18 {
         number as usize
     } else {
-        put_refused(out, number)
+        put_line(out, 0, b"refused", &[number])
     }
 }

@@ -180,6 +180,9 @@ unrank-rank ending = refl
 unrank-rank nothing = refl
 unrank-rank broken = refl
 
+pub same-form : (f g : Form) → rank f ≡ rank g → f ≡ g
+same-form f g e = sym (unrank-rank f) ∙ ap unrank e ∙ unrank-rank g
+
 -- lines that begin with `count` of form f
 record Split (f : Form) (count : ℕ) (after : List ℕ) (ls : List Line) : Type 0 where
   group : List (List ℕ)
@@ -194,7 +197,7 @@ split-form f zero after ls e = record { group = []; rest = ls; parted = refl; ra
 split-form f (suc count) after [] e = absurd (nil≢cons e)
 split-form f (suc count) after (l ∷ ls) e =
     let r = split-form f count after ls (tail-eq-of-cons-eq e) in
-    let q : l .form ≡ f = sym (unrank-rank (l .form)) ∙ ap unrank (head-eq-of-cons-eq e) ∙ unrank-rank f in
+    let q : l .form ≡ f = same-form (l .form) f (head-eq-of-cons-eq e) in
     record {
       group = l .numbers ∷ r .group;
       rest = r .rest;

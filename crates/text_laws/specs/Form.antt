@@ -8,9 +8,10 @@
 --     whole l, sound l     both; fits unless it is broken
 --     textOf ls            the text of these lines, each ended
 --     blank                what stands after the last byte 10 of a text whose lines all end
---     has-form-of, has-form-other, has-form-fields, has-form-fits      what hasForm says
+--     has-form, has-form-of, has-form-other, has-form-fields, has-form-fits      what hasForm says
 --     form-of-word         a form's word and as many numerals as it has are a line of that form
 --     form-cases           a line that isn't broken has the form that formOf gives it
+--     line-of, word-free   the clause of lineOf; a form's word is without bytes 9 and 10
 --     lineOf-fields        lineOf (fields l) ≡ l for a whole line
 --     fields-lineOf        fields (lineOf ws) ≡ ws unless it is broken
 --     fits-lineOf          lineOf ws fits unless it is broken
@@ -77,7 +78,7 @@ blank = say nothing []
 
 -- ---- a line's form
 
-has-form : (word : List ℕ) (k : ℕ) (w : List ℕ) (ws : List (List ℕ))
+pub has-form : (word : List ℕ) (k : ℕ) (w : List ℕ) (ws : List (List ℕ))
     → hasForm word k (w ∷ ws) ≡ equal w word && eqb (length ws) k && every isNumeral ws
 unfolding hasForm
 has-form word k w ws = refl
@@ -161,7 +162,7 @@ form-cases ws =
 
 -- ---- a line and its fields
 
-line-of : (ws : List (List ℕ)) → lineOf ws ≡ say (formOf ws) (map valueOf (drop 1 ws))
+pub line-of : (ws : List (List ℕ)) → lineOf ws ≡ say (formOf ws) (map valueOf (drop 1 ws))
 unfolding lineOf
 line-of ws = refl
 
@@ -212,7 +213,7 @@ pub text-cons : (l : Line) (ls : List Line) → textOf (l ∷ ls) ≡ line (fiel
 unfolding textOf
 text-cons l ls = flat-cons (line (fields l)) (map (λ l. line (fields l)) ls)
 
-word-free : (f : Form) → (free 9 (word f) ≡ true) × (free 10 (word f) ≡ true)
+pub word-free : (f : Form) → (free 9 (word f) ≡ true) × (free 10 (word f) ≡ true)
 unfolding bytes every
 word-free header = (refl, refl)
 word-free entry = (refl, refl)

@@ -12,6 +12,7 @@
 --     digits-free, numeral-free      digits, and so a numeral, are without bytes 9 and 10 (and any below 48)
 --     line-joined          line (w ∷ ws) ≡ joined 9 (w ∷ ws) ++ (10 ∷ [])
 --     line-last, line-more, length-line-last, length-line-more      a line field by field, and its length
+--     line-two-words       a line whose first word is two, with a tab between them
 --     line-parts           line (parts 9 l) ≡ l ++ (10 ∷ [])
 --     lines-parts, lines-nil, lines-cut, lines-last      the text cut into lines
 --     lines-line           lines (line (w ∷ ws) ++ text) ≡ lineOf (w ∷ ws) ∷ lines text for fields without bytes 9 and 10
@@ -140,6 +141,13 @@ pub line-more : (w v : List ℕ) (ws : List (List ℕ)) → line (w ∷ v ∷ ws
 line-more w v ws =
     line-joined w (v ∷ ws) ∙ ap (λ l. l ++ (10 ∷ [])) (joined-two 9 w v ws) ∙ append-assoc w (9 ∷ joined 9 (v ∷ ws)) (10 ∷ [])
     ∙ ap (λ l. w ++ 9 ∷ l) (sym (line-joined v ws))
+
+-- two words with a tab between them, written as one
+pub line-two-words : (v w : List ℕ) (ws : List (List ℕ)) → line ((v ++ 9 ∷ w) ∷ ws) ≡ line (v ∷ w ∷ ws)
+unfolding line
+line-two-words v w ws =
+    ap (λ l. l ++ (10 ∷ []))
+    (append-assoc v (9 ∷ w) (flat (map (λ x. 9 ∷ x) ws)) ∙ ap (λ l. v ++ l) (sym (flat-cons (9 ∷ w) (map (λ x. 9 ∷ x) ws))))
 
 pub length-line-last : (w : List ℕ) → length (line (w ∷ [])) ≡ length w + 1
 length-line-last w = ap length (line-last w) ∙ length-append w (10 ∷ [])

@@ -1,6 +1,6 @@
-use Rattle.solver.specs.Run.{closable}
-use Rattle.solver.specs.Taken.{taken-of}
-use Rattle.solver.specs.Verdict.{closed, refused, taken}
+use Rattle.solver.specs.Run.{system-of, closable}
+use Rattle.solver.specs.Verdict.{run-passed, closed, refused, taken}
+use Rattle.laws.specs.Accepted.{call-accepted}
 use Rattle.meaning.specs.Matrix.{matrix}
 use denote.Ref.{now}
 use Prim.Native.Nat.{_-_}
@@ -32,16 +32,17 @@ run-requires c κs =
     let a = c .before .before .before .before .before .before .before .before .before .before .before .before .before .before .args in
     let A = matrix (now (a .starts)) (now (a .columns)) (now (a .values)) in
     let passed = sym (c .before .before .solver-refusal .ensures) ∙ c .before .if1 .left in
-    let t = taken-of (a .field .p) A (now (a .b)) (now (a .words)) (now (a .vector)) (now (a .polynomial)) (now (a .work)) passed in
-    (t .system, (t .words-taken, t .room))
+    let t = call-accepted (a .field .p) A (now (a .b)) (now (a .words)) (now (a .vector)) (now (a .polynomial)) (now (a .work)) passed in
+    (system-of (a .field .p) A (now (a .b)) (now (a .words)) (run-passed (a .field .p) A (now (a .b)) (now (a .words)) (now (a .vector)) (now (a .polynomial)) (now (a .work)) passed), (t .run .words-taken, t .room))
 
 finish-requires : tie.Need-finish-requires
 finish-requires c κs =
     let a = c .before .before .before .before .before .before .before .before .before .before .before .before .before .before .before .before .before .before .before .before .args in
     let A = matrix (now (a .starts)) (now (a .columns)) (now (a .values)) in
     let passed = sym (c .before .before .before .before .before .before .before .before .solver-refusal .ensures) ∙ c .before .before .before .before .before .before .before .if1 .left in
-    let t = taken-of (a .field .p) A (now (a .b)) (now (a .words)) (now (a .vector)) (now (a .polynomial)) (now (a .work)) passed in
-    (t .system, (closable (t .system) (c .before .before .before .before .before .run .ensures), (t .vector-size, t .polynomial-size)))
+    let t = call-accepted (a .field .p) A (now (a .b)) (now (a .words)) (now (a .vector)) (now (a .polynomial)) (now (a .work)) passed in
+    let system = system-of (a .field .p) A (now (a .b)) (now (a .words)) (run-passed (a .field .p) A (now (a .b)) (now (a .words)) (now (a .vector)) (now (a .polynomial)) (now (a .work)) passed) in
+    (system, (closable system (c .before .before .before .before .before .run .ensures), (t .vector-size, t .polynomial-size)))
 
 same-length-4 : tie.Need-same-length-4
 same-length-4 c = search needs
@@ -57,7 +58,7 @@ returns-2 c =
     let a = c .before .before .before .before .before .before .before .before .before .before .before .before .before .before .before .before .before .before .before .before .before .before .before .before .before .before .before .args in
     let A = matrix (now (a .starts)) (now (a .columns)) (now (a .values)) in
     let passed = sym (c .before .before .before .before .before .before .before .before .before .before .before .before .before .before .before .solver-refusal .ensures) ∙ c .before .before .before .before .before .before .before .before .before .before .before .before .before .before .if1 .left in
-    let t = taken-of (a .field .p) A (now (a .b)) (now (a .words)) (now (a .vector)) (now (a .polynomial)) (now (a .work)) passed in
+    let t = call-accepted (a .field .p) A (now (a .b)) (now (a .words)) (now (a .vector)) (now (a .polynomial)) (now (a .work)) passed in
     taken (a .field .p) A (now (a .b)) (now (a .words)) (now (a .vector)) (now (a .polynomial)) (now (a .work)) passed
     (closed (c .before .before .before .before .before .before .before .before .before .before .before .before .run .ensures) (c .before .before .before .before .before .before .finish .ensures))
 

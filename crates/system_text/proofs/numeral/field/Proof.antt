@@ -1,57 +1,42 @@
--- `numeral::field` meets its contract. Assumes nothing.
-use mathlib.Core.Path.{_≡_, sym}
+-- `numeral::field` meets its contract.
+use mathlib.Core.Path.{sym}
 use mathlib.Core.Bool.{true≢false}
-use Prim.Native.Nat.{ℕ, _<_, _≤_, _+_}
-use native.Mathlib.Omega.{arith}
-use lib.ListN.{length}
-use borrow.Author.Tests.{ltb-true, ltb-false}
-use Rattle.system_text.specs.Fields.{field-here, field-empty, field-past, field-none}
+use Rattle.system_text.specs.Fields.{field-at, field-past, field-none}
 use borrow.Author.Needs.{needs}
 use Rattle.system_text.proofs.numeral.field.Statement.{statement}
 use Rattle.system_text.proofs.numeral.field.Tie as tie
 
-empty : (from r next : ℕ) → next ≡ (from + 1) + r → next ≤ from + 1 → r ≡ 0
-empty from r next e h = omega arith
+shared-slice-read-if2 : tie.Need-shared-slice-read-if2
+shared-slice-read-if2 c = search needs
+
+add-numeral : tie.Need-add-numeral
+add-numeral c = search needs
+
+numeral-requires : tie.Need-numeral-requires
+numeral-requires c κs = search needs
 
 returns : tie.Need-returns
 returns c =
-    record {
-      here = λ e. absurd (true≢false (sym e));
-      missing = λ e. field-past _ _ (c .if1 .taken);
-    }
-
-shared-slice-read-if2 : tie.Need-shared-slice-read-if2
-shared-slice-read-if2 c = search needs
+    let i = c .before in
+    let a = i .before .before .before .before .args in
+    field-at (a .text .now) (a .from) (i .before .before .if1 .taken) (i .if2 .taken) (c .numeral .result) (c .numeral .ensures)
 
 returns-2 : tie.Need-returns-2
 returns-2 c =
     let a = c .before .before .before .before .args in
     record {
       here = λ e. absurd (true≢false (sym e));
-      missing = λ e. field-none (a .text .now) (a .from) (c .before .before .if1 .left) (c .if2 .taken);
+      missing = λ _. field-none (a .text .now) (a .from) (c .before .before .if1 .taken) (c .if2 .left);
     }
-
-add-first : tie.Need-add-first
-add-first c = search needs
-
-numeral-requires : tie.Need-numeral-requires
-numeral-requires c κs = search needs
 
 returns-3 : tie.Need-returns-3
 returns-3 c =
-    let b = c .before .before in
-    let a = b .before .before .before .before .args in
-    let l : a .from < length (a .text .now) = b .before .before .if1 .left in
-    let n = c .before .numeral in
     record {
-      here =
-          λ e. field-here (a .text .now) (a .from) l (b .if2 .left) (n .result .value) (n .result .next) (n .ensures .0) (n .ensures .1)
-          (ltb-true (a .from + 1) (n .result .next) e);
-      missing =
-          λ e. field-empty (a .text .now) (a .from) l (b .if2 .left) (empty (a .from) _ _ (n .ensures .0) (ltb-false (a .from + 1) (n .result .next) e));
+      here = λ e. absurd (true≢false (sym e));
+      missing = λ _. field-past (c .before .before .args .text .now) (c .before .before .args .from) (c .if1 .left);
     }
 
 pub field-spec : {M : Type 1} → statement M
 field-spec =
     tie.close
-    (tie.spec returns shared-slice-read-if2 returns-2 add-first numeral-requires returns-3)
+    (tie.spec shared-slice-read-if2 add-numeral numeral-requires returns returns-2 returns-3)

@@ -1,17 +1,18 @@
 -- `numeral::numeral` meets its contract. The invariant: the numeral from `from` is the one read so far, extended by what follows `at`.
--- Assumes nothing.
-use mathlib.Core.List.{[]}
+use mathlib.Core.Logic.{⊎-elim}
+use mathlib.Core.List.{List, []}
 use borrow.Author.Needs.{needs}
 use borrow.Author.Tests.{le-ltb, not-true, not-false}
 use native.Mathlib.Omega.{arith}
 use native.Mathlib.Nat.{le-refl}
-use Prim.Native.Nat.{_≤_, _<_, _+_, _-_}
-use mathlib.Core.Path.{_≡_, sym, ap, _∙_}
+use Prim.Native.Nat.{ℕ, _≤_, _<_, _+_, _-_}
+use mathlib.Core.Path.{_≡_, refl, sym, ap, _∙_}
 use mathlib.Core.Bool.{false}
 use lib.Dec.{ltb}
 use lib.ListN.{length, drop, drop-of-length-le}
 use Rattle.text_laws.specs.Numeral.{digit-low}
 use Rattle.system_text.specs.Scan.{run, runValue, run-nil, runValue-nil, extends-digit, extends-bounded}
+use Rattle.system_text.specs.Fields.{NumeralAt}
 use Rattle.system_text.proofs.Steps.{run-turn, value-turn, run-stop, value-stop}
 use Rattle.system_text.proofs.numeral.numeral.Statement.{statement}
 use Rattle.system_text.proofs.numeral.numeral.Tie as tie
@@ -63,6 +64,12 @@ loop-again c =
       b .loop .inv .3 ∙ value-turn text from at v h l e ∙ ap (λ x. runValue (ltb from (at + 1)) x (drop (at + 1) text)) (sym (c .extended .ensures)),
     )
 
+-- what was read, where the loop is left: what follows extends no numeral
+left : (text : List ℕ) (from at v : ℕ) → from ≤ at → from + run false 0 (drop from text) ≡ at + run (ltb from at) v (drop at text)
+    → runValue false 0 (drop from text) ≡ runValue (ltb from at) v (drop at text) → run (ltb from at) v (drop at text) ≡ 0
+    → runValue (ltb from at) v (drop at text) ≡ v → NumeralAt (drop from text) from (record { taken = ltb from at; value = v; next = at })
+left text from at v h e f z w = record { some = refl; next = omega arith; value = sym (f ∙ w) }
+
 returns : tie.Need-returns Inv-loop μ-loop
 returns c =
     let b = c .before in
@@ -70,22 +77,13 @@ returns c =
     let from = b .before .before .args .from in
     let at = b .loop .at in
     let v = b .loop .value in
-    let d : drop at text ≡ [] = drop-of-length-le text {i = at} (omega arith) in
-    let z : run (ltb from at) v (drop at text) ≡ 0 = ap (run (ltb from at) v) d ∙ run-nil (ltb from at) v in
-    (omega arith, sym (b .loop .inv .3 ∙ ap (runValue (ltb from at) v) d ∙ runValue-nil (ltb from at) v))
-
-returns-2 : tie.Need-returns-2 Inv-loop μ-loop
-returns-2 c =
-    let b = c .before .before .before .before in
-    let text = b .before .before .args .text .now in
-    let from = b .before .before .args .from in
-    let at = b .loop .at in
-    let v = b .loop .value in
-    let e = sym (c .before .extends .ensures) ∙ not-true (c .before .extends .result) (c .if1 .taken) in
-    let l : at < length text = omega arith in
-    let h : from ≤ at = omega arith in
-    let z = run-stop text from at v h l e in
-    (omega arith, sym (b .loop .inv .3 ∙ value-stop text from at v h l e))
+    let i = b .loop .inv in
+    ⊎-elim
+    (λ o. let d : drop at text ≡ [] = drop-of-length-le text {i = at} (o .left) in
+    left text from at v (i .0) (i .2) (i .3) (ap (run (ltb from at) v) d ∙ run-nil (ltb from at) v) (ap (runValue (ltb from at) v) d ∙ runValue-nil (ltb from at) v))
+    (λ w. let e = sym (w .2 .ensures) ∙ not-true (w .2 .result) (w .3 .taken) in
+    left text from at v (i .0) (i .2) (i .3) (run-stop text from at v (i .0) (w .0 .taken) e) (value-stop text from at v (i .0) (w .0 .taken) e))
+    (c .loop-test .came)
 
 pub numeral-spec : {M : Type 1} → statement M
 numeral-spec =
@@ -100,5 +98,4 @@ numeral-spec =
     add-at
     loop-less
     loop-again
-    returns
-    returns-2)
+    returns)

@@ -1,37 +1,33 @@
--- `output::all_elements` meets its contract. The invariant: the lines of the elements below i are written. Assumes nothing.
-use mathlib.Core.Path.{_≡_, refl, sym, ap, _∙_}
-use mathlib.Core.List.{[], _++_}
-use Prim.Native.Nat.{_+_, _-_, _*_, _≤_}
+-- `output::all_elements` meets its contract. The invariant: the lines of the elements below i are written.
+use mathlib.Core.Path.{_≡_, sym, ap, _∙_}
+use Prim.Native.Nat.{_+_, _-_, _≤_, _<_}
 use native.Mathlib.Omega.{arith}
-use native.Mathlib.Numerals.{add-one}
 use lib.ListN.{length}
 use Rattle.meaning.specs.List.{flat, table}
 use Rattle.meaning.specs.Text.{writeElement}
-use Rattle.system_text.specs.Writes.{Wrote, wrote-none, wrote-same, wrote-then, flat-none, flat-more, element-is}
+use Rattle.line_writer.specs.Written.{last, Wrote, wrote-line, wrote-none, wrote-as, wrote-rows-none, wrote-rows-more}
+use Rattle.system_text.specs.Writes.{element-none, element-line}
 use borrow.Author.Needs.{needs}
 use Rattle.system_text.proofs.output.all_elements.Statement.{statement}
 use Rattle.system_text.proofs.output.all_elements.Tie as tie
 
 abbrev Inv-loop : tie.InvT-loop
-Inv-loop out₀ at right next₀ i₀ out next i =
-    (i ≤ length right) × (length out ≡ length out₀) × (next ≤ at + 64 * i) × Wrote out₀ at (flat (table i (writeElement right))) next out
+Inv-loop out₀ at right next₀ i₀ numbers out next i =
+    (i ≤ length right) × (next ≤ last) × Wrote out₀ at (flat (table i (writeElement right))) next out
 
 abbrev μ-loop : tie.MeasureT-loop
-μ-loop out₀ at right next₀ i₀ out next i = length right - i
+μ-loop out₀ at right next₀ i₀ numbers out next i = length right - i
 
 loop-holds : tie.Need-loop-holds Inv-loop μ-loop
 loop-holds c =
     let a = c .before .before .args in
-    (omega arith, refl, omega arith, wrote-same (a .out .now) (a .at) [] _ (a .at) (a .out .now) (sym (flat-none (writeElement (a .right .now)))) (wrote-none (a .out .now) (a .at)))
+    (omega arith, omega arith, wrote-rows-none (a .out .now) (a .at) (writeElement (a .right .now)) (omega arith))
 
-mul-element-written : tie.Need-mul-element-written Inv-loop μ-loop
-mul-element-written c = search needs
+mul-value : tie.Need-mul-value Inv-loop μ-loop
+mul-value c = search needs
 
-shared-slice-read-element-written : tie.Need-shared-slice-read-element-written Inv-loop μ-loop
-shared-slice-read-element-written c = search needs
-
-element-written-requires : tie.Need-element-written-requires Inv-loop μ-loop
-element-written-requires c κs = search needs
+shared-slice-read-value : tie.Need-shared-slice-read-value Inv-loop μ-loop
+shared-slice-read-value c = search needs
 
 add-i : tie.Need-add-i Inv-loop μ-loop
 add-i c = search needs
@@ -41,30 +37,53 @@ loop-less c = search needs
 
 loop-again : tie.Need-loop-again Inv-loop μ-loop
 loop-again c =
-    let e = c .before .before .element-written in
-    let b = c .before .before .before .before .before .before in
-    let a = b .before .before .before .args in
-    let f = writeElement (a .right .now) in
+    let b = c .before .before .before in
+    let right = b .before .before .before .args .right .now in
     let i = b .loop .i in (
+      omega (arith, c .before .before .loop-test .taken),
+      b .loop .inv .1,
+      wrote-rows-more (writeElement right) i (b .loop .inv .2)
+          (wrote-as (sym (element-none right i (c .if1 .taken))) (wrote-none (b .loop .out) (b .loop .next) (b .loop .inv .1))),
+    )
+
+slice-aggregate-put-line : tie.Need-slice-aggregate-put-line Inv-loop μ-loop
+slice-aggregate-put-line c = search needs
+
+long-requires : tie.Need-long-requires Inv-loop μ-loop
+long-requires c κs = search needs
+
+slice-aggregate-put-line-2 : tie.Need-slice-aggregate-put-line-2 Inv-loop μ-loop
+slice-aggregate-put-line-2 c = search needs
+
+put-line-requires : tie.Need-put-line-requires Inv-loop μ-loop
+put-line-requires c κs = search needs
+
+loop-less-2 : tie.Need-loop-less-2 Inv-loop μ-loop
+loop-less-2 c = search needs
+
+loop-again-2 : tie.Need-loop-again-2 Inv-loop μ-loop
+loop-again-2 c =
+    let e = c .before .before .put-line in
+    let u = c .before .before .before .before in
+    let f = u .before .before .before in
+    let b = f .before .before .before in
+    let right = b .before .before .before .args .right .now in
+    let i = b .loop .i in (
+      omega (arith, f .before .before .loop-test .taken),
       omega arith,
-      e .kept .0 ∙ b .loop .inv .1,
-      omega (arith, e .ensures .1, b .loop .inv .2),
-      wrote-same (a .out .now) (a .at) (flat (table i f) ++ f i) _ (e .result) (e .last .0) (flat-more i f ∙ ap (λ m. flat (table m f)) (sym (add-one i)))
-          (wrote-then (a .out .now) (a .at) (flat (table i f)) (f i) (b .loop .next) (b .loop .out) (e .result) (e .last .0) (b .loop .inv .1) (b .loop .inv .3)
-          (wrote-same (b .loop .out) (b .loop .next) _ (f i) (e .result) (e .last .0) (element-is (a .right .now) i) (e .ensures .0))),
+      wrote-rows-more (writeElement right) i (b .loop .inv .2)
+          (wrote-as (element-line right i (u .long .result) (f .if1 .left) (u .long .ensures .0)) (wrote-line (e .ensures .0) (e .ensures .1))),
     )
 
 same-length : tie.Need-same-length Inv-loop μ-loop
-same-length c = search needs
+same-length c = c .before .loop .inv .2 .same
 
 returns : tie.Need-returns Inv-loop μ-loop
 returns c =
     let b = c .before in
-    let a = b .before .before .before .args in
-    let q : b .loop .i ≡ length (a .right .now) = omega (arith, c .loop-test .left, b .loop .inv .0) in (
-      wrote-same (a .out .now) (a .at) _ _ (b .loop .next) (b .loop .out) (ap (λ m. flat (table m (writeElement (a .right .now)))) q) (b .loop .inv .3),
-      omega (arith, b .loop .inv .2, q, b .before .before .before .pre .1),
-    )
+    let right = b .before .before .before .args .right .now in
+    let q : b .loop .i ≡ length right = omega (arith, c .loop-test .left, b .loop .inv .0) in
+    wrote-as (ap (λ m. flat (table m (writeElement right))) q) (b .loop .inv .2)
 
 pub all-elements-spec : {M : Type 1} → statement M
 all-elements-spec =
@@ -73,11 +92,16 @@ all-elements-spec =
     Inv-loop
     μ-loop
     loop-holds
-    mul-element-written
-    shared-slice-read-element-written
-    element-written-requires
+    mul-value
+    shared-slice-read-value
     add-i
     loop-less
     loop-again
+    slice-aggregate-put-line
+    long-requires
+    slice-aggregate-put-line-2
+    put-line-requires
+    loop-less-2
+    loop-again-2
     same-length
     returns)

@@ -1,28 +1,36 @@
--- `survey::ended` meets its contract. Assumes nothing.
-use mathlib.Core.Path.{sym, subst}
-use Rattle.system_text.specs.Lines.{Says, ending-here, not-ending}
-use Rattle.system_text.proofs.Tags.{tag-ending}
+-- `survey::ended` meets its contract.
+use mathlib.Core.Path.{refl, sym}
+use Rattle.meaning.specs.Text as text
+use Rattle.meaning.specs.Text.{lines}
+use lib.ListN.{drop}
+use Rattle.system_text.specs.Lines.{ending-word, ending-here, ending-missing}
 use borrow.Author.Needs.{needs}
 use Rattle.system_text.proofs.survey.ended.Statement.{statement}
 use Rattle.system_text.proofs.survey.ended.Tie as tie
 
-line-at-requires : tie.Need-line-at-requires
-line-at-requires c κs = search needs
+slice-aggregate-line : tie.Need-slice-aggregate-line
+slice-aggregate-line c = search needs
 
-enum-known-l : tie.Need-enum-known-l
-enum-known-l c = search needs
+line-requires : tie.Need-line-requires
+line-requires c κs = search needs
 
 returns : tie.Need-returns
 returns c =
-    let a = c .before .before .before .args in
-    sym (not-ending (a .text .now) (a .from) (c .before .line-at .result) (c .before .line-at .ensures) (tag-ending (c .before .line-at .result) (c .match .keys2)))
+    let l = c .before .before .line in
+    let a = c .before .before .before .before .before .args in
+    sym (ending-here (a .text .now) (a .from) (l .result .next) (l .ensures text.ending refl ending-word refl .found (c .before .if1 .taken)))
 
 returns-2 : tie.Need-returns-2
 returns-2 c =
-    let a = c .before .before .before .before .before .args in
-    let g = c .before .l .given in
-    let h = subst (Says (a .text .now) (a .from)) (g .1) (c .before .before .before .line-at .ensures) in
-    sym (ending-here (a .text .now) (a .from) (g .0 .0) h)
+    let l = c .before .line in
+    let a = c .before .before .before .before .args in
+    sym (ending-missing (lines (drop (a .from) (a .text .now))) (l .ensures text.ending refl ending-word refl .missing (c .if1 .left)))
 
 pub ended-spec : {M : Type 1} → statement M
-ended-spec = tie.close (tie.spec line-at-requires enum-known-l returns returns-2)
+ended-spec =
+    tie.close
+    (tie.spec
+    slice-aggregate-line
+    line-requires
+    returns
+    returns-2)

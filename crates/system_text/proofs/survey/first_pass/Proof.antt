@@ -1,8 +1,9 @@
--- `survey::first_pass` meets its contract. Assumes nothing.
-use mathlib.Core.Path.{subst}
-use Rattle.system_text.specs.Lines.{Says}
-use Rattle.system_text.specs.Surveys.{whole-surveyed, long-surveyed, not-header}
-use Rattle.system_text.proofs.Tags.{tag-header}
+-- `survey::first_pass` meets its contract.
+use mathlib.Core.Path.{refl}
+use borrow.Author.Tests.{not-true, not-false}
+use Rattle.meaning.specs.Text as text
+use Rattle.system_text.specs.Lines.{header-word}
+use Rattle.system_text.specs.Surveys.{long-surveyed, not-header, whole-surveyed}
 use borrow.Author.Needs.{needs}
 use Rattle.system_text.proofs.survey.first_pass.Statement.{statement}
 use Rattle.system_text.proofs.survey.first_pass.Tie as tie
@@ -13,32 +14,32 @@ unformed-requires c κs = search needs
 returns : tie.Need-returns
 returns c = long-surveyed _ _ (c .before .if1 .taken) (c .unformed .ensures)
 
-line-at-requires : tie.Need-line-at-requires
-line-at-requires c κs = search needs
+slice-aggregate-line : tie.Need-slice-aggregate-line
+slice-aggregate-line c = search needs
 
-enum-known-l : tie.Need-enum-known-l
-enum-known-l c = search needs
+line-requires : tie.Need-line-requires
+line-requires c κs = search needs
 
 unformed-requires-2 : tie.Need-unformed-requires-2
 unformed-requires-2 c κs = search needs
 
 returns-2 : tie.Need-returns-2
 returns-2 c =
-    let a = c .before .before .before .before .before .args in
-    let l = c .before .before .line-at in
-    not-header (a .text .now) (l .result) (c .unformed2 .result) (l .ensures) (tag-header (l .result) (c .before .match .keys2)) (c .unformed2 .ensures)
+    let l = c .before .before .before .line in
+    let a = c .before .before .before .before .before .before .before .args in
+    not-header (a .text .now) (c .unformed2 .result) (l .ensures text.header refl header-word refl .missing (not-true (l .result .taken) (c .before .if2 .taken))) (c .unformed2 .ensures)
 
 survey-from-requires : tie.Need-survey-from-requires
 survey-from-requires c κs =
-    let a = c .before .before .before .before .before .before .args in
-    subst (Says (a .text .now) 0) (c .before .l .given .1) (c .before .before .before .line-at .ensures) .within
+    let l = c .before .before .line in
+    l .ensures text.header refl header-word refl .found (not-false (l .result .taken) (c .if2 .left)) .within
 
 returns-3 : tie.Need-returns-3
 returns-3 c =
-    let d = c .before in
-    let a = d .before .before .before .before .before .before .args in
-    let h = subst (Says (a .text .now) 0) (d .before .l .given .1) (d .before .before .before .line-at .ensures) in
-    whole-surveyed (a .text .now) _ _ _ _ (c .survey-from .result) (d .before .before .before .before .if1 .left) h (c .survey-from .ensures)
+    let l = c .before .before .before in
+    let a = c .before .before .before .before .before .before .before .args in
+    whole-surveyed (a .text .now) _ _ _ _ (c .survey-from .result) (l .before .before .if1 .left)
+    (l .line .ensures text.header refl header-word refl .found (not-false (l .line .result .taken) (c .before .if2 .left))) (c .survey-from .ensures)
 
 pub first-pass-spec : {M : Type 1} → statement M
 first-pass-spec =
@@ -46,8 +47,8 @@ first-pass-spec =
     (tie.spec
     unformed-requires
     returns
-    line-at-requires
-    enum-known-l
+    slice-aggregate-line
+    line-requires
     unformed-requires-2
     returns-2
     survey-from-requires

@@ -1,8 +1,7 @@
--- `writer::write` meets its contract. Assumes nothing.
+-- `writer::write` meets its contract.
 use mathlib.Core.Path.{_≡_, sym, _∙_}
 use Prim.Native.Nat.{_≤_, _<_}
 use native.Mathlib.Omega.{arith}
-use native.Mathlib.Nat.{zero-add}
 use lib.ListN.{length}
 use Rattle.meaning.specs.List.{overwrite}
 use Rattle.meaning.specs.Matrix.{matrix}
@@ -51,7 +50,8 @@ returns-2 c =
     let a = b .before .before .before .before .before .before .before .args in
     let A = matrix (a .starts .now) (a .columns .now) (a .values .now) in
     let z = sym (b .before .system-refusal .ensures) ∙ b .if1 .left in
-    let l : length (a .out .now) < length (write (a .p) A (a .right .now)) = omega (arith, c .if2 .taken, w .ensures .next) in
+    let l : length (a .out .now) < length (write (a .p) A (a .right .now)) =
+    omega (arith, c .if2 .taken, writer-text (a .p) A (a .right .now) (a .out .now) z (w .result) _ (w .last .0) (w .ensures) .0) in
     let q = writer-short (a .p) A (a .right .now) (a .out .now) z l in
     let k : writerRefusal (a .p) A (a .right .now) (a .out .now) ≡ 0 → ⊥ = λ e. omega (arith, sym q ∙ e) in (
       sym q,
@@ -80,12 +80,13 @@ returns-3 c =
     let a = b .before .before .before .before .before .before .before .args in
     let A = matrix (a .starts .now) (a .columns .now) (a .values .now) in
     let z = sym (b .before .system-refusal .ensures) ∙ b .if1 .left in
-    let l : length (write (a .p) A (a .right .now)) ≤ length (a .out .now) = omega (arith, i .if2 .left, w .ensures .next) in
+    let measured = writer-text (a .p) A (a .right .now) (a .out .now) z (w .result) _ (w .last .0) (w .ensures) .0 in
+    let l : length (write (a .p) A (a .right .now)) ≤ length (a .out .now) = omega (arith, i .if2 .left, measured) in
     let q = writer-fits (a .p) A (a .right .now) (a .out .now) z l in (
       sym q,
       (
-        w .ensures .next ∙ zero-add (length (write (a .p) A (a .right .now))) ∙ sym (unless-taken (writerRefusal (a .p) A (a .right .now) (a .out .now)) (length (write (a .p) A (a .right .now))) 0 q),
-        writer-text (a .p) A (a .right .now) (a .out .now) (t .result) (t .last .0) (t .ensures) l
+        measured ∙ sym (unless-taken (writerRefusal (a .p) A (a .right .now) (a .out .now)) (length (write (a .p) A (a .right .now))) 0 q),
+        writer-text (a .p) A (a .right .now) (a .out .now) z (t .result) (a .out .now) (t .last .0) (t .ensures) .1 l
             ∙ sym (unless-taken (writerRefusal (a .p) A (a .right .now) (a .out .now)) (overwrite (write (a .p) A (a .right .now)) (a .out .now)) (a .out .now) q),
       ),
     )

@@ -1,49 +1,69 @@
--- `text_call::answer::put_answer` meets its contract. Assumes nothing.
-use mathlib.Core.Path.{sym}
-use native.Mathlib.Omega.{arith}
-use Rattle.text_call.specs.Put.{put-then, put-as, textOf-parts, length-textOf}
+-- `answer::put_answer` meets its contract: the first line, the coefficients, the elements and the end, one after the other.
+use mathlib.Core.Path.{_∙_}
+use Rattle.meaning.specs.List.{bytes}
+use Rattle.line_writer.specs.Written.{wrote-line, wrote-then}
+use Rattle.text_call.specs.AnswerText.{textOf}
 use borrow.Author.Needs.{needs}
 use Rattle.text_call.proofs.answer.put_answer.Statement.{statement}
 use Rattle.text_call.proofs.answer.put_answer.Tie as tie
 
-put-head-requires : tie.Need-put-head-requires
-put-head-requires c κs = omega (arith, length-textOf (c .before .before .before .before .before .args .word .now) (c .before .before .before .before .before .args .letter) (c .before .before .before .before .before .args .degree) (c .before .before .before .before .before .args .passes) (c .before .before .before .before .before .args .applications) (c .before .before .before .before .before .args .polynomial .now) (c .before .before .before .before .before .args .vector .now))
+slice-aggregate-put-line : tie.Need-slice-aggregate-put-line
+slice-aggregate-put-line c = search needs
 
-add-put-lines : tie.Need-add-put-lines
-add-put-lines c = search needs
+put-line-requires : tie.Need-put-line-requires
+put-line-requires c κs = search needs
 
-put-lines-requires : tie.Need-put-lines-requires
-put-lines-requires c κs = omega (arith, length-textOf (c .before .before .before .before .before .before .before .before .before .args .word .now) (c .before .before .before .before .before .before .before .before .before .args .letter) (c .before .before .before .before .before .before .before .before .before .args .degree) (c .before .before .before .before .before .before .before .before .before .args .passes) (c .before .before .before .before .before .before .before .before .before .args .applications) (c .before .before .before .before .before .before .before .before .before .args .polynomial .now) (c .before .before .before .before .before .before .before .before .before .args .vector .now), c .before .before .before .put-head .ensures .place, c .before .before .before .put-head .ensures .same)
+slice-aggregate-put-elements : tie.Need-slice-aggregate-put-elements
+slice-aggregate-put-elements c = search needs
 
-put-lines-requires-2 : tie.Need-put-lines-requires-2
-put-lines-requires-2 c κs = omega (arith, length-textOf (c .before .before .before .before .before .before .before .before .before .before .before .before .before .args .word .now) (c .before .before .before .before .before .before .before .before .before .before .before .before .before .args .letter) (c .before .before .before .before .before .before .before .before .before .before .before .before .before .args .degree) (c .before .before .before .before .before .before .before .before .before .before .before .before .before .args .passes) (c .before .before .before .before .before .before .before .before .before .before .before .before .before .args .applications) (c .before .before .before .before .before .before .before .before .before .before .before .before .before .args .polynomial .now) (c .before .before .before .before .before .before .before .before .before .before .before .before .before .args .vector .now), c .before .before .before .before .before .before .before .put-head .ensures .place, c .before .before .before .before .before .before .before .put-head .ensures .same, c .before .before .before .put-lines .ensures .place, c .before .before .before .put-lines .ensures .same)
+add-put-elements : tie.Need-add-put-elements
+add-put-elements c = search needs
 
-slice-aggregate-put-word : tie.Need-slice-aggregate-put-word
-slice-aggregate-put-word c = search needs
+put-elements-requires : tie.Need-put-elements-requires
+put-elements-requires c κs = search needs
 
-put-word-requires : tie.Need-put-word-requires
-put-word-requires c κs = omega (arith, length-textOf (c .before .before .before .before .before .before .before .before .before .before .before .before .before .before .before .before .before .before .args .word .now) (c .before .before .before .before .before .before .before .before .before .before .before .before .before .before .before .before .before .before .args .letter) (c .before .before .before .before .before .before .before .before .before .before .before .before .before .before .before .before .before .before .args .degree) (c .before .before .before .before .before .before .before .before .before .before .before .before .before .before .before .before .before .before .args .passes) (c .before .before .before .before .before .before .before .before .before .before .before .before .before .before .before .before .before .before .args .applications) (c .before .before .before .before .before .before .before .before .before .before .before .before .before .before .before .before .before .before .args .polynomial .now) (c .before .before .before .before .before .before .before .before .before .before .before .before .before .before .before .before .before .before .args .vector .now), c .before .before .before .before .before .before .before .before .before .before .before .before .put-head .ensures .place, c .before .before .before .before .before .before .before .before .before .before .before .before .put-head .ensures .same, c .before .before .before .before .before .before .before .before .put-lines .ensures .place, c .before .before .before .before .before .before .before .before .put-lines .ensures .same, c .before .before .before .before .put-lines2 .ensures .place, c .before .before .before .before .put-lines2 .ensures .same)
+put-elements-requires-2 : tie.Need-put-elements-requires-2
+put-elements-requires-2 c κs = search needs
+
+slice-aggregate-put-line-2 : tie.Need-slice-aggregate-put-line-2
+slice-aggregate-put-line-2 c = search needs
+
+slice-aggregate-put-line-3 : tie.Need-slice-aggregate-put-line-3
+slice-aggregate-put-line-3 c = search needs
+
+put-line-requires-2 : tie.Need-put-line-requires-2
+put-line-requires-2 c κs = search needs
 
 same-length : tie.Need-same-length
-same-length c = search needs
+same-length c =
+    let e = c .before .before in
+    let t = e .before .before .before .before .before .before in
+    let s = t .before .before .before .before in
+    let h = s .before .before .before .before .before in
+    e .put-line2 .kept .0 ∙ t .put-elements2 .kept .0 ∙ s .put-elements .kept .0 ∙ h .put-line .kept .0
 
 returns : tie.Need-returns
+unfolding textOf bytes
 returns c =
-    put-as
-    (sym
-    (textOf-parts (c .before .before .before .before .before .before .before .before .before .before .before .before .before .before .before .before .before .before .before .before .before .args .word .now) (c .before .before .before .before .before .before .before .before .before .before .before .before .before .before .before .before .before .before .before .before .before .args .letter) (c .before .before .before .before .before .before .before .before .before .before .before .before .before .before .before .before .before .before .before .before .before .args .degree) (c .before .before .before .before .before .before .before .before .before .before .before .before .before .before .before .before .before .before .before .before .before .args .passes)
-    (c .before .before .before .before .before .before .before .before .before .before .before .before .before .before .before .before .before .before .before .before .before .args .applications) (c .before .before .before .before .before .before .before .before .before .before .before .before .before .before .before .before .before .before .before .before .before .args .polynomial .now) (c .before .before .before .before .before .before .before .before .before .before .before .before .before .before .before .before .before .before .before .before .before .args .vector .now)))
-    (put-then (put-then (put-then (c .before .before .before .before .before .before .before .before .before .before .before .before .before .before .before .put-head .ensures) (c .before .before .before .before .before .before .before .before .before .before .before .put-lines .ensures)) (c .before .before .before .before .before .before .before .put-lines2 .ensures)) (c .before .before .put-word .ensures))
+    let e = c .before .before in
+    let t = e .before .before .before .before .before .before in
+    let s = t .before .before .before .before in
+    let h = s .before .before .before .before .before in
+    wrote-then (wrote-then (wrote-then (wrote-line (h .put-line .ensures .0) (h .put-line .ensures .1)) (s .put-elements .ensures)) (t .put-elements2 .ensures))
+    (wrote-line (e .put-line2 .ensures .0) (e .put-line2 .ensures .1))
 
 pub put-answer-spec : {M : Type 1} → statement M
 put-answer-spec =
     tie.close
     (tie.spec
-    put-head-requires
-    add-put-lines
-    put-lines-requires
-    put-lines-requires-2
-    slice-aggregate-put-word
-    put-word-requires
+    slice-aggregate-put-line
+    put-line-requires
+    slice-aggregate-put-elements
+    add-put-elements
+    put-elements-requires
+    put-elements-requires-2
+    slice-aggregate-put-line-2
+    slice-aggregate-put-line-3
+    put-line-requires-2
     same-length
     returns)

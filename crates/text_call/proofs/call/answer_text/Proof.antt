@@ -1,11 +1,11 @@
--- `text_call::call::answer_text` meets its contract. Assumes nothing.
+-- `call::answer_text` meets its contract: the checks in order, and what the run gives where none turns the text down.
 use mathlib.Core.Path.{_≡_, sym, ap, _∙_}
 use native.Mathlib.Omega.{arith}
 use lib.ListN.{length}
 use Rattle.meaning.specs.Calls.{readerRefusal}
-use Rattle.text_call.specs.Put.{put-start, put-as}
+use Rattle.line_writer.specs.Written.{wrote-start, wrote-as}
 use Rattle.system_text.specs.Answers.{refusalOfRead, modulusOfRead, sizeOfRead, countOfRead}
-use Rattle.text_call.specs.Checks.{text-by-reader, byReader-long, byReader-refused, byReader-short, byReader-taken, text-refused, text-given}
+use Rattle.text_call.specs.Checks.{text-by-reader, byReader-long, byReader-refused, byReader-short, byReader-taken, text-refused, text-given, text-taken, solved-fits}
 use Rattle.text_call.specs.Loaded.{refused-number, read-loaded, read-rows, read-outcome}
 use borrow.Author.Needs.{needs}
 use Rattle.text_call.proofs.call.answer_text.Statement.{statement}
@@ -13,13 +13,14 @@ use Rattle.text_call.proofs.call.answer_text.Tie as tie
 
 returns : tie.Need-returns
 returns c =
-    let text = c .before .before .before .before .before .before .before .before .before .before .args .text .now in
-    let answer = c .before .before .before .before .before .before .before .before .before .before .args .answer .now in
-    let starts = c .before .before .before .before .before .before .before .before .before .before .args .starts .now in
-    let columns = c .before .before .before .before .before .before .before .before .before .before .args .columns .now in
-    let values = c .before .before .before .before .before .before .before .before .before .before .args .values .now in
-    let right = c .before .before .before .before .before .before .before .before .before .before .args .right .now in
-    let lengths = c .before .before .before .before .before .before .before .before .before .before .pre .0 in
+    let d = c .before .before .before .before .before .before .before .before .before .before in
+    let text = d .args .text .now in
+    let answer = d .args .answer .now in
+    let starts = d .args .starts .now in
+    let columns = d .args .columns .now in
+    let values = d .args .values .now in
+    let right = d .args .right .now in
+    let lengths = d .pre .0 in
     let by-reader = text-by-reader text starts columns values right (lengths .0) (lengths .1) (lengths .2) (lengths .3) (length answer) in
     let refusal = readerRefusal text starts columns values right in
     text-refused text answer 1 (by-reader ∙ byReader-long text (length answer) refusal (c .if1 .taken)) (omega arith)
@@ -50,18 +51,21 @@ same-length-4 c = search needs
 
 returns-2 : tie.Need-returns-2
 returns-2 c =
-    let text = c .before .before .before .before .before .before .before .before .before .before .before .before .before .before .before .before .before .before .before .before .before .before .before .before .before .before .before .args .text .now in
-    let answer = c .before .before .before .before .before .before .before .before .before .before .before .before .before .before .before .before .before .before .before .before .before .before .before .before .before .before .before .args .answer .now in
-    let starts = c .before .before .before .before .before .before .before .before .before .before .before .before .before .before .before .before .before .before .before .before .before .before .before .before .before .before .before .args .starts .now in
-    let columns = c .before .before .before .before .before .before .before .before .before .before .before .before .before .before .before .before .before .before .before .before .before .before .before .before .before .before .before .args .columns .now in
-    let values = c .before .before .before .before .before .before .before .before .before .before .before .before .before .before .before .before .before .before .before .before .before .before .before .before .before .before .before .args .values .now in
-    let right = c .before .before .before .before .before .before .before .before .before .before .before .before .before .before .before .before .before .before .before .before .before .before .before .before .before .before .before .args .right .now in
-    let lengths = c .before .before .before .before .before .before .before .before .before .before .before .before .before .before .before .before .before .before .before .before .before .before .before .before .before .before .before .pre .0 in
+    let m = c .before .before in
+    let r = m .before .before .before .before .before .before .before .before .before .before in
+    let d = r .before .before .before .before .before .before .before .before .before .before .before .before .before .before .before in
+    let text = d .args .text .now in
+    let answer = d .args .answer .now in
+    let starts = d .args .starts .now in
+    let columns = d .args .columns .now in
+    let values = d .args .values .now in
+    let right = d .args .right .now in
+    let lengths = d .pre .0 in
     let by-reader = text-by-reader text starts columns values right (lengths .0) (lengths .1) (lengths .2) (lengths .3) (length answer) in
     let refusal = readerRefusal text starts columns values right in
-    let arm = c .before .before .reading2 .given .1 in
-    let e : refusal ≡ 0 = sym (c .before .before .before .before .before .before .before .before .before .before .before .before .read .ensures .0) ∙ ap refusalOfRead arm in
-    text-refused text answer 11 (by-reader ∙ byReader-short text (length answer) refusal (omega arith) e (omega arith)) (omega arith)
+    let e : refusal ≡ 0 = sym (r .read .ensures .0) ∙ ap refusalOfRead (m .reading2 .given .1) in
+    let fits = r .before .before .before .before .before .if1 .left in
+    text-refused text answer 11 (by-reader ∙ byReader-short text (length answer) refusal (omega (arith, fits)) e (omega (arith, c .if2 .taken))) (omega arith)
 
 wide-requires : tie.Need-wide-requires
 wide-requires c κs = search needs
@@ -71,33 +75,34 @@ wide-requires-2 c κs = search needs
 
 put-solved-requires : tie.Need-put-solved-requires
 put-solved-requires c κs =
-    let text = c .before .before .before .before .before .before .before .before .before .before .before .before .before .before .before .before .before .before .before .before .before .before .before .before .before .before .before .before .before .before .before .before .before .before .before .before .before .args .text .now in
-    let answer = c .before .before .before .before .before .before .before .before .before .before .before .before .before .before .before .before .before .before .before .before .before .before .before .before .before .before .before .before .before .before .before .before .before .before .before .before .before .args .answer .now in
-    let starts = c .before .before .before .before .before .before .before .before .before .before .before .before .before .before .before .before .before .before .before .before .before .before .before .before .before .before .before .before .before .before .before .before .before .before .before .before .before .args .starts .now in
-    let columns = c .before .before .before .before .before .before .before .before .before .before .before .before .before .before .before .before .before .before .before .before .before .before .before .before .before .before .before .before .before .before .before .before .before .before .before .before .before .args .columns .now in
-    let values = c .before .before .before .before .before .before .before .before .before .before .before .before .before .before .before .before .before .before .before .before .before .before .before .before .before .before .before .before .before .before .before .before .before .before .before .before .before .args .values .now in
-    let right = c .before .before .before .before .before .before .before .before .before .before .before .before .before .before .before .before .before .before .before .before .before .before .before .before .before .before .before .before .before .before .before .before .before .before .before .before .before .args .right .now in
-    let lengths = c .before .before .before .before .before .before .before .before .before .before .before .before .before .before .before .before .before .before .before .before .before .before .before .before .before .before .before .before .before .before .before .before .before .before .before .before .before .pre .0 in
-    let arm = c .before .before .before .before .before .before .before .before .before .before .before .before .reading2 .given .1 in
-    let said = c .before .before .before .before .before .before .before .before .before .before .before .before .before .before .before .before .before .before .before .before .before .before .read .ensures in
-    let p = c .before .before .before .before .before .before .before .before .before .before .before .before .reading2 .given .0 .0 in
-    let n = c .before .before .before .before .before .before .before .before .before .wide .result in
-    let count = c .before .before .before .before .before .before .before .before .wide2 .result in
-    let starts′ = c .before .before .before .before .before .before .before .before .before .before .before .before .before .before .before .before .before .before .before .before .before .before .read .last .1 .0 in
-    let columns′ = c .before .before .before .before .before .before .before .before .before .before .before .before .before .before .before .before .before .before .before .before .before .before .read .last .1 .1 .0 in
-    let values′ = c .before .before .before .before .before .before .before .before .before .before .before .before .before .before .before .before .before .before .before .before .before .before .read .last .1 .1 .1 .0 in
-    let right′ = c .before .before .before .before .before .before .before .before .before .before .before .before .before .before .before .before .before .before .before .before .before .before .read .last .1 .1 .1 .1 .0 in
+    let w = c .before .before .before .before .before .before .before .before in
+    let m = w .before .before .before .before in
+    let r = m .before .before .before .before .before .before .before .before .before .before in
+    let d = r .before .before .before .before .before .before .before .before .before .before .before .before .before .before .before in
+    let text = d .args .text .now in
+    let starts = d .args .starts .now in
+    let columns = d .args .columns .now in
+    let values = d .args .values .now in
+    let right = d .args .right .now in
+    let arm = m .reading2 .given .1 in
+    let said = r .read .ensures in
+    let p = m .reading2 .given .0 .0 in
+    let n = w .before .wide .result in
+    let count = w .wide2 .result in
+    let starts′ = r .read .last .1 .0 in
+    let columns′ = r .read .last .1 .1 .0 in
+    let values′ = r .read .last .1 .1 .1 .0 in
+    let right′ = r .read .last .1 .1 .1 .1 .0 in
     let taken = sym (said .0) ∙ ap refusalOfRead arm in
     let ep = sym (ap modulusOfRead arm) ∙ said .1 .0 in
-    let en = c .before .before .before .before .before .before .before .before .before .wide .ensures .0 ∙ sym (ap sizeOfRead arm) ∙ said .1 .1 .0 in
-    let ek = c .before .before .before .before .before .before .before .before .wide2 .ensures .0 ∙ sym (ap countOfRead arm) ∙ said .1 .1 .1 .0 in
+    let en = w .before .wide .ensures .0 ∙ sym (ap sizeOfRead arm) ∙ said .1 .1 .0 in
+    let ek = w .wide2 .ensures .0 ∙ sym (ap countOfRead arm) ∙ said .1 .1 .1 .0 in
     let es = said .1 .1 .1 .1 .0 in
     let ec = said .1 .1 .1 .1 .1 .0 in
     let ev = said .1 .1 .1 .1 .1 .1 .0 in
-    let er = said .1 .1 .1 .1 .1 .1 .1 in (
-      read-loaded text starts columns values right taken p n count starts′ columns′ values′ right′ ep en ek es ec ev er (read-rows text starts columns values right taken p n count starts′ columns′ values′ right′ ep en ek es ec ev er (lengths .3)),
-      (c .before .before .before .before .before .before .before .before .before .before .before .before .before .before .before .before .before .before .before .before .before .before .before .before .before .before .before .before .before .before .before .before .before .before .before .before .before .pre .1 .0, c .before .before .before .before .before .before .before .before .before .before .before .before .before .before .before .before .before .before .before .before .before .before .before .before .before .before .before .before .before .before .before .before .before .before .before .before .before .pre .1 .1, c .before .before .before .before .before .before .before .before .before .before .before .before .before .before .before .before .before .before .before .before .before .before .before .before .before .before .before .before .before .before .before .before .before .before .before .before .before .pre .1 .2, omega arith),
-    )
+    let er = said .1 .1 .1 .1 .1 .1 .1 in
+    let rows = read-rows text starts columns values right taken p n count starts′ columns′ values′ right′ ep en ek es ec ev er (d .pre .0 .3) in
+    (read-loaded text starts columns values right taken p n count starts′ columns′ values′ right′ ep en ek es ec ev er rows, d .pre .1)
 
 same-length-5 : tie.Need-same-length-5
 same-length-5 c = search needs
@@ -113,21 +118,25 @@ same-length-8 c = search needs
 
 returns-3 : tie.Need-returns-3
 returns-3 c =
-    let text = c .before .before .before .before .before .before .before .before .before .before .before .before .before .before .before .before .before .before .before .before .before .before .before .before .before .before .args .text .now in
-    let answer = c .before .before .before .before .before .before .before .before .before .before .before .before .before .before .before .before .before .before .before .before .before .before .before .before .before .before .args .answer .now in
-    let starts = c .before .before .before .before .before .before .before .before .before .before .before .before .before .before .before .before .before .before .before .before .before .before .before .before .before .before .args .starts .now in
-    let columns = c .before .before .before .before .before .before .before .before .before .before .before .before .before .before .before .before .before .before .before .before .before .before .before .before .before .before .args .columns .now in
-    let values = c .before .before .before .before .before .before .before .before .before .before .before .before .before .before .before .before .before .before .before .before .before .before .before .before .before .before .args .values .now in
-    let right = c .before .before .before .before .before .before .before .before .before .before .before .before .before .before .before .before .before .before .before .before .before .before .before .before .before .before .args .right .now in
-    let lengths = c .before .before .before .before .before .before .before .before .before .before .before .before .before .before .before .before .before .before .before .before .before .before .before .before .before .before .pre .0 in
+    let m = c .before in
+    let r = m .before .before .before .before .before .before .before .before .before .before in
+    let d = r .before .before .before .before .before .before .before .before .before .before .before .before .before .before .before in
+    let text = d .args .text .now in
+    let answer = d .args .answer .now in
+    let starts = d .args .starts .now in
+    let columns = d .args .columns .now in
+    let values = d .args .values .now in
+    let right = d .args .right .now in
+    let lengths = d .pre .0 in
     let by-reader = text-by-reader text starts columns values right (lengths .0) (lengths .1) (lengths .2) (lengths .3) (length answer) in
     let refusal = readerRefusal text starts columns values right in
-    let number = c .before .reading .given .0 .0 in
-    let arm = c .before .reading .given .1 in
-    let e : number ≡ refusal = sym (ap refusalOfRead arm) ∙ c .before .before .before .before .before .before .before .before .before .before .before .read .ensures .0 in
-    let some = refused-number text starts columns values right number e (sym (ap modulusOfRead arm) ∙ c .before .before .before .before .before .before .before .before .before .before .before .read .ensures .1 .0) in
+    let number = m .reading .given .0 .0 in
+    let arm = m .reading .given .1 in
+    let e : number ≡ refusal = sym (ap refusalOfRead arm) ∙ r .read .ensures .0 in
+    let some = refused-number text starts columns values right number e (sym (ap modulusOfRead arm) ∙ r .read .ensures .1 .0) in
+    let fits = r .before .before .before .before .before .if1 .left in
     text-refused text answer number
-    (by-reader ∙ byReader-refused text (length answer) refusal (omega arith) (omega (arith, e, some)) ∙ sym e) some
+    (by-reader ∙ byReader-refused text (length answer) refusal (omega (arith, fits)) (omega (arith, e, some)) ∙ sym e) some
 
 same-length-9 : tie.Need-same-length-9
 same-length-9 c = search needs
@@ -155,37 +164,47 @@ same-length-16 c = search needs
 
 returns-4 : tie.Need-returns-4
 returns-4 c =
-    let text = c .before .before .before .before .before .before .before .before .before .before .before .before .before .before .before .before .before .before .before .before .before .before .before .before .before .before .before .before .before .before .before .before .before .before .before .before .before .before .before .before .before .before .before .before .before .before .args .text .now in
-    let answer = c .before .before .before .before .before .before .before .before .before .before .before .before .before .before .before .before .before .before .before .before .before .before .before .before .before .before .before .before .before .before .before .before .before .before .before .before .before .before .before .before .before .before .before .before .before .before .args .answer .now in
-    let starts = c .before .before .before .before .before .before .before .before .before .before .before .before .before .before .before .before .before .before .before .before .before .before .before .before .before .before .before .before .before .before .before .before .before .before .before .before .before .before .before .before .before .before .before .before .before .before .args .starts .now in
-    let columns = c .before .before .before .before .before .before .before .before .before .before .before .before .before .before .before .before .before .before .before .before .before .before .before .before .before .before .before .before .before .before .before .before .before .before .before .before .before .before .before .before .before .before .before .before .before .before .args .columns .now in
-    let values = c .before .before .before .before .before .before .before .before .before .before .before .before .before .before .before .before .before .before .before .before .before .before .before .before .before .before .before .before .before .before .before .before .before .before .before .before .before .before .before .before .before .before .before .before .before .before .args .values .now in
-    let right = c .before .before .before .before .before .before .before .before .before .before .before .before .before .before .before .before .before .before .before .before .before .before .before .before .before .before .before .before .before .before .before .before .before .before .before .before .before .before .before .before .before .before .before .before .before .before .args .right .now in
-    let lengths = c .before .before .before .before .before .before .before .before .before .before .before .before .before .before .before .before .before .before .before .before .before .before .before .before .before .before .before .before .before .before .before .before .before .before .before .before .before .before .before .before .before .before .before .before .before .before .pre .0 in
-    let arm = c .before .before .before .before .before .before .before .before .before .before .before .before .before .before .before .before .before .before .before .before .before .reading2 .given .1 in
-    let said = c .before .before .before .before .before .before .before .before .before .before .before .before .before .before .before .before .before .before .before .before .before .before .before .before .before .before .before .before .before .before .before .read .ensures in
-    let p = c .before .before .before .before .before .before .before .before .before .before .before .before .before .before .before .before .before .before .before .before .before .reading2 .given .0 .0 in
-    let n = c .before .before .before .before .before .before .before .before .before .before .before .before .before .before .before .before .before .before .wide .result in
-    let count = c .before .before .before .before .before .before .before .before .before .before .before .before .before .before .before .before .before .wide2 .result in
-    let starts′ = c .before .before .before .before .before .before .before .before .before .before .before .before .before .before .before .before .before .before .before .before .before .before .before .before .before .before .before .before .before .before .before .read .last .1 .0 in
-    let columns′ = c .before .before .before .before .before .before .before .before .before .before .before .before .before .before .before .before .before .before .before .before .before .before .before .before .before .before .before .before .before .before .before .read .last .1 .1 .0 in
-    let values′ = c .before .before .before .before .before .before .before .before .before .before .before .before .before .before .before .before .before .before .before .before .before .before .before .before .before .before .before .before .before .before .before .read .last .1 .1 .1 .0 in
-    let right′ = c .before .before .before .before .before .before .before .before .before .before .before .before .before .before .before .before .before .before .before .before .before .before .before .before .before .before .before .before .before .before .before .read .last .1 .1 .1 .1 .0 in
+    let w = c .before .before .before .before .before .before .before .before .before .before .before .before .before .before .before .before .before in
+    let i = w .before .before in
+    let m = w .before .before .before .before in
+    let r = m .before .before .before .before .before .before .before .before .before .before in
+    let d = r .before .before .before .before .before .before .before .before .before .before .before .before .before .before .before in
+    let text = d .args .text .now in
+    let answer = d .args .answer .now in
+    let starts = d .args .starts .now in
+    let columns = d .args .columns .now in
+    let values = d .args .values .now in
+    let right = d .args .right .now in
+    let arm = m .reading2 .given .1 in
+    let said = r .read .ensures in
+    let p = m .reading2 .given .0 .0 in
+    let n = w .before .wide .result in
+    let count = w .wide2 .result in
+    let starts′ = r .read .last .1 .0 in
+    let columns′ = r .read .last .1 .1 .0 in
+    let values′ = r .read .last .1 .1 .1 .0 in
+    let right′ = r .read .last .1 .1 .1 .1 .0 in
     let taken = sym (said .0) ∙ ap refusalOfRead arm in
     let ep = sym (ap modulusOfRead arm) ∙ said .1 .0 in
-    let en = c .before .before .before .before .before .before .before .before .before .before .before .before .before .before .before .before .before .before .wide .ensures .0 ∙ sym (ap sizeOfRead arm) ∙ said .1 .1 .0 in
-    let ek = c .before .before .before .before .before .before .before .before .before .before .before .before .before .before .before .before .before .wide2 .ensures .0 ∙ sym (ap countOfRead arm) ∙ said .1 .1 .1 .0 in
+    let en = w .before .wide .ensures .0 ∙ sym (ap sizeOfRead arm) ∙ said .1 .1 .0 in
+    let ek = w .wide2 .ensures .0 ∙ sym (ap countOfRead arm) ∙ said .1 .1 .1 .0 in
     let es = said .1 .1 .1 .1 .0 in
     let ec = said .1 .1 .1 .1 .1 .0 in
     let ev = said .1 .1 .1 .1 .1 .1 .0 in
     let er = said .1 .1 .1 .1 .1 .1 .1 in
+    let lengths = d .pre .0 in
+    let by-reader = text-by-reader text starts columns values right (lengths .0) (lengths .1) (lengths .2) (lengths .3) (length answer) in
     let refusal = readerRefusal text starts columns values right in
-    let none =
-    text-by-reader text starts columns values right (lengths .0) (lengths .1) (lengths .2) (lengths .3) (length answer)
-    ∙ byReader-taken text (length answer) refusal (omega (arith, c .before .before .before .before .before .before .before .before .before .before .before .before .before .before .before .before .before .before .before .before .before .before .before .before .before .before .before .before .before .before .before .before .before .before .before .before .if1 .left)) taken (omega (arith, c .before .before .before .before .before .before .before .before .before .before .before .before .before .before .before .before .before .before .before .if2 .left)) in
+    let fits = r .before .before .before .before .before .if1 .left in
+    let none = by-reader ∙ byReader-taken text (length answer) refusal (omega (arith, fits)) taken (omega (arith, i .if2 .left)) in
     let call = text-given text answer none in
-    let put = put-start (put-as (read-outcome text starts columns values right taken p n count starts′ columns′ values′ right′ ep en ek es ec ev er) (c .before .before .before .before .before .before .before .before .put-solved .ensures)) in
-    (put .0 ∙ call .0, put .1 ∙ call .1)
+    let room = text-taken text (length answer) none in
+    let short = solved-fits text (room .0) in
+    let put =
+    wrote-start
+    (wrote-as (read-outcome text starts columns values right taken p n count starts′ columns′ values′ right′ ep en ek es ec ev er) (c .before .before .before .before .before .before .before .before .put-solved .ensures))
+    (omega (arith, short)) in
+    (put .0 ∙ call .0, put .1 (omega (arith, short, room .1)) ∙ call .1)
 
 pub answer-text-spec : {M : Type 1} → statement M
 answer-text-spec =

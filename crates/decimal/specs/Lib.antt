@@ -1,2 +1,0 @@
--- What the writing calls leave.
-pub mod Placed
