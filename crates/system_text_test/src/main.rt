@@ -115,7 +115,7 @@ fn print(x: u64) {
 
 fn print_read(r: Reading) {
     match r {
-        Reading::System(p, n, k) => {
+        Reading::Read(p, n, k) => {
             print(0);
             print(p as u64);
             print(n as u64);
