@@ -1,12 +1,13 @@
 // Times the contestants beside one another in one process, and prints what report.py makes tables of.
 //
-//   bench [--rounds N] [--seconds S] [--quick]
+//   bench [--rounds N] [--seconds S] [--only PART,..] [--quick]
 //
 // In each round every contestant has its turn, so that a slow minute of the machine meets all of them; the
 // least time of N rounds counts. A contestant that has used S seconds on one row sits out the later rounds.
+// The parts are memory, sizes, growth, small and verdicts.
 // --quick is for a look at whether all works: small sizes, one round.
 #include "contestants.h"
-#include "plain.h"
+#include "systems.h"
 
 #include <sys/resource.h>
 #include <sys/wait.h>
@@ -18,7 +19,6 @@
 #include <cstring>
 #include <functional>
 #include <limits>
-#include <random>
 
 namespace {
 
@@ -31,7 +31,9 @@ struct Entrant {
     Maker make;
 };
 
-const Entrant entrants[] = {
+using Entrants = std::vector<Entrant>;
+
+const Entrants entrants = {
     {"Filzeur", make_ours},      {"plain C", make_plain},
 #ifdef WITH_LINBOX
     {"LinBox", make_linbox},     {"LinBox CSR", make_linbox_rows},
@@ -40,65 +42,6 @@ const Entrant entrants[] = {
     {"FLINT dense", make_flint},
 #endif
 };
-
-// ---- systems
-
-using Random = std::mt19937_64;
-
-uint32_t below(Random &random, uint32_t bound) { return static_cast<uint32_t>(random() % bound); }
-
-Vector some_vector(Random &random, size_t n, uint32_t p) {
-    Vector v(n);
-    for (uint32_t &element : v)
-        element = below(random, p);
-    return v;
-}
-
-plain_matrix view(const System &s) { return {s.p, s.n, s.starts.data(), s.columns.data(), s.values.data()}; }
-
-Vector times(const System &s, const Vector &v) {
-    Vector result(s.n);
-    plain_matrix a = view(s);
-    plain_product(&a, v.data(), result.data());
-    return result;
-}
-
-// n rows of k entries. With the diagonal among them the matrix is almost always regular; without it, and with
-// few entries, some column is empty and it is singular.
-System some_system(Random &random, size_t n, size_t k, uint32_t p, bool diagonal) {
-    System s{p, n, {0}, {}, {}, {}, {}, some_vector(random, Contestant::products + 1, p)};
-    for (size_t i = 0; i < n; i++) {
-        Vector row;
-        if (diagonal)
-            row.push_back(static_cast<uint32_t>(i));
-        while (row.size() < k) {
-            uint32_t column = below(random, static_cast<uint32_t>(n));
-            if (std::find(row.begin(), row.end(), column) == row.end())
-                row.push_back(column);
-        }
-        std::sort(row.begin(), row.end());
-        s.columns.insert(s.columns.end(), row.begin(), row.end());
-        s.starts.push_back(static_cast<uint32_t>(s.columns.size()));
-    }
-    for (size_t i = 0; i < s.columns.size(); i++)
-        s.values.push_back(1 + below(random, p - 1));
-    s.b = times(s, some_vector(random, n, p));
-    for (size_t i = 0; i < n; i++)
-        s.words.push_back(static_cast<uint32_t>(random()));
-    return s;
-}
-
-// The terms of the solver's first pass.
-Vector first_terms(const System &s) {
-    Vector terms, v = s.b;
-    for (size_t i = 0; i < 2 * s.n; i++, v = times(s, v)) {
-        unsigned __int128 sum = 0;
-        for (size_t k = 0; k < s.n; k++)
-            sum += uint64_t{s.words[k] % s.p} * v[k];
-        terms.push_back(static_cast<uint32_t>(sum % s.p));
-    }
-    return terms;
-}
 
 // ---- time
 
@@ -113,7 +56,7 @@ struct Runner {
     int turns = 0;
 };
 
-std::vector<Runner> prepare(const System &s, const Vector &v, const Vector &terms) {
+std::vector<Runner> prepare(const Entrants &entrants, const System &s, const Vector &v, const Vector &terms) {
     std::vector<Runner> runners;
     for (const Entrant &entrant : entrants)
         runners.push_back({entrant.name, entrant.make(s, v, terms)});
@@ -121,7 +64,8 @@ std::vector<Runner> prepare(const System &s, const Vector &v, const Vector &term
 }
 
 // Fills in the least time of one call of `action`, which is made `repeats` times in a turn.
-void race(std::vector<Runner> &runners, int repeats, const std::function<bool(const Contestant &)> &enters,
+void race(std::vector<Runner> &runners, int rounds, int repeats,
+          const std::function<bool(const Contestant &)> &enters,
           const std::function<void(Contestant &)> &action) {
     for (Runner &runner : runners)
         runner.best = std::numeric_limits<double>::infinity(), runner.used = 0, runner.turns = 0;
@@ -168,20 +112,20 @@ void time_all(const char *solve_label, size_t n, size_t k, uint32_t p, bool part
     Random random(n * 1000 + k + p);
     System s = some_system(random, n, k, p, true);
     Vector v = some_vector(random, n, p), terms = first_terms(s);
-    std::vector<Runner> runners = prepare(s, v, terms);
+    std::vector<Runner> runners = prepare(entrants, s, v, terms);
     if (parts) {
         int repeats = static_cast<int>(4000000 / s.columns.size()) + 1; // some milliseconds
         race(
-            runners, repeats, [](const Contestant &c) { return c.has_product(); },
+            runners, rounds, repeats, [](const Contestant &c) { return c.has_product(); },
             [](Contestant &c) { c.product(); });
         print_times("product", s, runners, false);
         repeats = repeats / static_cast<int>(Contestant::products) + 1;
         race(
-            runners, repeats, [](const Contestant &c) { return c.has_product(); },
+            runners, rounds, repeats, [](const Contestant &c) { return c.has_product(); },
             [](Contestant &c) { c.horner(); });
         print_times("horner", s, runners, false);
         race(
-            runners, 1, [](const Contestant &c) { return c.has_recurrence(); },
+            runners, rounds, 1, [](const Contestant &c) { return c.has_recurrence(); },
             [](Contestant &c) { c.recurrence(); });
         print_times("recurrence", s, runners, false);
         Vector first = runners[0].contestant->polynomial();
@@ -190,8 +134,22 @@ void time_all(const char *solve_label, size_t n, size_t k, uint32_t p, bool part
                 fprintf(stderr, "  %s has another recurrence than %s\n", runner.name, runners[0].name);
     }
     race(
-        runners, 1, [](const Contestant &) { return true; }, [](Contestant &c) { c.solve(); });
+        runners, rounds, 1, [](const Contestant &) { return true; }, [](Contestant &c) { c.solve(); });
     print_times(solve_label, s, runners, true);
+}
+
+// A system as the text call has them, without random words, through the number call and the text call.
+void time_small(size_t n, size_t k, uint32_t p) {
+    fprintf(stderr, "small: %zu rows of %zu entries, p = %u\n", n, k, p);
+    const Entrants callers = {{"number call", make_ours}, {"text call", make_text}, {"plain C", make_plain}};
+    Random random(n * 1000 + k + p);
+    System s = some_system(random, n, k, p, true);
+    s.words.clear();
+    std::vector<Runner> runners = prepare(callers, s, s.b, {});
+    race(
+        runners, quick ? 1 : 400, static_cast<int>(2048 / (n * n)) + 1, // at most a millisecond
+        [](const Contestant &) { return true; }, [](Contestant &c) { c.solve(); });
+    print_times("small", s, runners, true);
 }
 
 // ---- memory
@@ -229,7 +187,7 @@ void weigh(size_t n, size_t k, uint32_t p) {
 // ---- what each says
 
 void ask_all(const char *label, const System &s) {
-    std::vector<Runner> runners = prepare(s, s.b, {});
+    std::vector<Runner> runners = prepare(entrants, s, s.b, {});
     for (Runner &runner : runners) {
         runner.contestant->solve();
         Verdict verdict = runner.contestant->verdict();
@@ -269,6 +227,8 @@ void hear_all(size_t n, int systems, uint32_t p) {
 } // namespace
 
 int main(int count, char **words) {
+    std::string only;
+    auto wanted = [&only](const char *part) { return only.empty() || only.find(part) != std::string::npos; };
     for (int i = 1; i < count; i++) {
         if (strcmp(words[i], "--quick") == 0)
             quick = true;
@@ -276,23 +236,34 @@ int main(int count, char **words) {
             rounds = atoi(words[++i]);
         else if (strcmp(words[i], "--seconds") == 0 && i + 1 < count)
             most_seconds = atof(words[++i]);
+        else if (strcmp(words[i], "--only") == 0 && i + 1 < count)
+            only = words[++i];
         else {
-            fprintf(stderr, "usage: bench [--rounds N] [--seconds S] [--quick]\n");
+            fprintf(stderr, "usage: bench [--rounds N] [--seconds S] [--only PART,..] [--quick]\n");
             return 2;
         }
     }
     const uint32_t primes[] = {101, 65537, 2147483647};
     const std::pair<size_t, size_t> sizes[] = {{1000, 10}, {2000, 16}, {4096, 4}, {4096, 16}};
+    const std::pair<size_t, size_t> small[] = {{8, 3}, {32, 5}, {128, 8}}; // the text call takes up to 128
     if (quick)
         rounds = 1;
     size_t divisor = quick ? 10 : 1; // of the number of rows
 
-    for (size_t n : {1024, 2048, 4096})
-        weigh(n / divisor, 16, 2147483647);
-    for (auto [n, k] : sizes)
-        for (uint32_t p : primes)
-            time_all("solve", n / divisor, k, p, true);
-    for (size_t n : {1024, 2048, 4096})
-        time_all("growth", n / divisor, 16, 2147483647, false);
-    hear_all(4096 / divisor, quick ? 2 : 5, 101);
+    if (wanted("memory"))
+        for (size_t n : {1024, 2048, 4096})
+            weigh(n / divisor, 16, 2147483647);
+    if (wanted("sizes"))
+        for (auto [n, k] : sizes)
+            for (uint32_t p : primes)
+                time_all("solve", n / divisor, k, p, true);
+    if (wanted("growth"))
+        for (size_t n : {1024, 2048, 4096})
+            time_all("growth", n / divisor, 16, 2147483647, false);
+    if (wanted("small"))
+        for (auto [n, k] : small)
+            for (uint32_t p : {251u, 2147483647u})
+                time_small(n, k, p);
+    if (wanted("verdicts"))
+        hear_all(4096 / divisor, quick ? 2 : 5, 101);
 }

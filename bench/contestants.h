@@ -6,10 +6,25 @@
 #include <cstddef>
 #include <cstdint>
 #include <memory>
+#include <new>
 #include <string>
 #include <vector>
 
-using Vector = std::vector<uint32_t>;
+// Every vector begins at a page. Where malloc puts two of 4,096 elements, one lies 16 bytes after the other
+// modulo 4,096, and stores into one hold up loads of the other that have nothing to do with them: up to a third
+// of a product's time, by the luck of the heap.
+template <class T> struct Paged {
+    using value_type = T;
+    static constexpr std::align_val_t page{4096};
+    Paged() = default;
+    template <class U> Paged(const Paged<U> &) {}
+    T *allocate(size_t count) { return static_cast<T *>(operator new(count * sizeof(T), page)); }
+    void deallocate(T *first, size_t) { operator delete(first, page); }
+    bool operator==(const Paged &) const { return true; }
+    bool operator!=(const Paged &) const { return false; }
+};
+
+using Vector = std::vector<uint32_t, Paged<uint32_t>>;
 
 struct System {
     uint32_t p;
@@ -49,6 +64,7 @@ class Contestant {
 using Maker = std::unique_ptr<Contestant> (*)(const System &system, const Vector &v, const Vector &terms);
 
 std::unique_ptr<Contestant> make_ours(const System &, const Vector &, const Vector &);
+std::unique_ptr<Contestant> make_text(const System &, const Vector &, const Vector &); // by the text call
 std::unique_ptr<Contestant> make_plain(const System &, const Vector &, const Vector &);
 std::unique_ptr<Contestant> make_linbox(const System &, const Vector &, const Vector &);
 std::unique_ptr<Contestant> make_linbox_rows(const System &, const Vector &, const Vector &);

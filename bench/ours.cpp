@@ -1,51 +1,60 @@
-// Ours, through the C border, and the plain C program of the same steps.
-#include "../host/filzeur.h"
+// Ours, by its calls on numbers and by its text call, and the plain C program of the same steps.
+#include "calls.h"
 #include "contestants.h"
 #include "plain.h"
+
+#include <sstream>
 
 namespace {
 
 class Ours : public Contestant {
   public:
-    Ours(const System &system, const Vector &given, const Vector &list)
-        : s(system), v(given), terms(list), out(s.n), vector(s.n), f(s.n + 1), work(16 * s.n + 16),
-          generator(terms.size() + 1), recurrence_work(4 * terms.size() + 8) {}
+    Ours(const System &s, const Vector &v, const Vector &terms) : c(s, v, terms) {}
 
     bool has_product() const override { return true; }
-    void product() override {
-        filzeur_product(s.p, s.starts.data(), s.n + 1, s.columns.data(), s.columns.size(), s.values.data(),
-                        s.values.size(), v.data(), s.n, out.data(), s.n);
-    }
-    void horner() override {
-        filzeur_apply(s.p, s.starts.data(), s.n + 1, s.columns.data(), s.columns.size(), s.values.data(),
-                      s.values.size(), s.g.data(), s.g.size(), v.data(), s.n, out.data(), s.n, work.data(),
-                      work.size());
-    }
+    void product() override { our_calls.product(c); }
+    void horner() override { our_calls.apply(c); }
     bool has_recurrence() const override { return true; }
-    void recurrence() override {
-        degree = filzeur_recurrence(s.p, terms.data(), terms.size(), generator.data(), generator.size(),
-                                    recurrence_work.data(), recurrence_work.size())
-                     .degree;
+    void recurrence() override { our_calls.recurrence(c); }
+    Vector polynomial() override {
+        return Vector(c.generator.begin(), c.generator.begin() + c.numbers.degree + 1);
     }
-    Vector polynomial() override { return Vector(generator.begin(), generator.begin() + degree + 1); }
-    void solve() override {
-        answer =
-            filzeur_solve(s.p, s.starts.data(), s.n + 1, s.columns.data(), s.columns.size(), s.values.data(),
-                          s.values.size(), s.b.data(), s.n, s.words.data(), s.words.size(), vector.data(),
-                          s.n, f.data(), s.n + 1, work.data(), work.size());
-    }
+    void solve() override { our_calls.solve(c); }
     Verdict verdict() override {
-        if (answer.refusal != 0)
-            return {"refused, " + std::to_string(answer.refusal), {}};
-        return {answer.kind == FILZEUR_SOLVED ? "solved" : "singular", vector};
+        if (c.numbers.refusal != 0)
+            return {"refused, " + std::to_string(c.numbers.refusal), {}};
+        return {c.numbers.kind == 1 ? "solved" : "singular", c.vector};
     }
 
   private:
-    const System &s;
-    const Vector &v, &terms;
-    Vector out, vector, f, work, generator, recurrence_work;
-    size_t degree = 0;
-    filzeur_verdict answer{};
+    Case c;
+};
+
+class Text : public Contestant {
+  public:
+    Text(const System &s, const Vector &v, const Vector &terms) : c(s, v, terms) { our_calls.write(c); }
+
+    void solve() override { our_calls.text(c); }
+    Verdict verdict() override {
+        if (c.numbers.refusal != 0)
+            return {"refused, " + std::to_string(c.numbers.refusal), {}};
+        Verdict said{"", Vector(c.s.n)};
+        std::istringstream lines(c.answer.substr(0, c.numbers.length));
+        for (std::string line; std::getline(lines, line);) {
+            std::istringstream fields(line);
+            std::string letter;
+            size_t place = 0;
+            fields >> letter;
+            if (letter == "answer")
+                fields >> said.words;
+            if (letter == "x" || letter == "w")
+                fields >> place >> said.x.at(place - 1);
+        }
+        return said;
+    }
+
+  private:
+    Case c;
 };
 
 class Plain : public Contestant {
@@ -82,6 +91,10 @@ class Plain : public Contestant {
 
 std::unique_ptr<Contestant> make_ours(const System &s, const Vector &v, const Vector &terms) {
     return std::make_unique<Ours>(s, v, terms);
+}
+
+std::unique_ptr<Contestant> make_text(const System &s, const Vector &v, const Vector &terms) {
+    return std::make_unique<Text>(s, v, terms);
 }
 
 std::unique_ptr<Contestant> make_plain(const System &s, const Vector &v, const Vector &terms) {

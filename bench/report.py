@@ -61,24 +61,30 @@ class Times:
             self.memory[n][fields[4]] = int(fields[5])
         else:
             key = Key(what, n, k, p)
-            self.seconds[key][fields[4]] = float(fields[5])
-            self.turns[key][fields[4]] = int(fields[6])
-            if what in ('solve', 'growth') and fields[8] not in ('Ax = b', 'Aw = 0'):
-                self.wrong.add((key, fields[4]))
+            name = fields[4].strip()
+            self.seconds[key][name] = float(fields[5])
+            self.turns[key][name] = int(fields[6])
+            if what in ('solve', 'growth', 'small') and fields[8] not in ('Ax = b', 'Aw = 0'):
+                self.wrong.add((key, name))
 
-    def rounds(self):
-        return max(turns for row in self.turns.values() for turns in row.values())
+    def rounds(self, *whats):
+        """The most rounds that a row of these operations has."""
+        return max((turns for key, row in self.turns.items() if key.what in whats for turns in row.values()), default=0)
 
     def remark(self, key, name):
         """What the reader of a time is to know: that it is of fewer rounds, that the answer was wrong."""
         turns = self.turns[key].get(name, 0)
-        fewer = ['%d round%s' % (turns, 's' * (turns > 1))] if 0 < turns < self.rounds() else []
+        fewer = ['%d round%s' % (turns, 's' * (turns > 1))] if 0 < turns < self.rounds(key.what) else []
         wrong = ['no right answer'] if (key, name) in self.wrong else []
         return ' (%s)' % ', '.join(fewer + wrong) if fewer or wrong else ''
 
     def names(self):
         present = {name for row in self.seconds.values() for name in row}
         return [name for name in NAMES if name in present]
+
+    def compiler(self, key):
+        """The one that made the C of a kernel row, whose name it is."""
+        return next(name for name in self.seconds[key] if name != OURS)
 
     def keys(self, what):
         return [key for key in self.seconds if key.what == what]
@@ -165,6 +171,24 @@ def says_table(times):
     return rows_of(table, '---')
 
 
+def small_table(times):
+    names = ['number call', 'text call', PLAIN]
+    table = [['rows × entries, p'] + names]
+    for key in times.keys('small'):
+        row = times.seconds[key]
+        table.append(['%d × %d, %s' % (key.n, key.k, count(key.p))] +
+                     [show(1e6 * row[name], 1) + times.remark(key, name) for name in names])
+    return rows_of(table)
+
+
+def kernel_table(times):
+    table = [['rows × entries', OURS, 'C', 'ratio']]
+    for key in times.keys('kernel'):
+        ours, other = (1e9 * times.seconds[key][name] / (key.n * key.k) for name in (OURS, times.compiler(key)))
+        table.append(['%s × %d' % (count(key.n), key.k), show(ours, 3), show(other, 3), show(ours / other)])
+    return rows_of(table)
+
+
 def output(*command):
     try:
         return subprocess.run(command, stdout=subprocess.PIPE, stderr=subprocess.DEVNULL, text=True).stdout.strip()
@@ -186,27 +210,44 @@ def machine():
 
 
 def page(times, picture):
-    """All sections, in Markdown."""
-    return '\n\n'.join([
-        '%s. %s. Each time is the least of %d rounds in one process, in which the programs took turns; where a program '
-        'sat out some rounds, its number of rounds stands beside it. "To X" is our time divided by that of X.'
-        % (datetime.date.today().isoformat(), machine(), times.rounds()),
-        '![Times beside LinBox](%s)' % picture,
-        '## What was to be reached', goal_table(times),
-        '## Whole solve, milliseconds', operation_table(times, 'solve', lambda key, t: 1e3 * t, 1),
-        '## Products in a polynomial of the matrix, nanoseconds for an entry',
-        '%d products by Horner\'s rule, the input checked once: what a solve is made of.' % PRODUCTS,
-        operation_table(times, 'horner', lambda key, t: 1e9 * t / PRODUCTS / (key.n * key.k), 2),
-        '## A single product, nanoseconds for an entry', 'Ours with all checks of its input.',
-        operation_table(times, 'product', lambda key, t: 1e9 * t / (key.n * key.k), 2),
-        '## Shortest recurrence of 2n terms, milliseconds',
-        operation_table(times, 'recurrence', lambda key, t: 1e3 * t, 2),
-        '## How cost grows', '16 entries in a row, p = %s.' % count(LARGE), growth_table(times),
-        '## Memory', 'What a process grew by during the solve, beyond the prepared input (resident pages).',
-        memory_table(times),
-        '## What each says', 'LinBox with its default settings; the answers of several systems of each sort. '
-        '"Ax is not b" is a wrong answer. Filzeur\'s "singular" comes with a vector that A takes to zero; it does not '
-        'say that there is no solution.', says_table(times)]) + '\n'
+    """All sections that there are rows for, in Markdown."""
+    rounds = times.rounds('product', 'horner', 'recurrence', 'solve', 'growth')
+    parts = ['%s. %s.' % (datetime.date.today().isoformat(), machine())]
+    if rounds:
+        parts[0] += (' Each time is the least of %d rounds in one process, in which the programs took turns; where a '
+                     'program sat out some rounds, its number of rounds stands beside it. "To X" is our time divided by '
+                     'that of X.' % rounds)
+    if times.keys('solve'):
+        parts += [
+            '![Times beside LinBox](%s)' % picture,
+            '## What was to be reached', goal_table(times),
+            '## Whole solve, milliseconds', operation_table(times, 'solve', lambda key, t: 1e3 * t, 1),
+            '## Products in a polynomial of the matrix, nanoseconds for an entry',
+            '%d products by Horner\'s rule, the input checked once: what a solve is made of.' % PRODUCTS,
+            operation_table(times, 'horner', lambda key, t: 1e9 * t / PRODUCTS / (key.n * key.k), 2),
+            '## A single product, nanoseconds for an entry', 'Ours with all checks of its input.',
+            operation_table(times, 'product', lambda key, t: 1e9 * t / (key.n * key.k), 2),
+            '## Shortest recurrence of 2n terms, milliseconds',
+            operation_table(times, 'recurrence', lambda key, t: 1e3 * t, 2)]
+    if times.keys('small'):
+        parts += ['## Small systems, microseconds',
+                  'As the text call has them, without random words, least of %d rounds. The text call also reads the '
+                  'system and writes the answer; plain C makes no checks.' % times.rounds('small'), small_table(times)]
+    for key in times.keys('kernel')[:1]:
+        parts += ['## Our row product beside the same in C, nanoseconds for an entry',
+                  'A polynomial of the matrix, 256 products, by turns on the same slices; p = %s. The C has the arithmetic '
+                  'of our row product, inlined by %s. Least of %d rounds with the code at each of four places modulo 64 '
+                  'bytes.' % (count(key.p), times.compiler(key), times.rounds('kernel')), kernel_table(times)]
+    if times.keys('growth'):
+        parts += ['## How cost grows', '16 entries in a row, p = %s.' % count(LARGE), growth_table(times)]
+    if times.lent:
+        parts += ['## Memory', 'What a process grew by during the solve, beyond the prepared input (resident pages).',
+                  memory_table(times)]
+    if times.says:
+        parts += ['## What each says', 'LinBox with its default settings; the answers of several systems of each sort. '
+                  '"Ax is not b" is a wrong answer. Filzeur\'s "singular" comes with a vector that A takes to zero; it '
+                  'does not say that there is no solution.', says_table(times)]
+    return '\n\n'.join(parts) + '\n'
 
 
 def write_page(path, text):
@@ -273,8 +314,11 @@ def main():
         file.write(picture(times))
     for key, row in times.seconds.items():
         beside = ['%s %s' % (name, show(ratio(times, key, name))) for name in times.names()[1:] if name in row]
-        print('%-10s %5d x %2d  p = %-10d  ours to %s' % (key.what, key.n, key.k, key.p, ', '.join(beside)))
-    print('\n' + goal_table(times))
+        if OURS in row and beside:
+            print('%-10s %5d x %2d  p = %-10d  ours to %s' % (key.what, key.n, key.k, key.p, ', '.join(beside)))
+    for what, table in (('solve', goal_table), ('small', small_table), ('kernel', kernel_table)):
+        if times.keys(what):
+            print('\n' + table(times))
     print('\nwritten: %s and %s' % tuple(sys.argv[2:4]))
 
 

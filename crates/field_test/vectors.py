@@ -1,11 +1,17 @@
-"""Writes the files stdin and stdout beside it: the field's test vectors, by Python's own arithmetic and a Miller and Rabin test.
+#!/usr/bin/env python3
+"""Calls of the field and their answers, by Python's own arithmetic and a Miller and Rabin test. ../test_io/generator.py says how it is run.
 
-A line of stdin is a letter and its numbers: f p (make a field), s p a b (sum), d p a b (difference), p p a b (product), i p a (inverse),
-m p (is_modulus), v p a (inverse_modulo). A line of stdout: the refusal's number and the value beside it.
+A call is which it is and its numbers: f p (make a field), s p a b (sum), d p a b (difference), p p a b (product), i p a (inverse), m p (is_modulus),
+v p a (inverse_modulo); the letters are listed as 0 to 6. A line of stdout: the refusal's number and the value beside it.
 """
 import math
-import os
+import pathlib
 import random
+import sys
+
+sys.dont_write_bytecode = True
+sys.path.insert(0, str(pathlib.Path(__file__).resolve().parent.parent / 'test_io'))
+from generator import listed, printed, run  # noqa: E402
 
 LARGEST = 2147483647
 
@@ -112,11 +118,11 @@ def vectors():
     yield 'v', 1836311903, 1134903170
 
 
-if __name__ == '__main__':
-    here = os.path.dirname(os.path.abspath(__file__))
-    lines = list(vectors())
-    with open(os.path.join(here, 'stdin'), 'w') as f:
-        f.writelines(' '.join(map(str, line)) + '\n' for line in lines)
-    with open(os.path.join(here, 'stdout'), 'w') as f:
-        f.writelines('%d %d\n' % CALLS[line[0]](*line[1:]) for line in lines)
-    print(len(lines), 'vectors')
+def make():
+    calls = list(vectors())
+    stdin = listed([[['fsdpimv'.index(call[0]), *call[1:]]] for call in calls])
+    stdout = ''.join(printed(*CALLS[call[0]](*call[1:])) + '\n' for call in calls)
+    return stdin, stdout.encode(), '%d calls' % len(calls)
+
+
+run(__file__, make)

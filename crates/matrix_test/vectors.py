@@ -1,16 +1,21 @@
 #!/usr/bin/env python3
-"""Writes stdin (matrices with vectors) and stdout (what the five calls answer) beside this file. The answers are worked out here, from document 01,
-with Python's numbers; nothing of the crates is used. Large cases are made by a formula, which stands here and in src/main.rt."""
+"""Matrices with vectors, and what the five calls on each answer and leave. The answers are worked out here, from document 01, with Python's
+numbers. Large cases are made by a formula, which stands here and in src/main.rt. ../test_io/generator.py says how it is run."""
 import collections
+import functools
 import pathlib
 import random
+import sys
 
-JUNK = 4294967295
-LISTED = 99
+sys.dont_write_bytecode = True
+sys.path.insert(0, str(pathlib.Path(__file__).resolve().parent.parent / 'test_io'))
+from generator import FREE, listed, printed, run, shown  # noqa: E402
+
 dice = random.Random(5)
 cases, answers, seen = [], [], collections.Counter()
 
 
+@functools.lru_cache(None)
 def prime(p):
     return 2 <= p <= 2147483647 and all(p % d for d in range(2, int(p ** 0.5) + 1))
 
@@ -75,43 +80,40 @@ def apply(p, rows, g, v):
     return out
 
 
-def checksum(s):
-    total = 0
-    for x in s:
-        total = (total * 65599 + x + 1) % 4294967291
-    return total
-
-
-# made: the two numbers from which the program makes the slices
 def add(p, starts, columns, values, g, v, b, out=None, work=None, made=None):
+    """A case, with the places of the two slices that are written; made: the numbers from which the program makes the lists."""
     n = len(starts) - 1
     out = max(n, 0) if out is None else out
     work = max(2 * n, 0) if work is None else work
-    parts = [starts, columns, values, g, v, b]
-    lengths = [len(s) for s in parts] + [out, work]
-    cases.append([p] + lengths + (list(made) if made else [LISTED, 0] + [x for s in parts for x in s]))
+    lists = [[p, out, work], starts, columns, values, g, v, b]
+    if made:
+        base = [1 + n + 2 * len(columns) + k for k in (0, len(g), len(g) + len(v))]
+        cases.append([lists[0] + list(made) + [len(l) for l in lists] + base] + [[]] * 6)
+    else:
+        cases.append(lists)
     system = (p, starts, columns, values)
     rows = None if matrix_refusal(*system) else dense(n, starts, columns, values)
+    line, left = [], [FREE] * out
 
     def written(number, answer):
-        left = answer() if not number else [JUNK] * out
-        places = ' checksum %d' % checksum(left) if made else ''.join(' %d' % x for x in left)
-        answers.append(('refused %d' % number if number else 'done') + places)
-        seen['refused %d' % number if number else 'done'] += 1
-        return left
+        nonlocal left
+        left = left if number else answer()
+        line.append(printed(number) + shown(left))
+        seen[number or 'done'] += 1
 
     def verdict(number, answer):
-        answers.append('refused %d' % number if number else ('yes' if answer() else 'no'))
-        seen[answers[-1]] += 1
-    left = written(refusal(*system, [len(v) == n], [v], [out == n]), lambda: product(p, rows, v))
+        yes = not number and answer()
+        line.append(printed(number) if number else printed(0, yes))
+        seen[number or ('yes' if yes else 'no')] += 1
+    written(refusal(*system, [len(v) == n], [v], [out == n]), lambda: product(p, rows, v))
     verdict(refusal(*system, [len(v) == n, len(left) == n], [v, left], []), lambda: product(p, rows, v) == left)
     written(refusal(*system, [len(v) == n], [v], [out == n]), lambda: transposed(p, rows, v))
     number = refusal(*system, [1 <= len(g) <= n + 1, len(v) == n], [g, v], [out == n, work >= 2 * n])
     written(number, lambda: apply(p, rows, g, v))
-    if number:
-        answers.append('work kept')
+    line.append(shown([FREE] * work if number else []))
     verdict(refusal(*system, [len(v) == n, len(b) == n], [v, b], []), lambda: product(p, rows, v) == b)
     verdict(refusal(*system, [len(v) == n], [v], []), lambda: any(v) and not any(product(p, rows, v)))
+    answers.append(''.join(line))
 
 
 def entries(p, rows):
@@ -261,7 +263,9 @@ with_fault(work=3)
 with_fault(work=5)
 with_fault(out=3, work=3)
 
-here = pathlib.Path(__file__).resolve().parent
-(here / 'stdin').write_text('%d\n' % len(cases) + ''.join(' '.join(map(str, c)) + '\n' for c in cases))
-(here / 'stdout').write_text(''.join(a + '\n' for a in answers))
-print(len(cases), 'cases', len(answers), 'answers', dict(sorted(seen.items())))
+
+def make():
+    return listed(cases), ''.join(a + '\n' for a in answers).encode(), '%d cases %s' % (len(cases), dict(seen))
+
+
+run(__file__, make)

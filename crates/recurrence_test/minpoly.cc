@@ -1,5 +1,5 @@
 // NTL's minimal polynomials of sequences: reads p, the number of terms (an even number) and the terms, again and again, and writes the
-// degree and the coefficients, lowest power first. Built by generate.py.
+// degree and the coefficients, lowest power first. Built by vectors.py.
 #include <NTL/lzz_pX.h>
 #include <cstdio>
 

@@ -1,65 +1,49 @@
 #!/usr/bin/env python3
-"""Calls for system_text_test: writes stdin and stdout beside this file. What is to be printed comes from the reference in Python, which
-another hand wrote from the paper.
-
-  vectors.py FOLDER      FOLDER holds reference.py
-
-src/main.rt says what a call looks like."""
-import os
+"""Calls of the reader and the writer of systems' texts, and what they must answer and leave. ../test_io/generator.py says how it is run. The answers come
+from the reference program (evidence/reference.py), which was written from document 01 alone.
+"""
+import pathlib
 import random
 import sys
 
-here = os.path.dirname(os.path.abspath(__file__))
-sys.path.insert(0, sys.argv[1])
-import reference as ref  # noqa: E402
+sys.dont_write_bytecode = True
+crates = pathlib.Path(__file__).resolve().parent.parent
+sys.path[:0] = [str(crates / 'test_io'), str(crates.parent / 'evidence')]
+import reference  # noqa: E402
+from generator import FREE, FREE_BYTE, Texts, printed, run, shown, shown_bytes  # noqa: E402
 
-cases, lines = [], []
+calls, answers, texts = [], [], Texts()
 ROOM = {'s': (20, 20, 20, 20), '0': (4, 2, 2, 3), '1': (3, 2, 2, 3), '2': (4, 1, 2, 3), '3': (4, 2, 1, 3), '4': (4, 2, 2, 2), 'l': (4097, 65536, 65536, 4096)}
-MARK, MARK_BYTE = 7777, 77
 
 
-def hashed(a):
-    h = 0
-    for x in a:
-        h = (h * 31 + x + 1) % 1000003
-    return h
-
-
-def three(k):
-    return bytes([k >> 16 & 255, k >> 8 & 255, k & 255])
-
-
-def record(letter, data, lengths, line, unit=0, to=0):
-    cases.append(letter + b''.join(three(k) for k in (len(data),) + lengths + (unit, to)) + data)
-    lines.append(' '.join(str(x) for x in line) + ' \n')
-
-
-def read(text, room='s', data=None, unit=0):
-    slices = [[MARK] * k for k in ROOM[room]]
-    got = ref.read_system(text, *slices)
+def written(p, starts, columns, values, b, size):
+    """What is printed of a text slice of this size into which a system is written."""
+    out = bytes([FREE_BYTE]) * size
+    got = reference.write_system(p, starts, columns, values, b, out)
     if got[0] == 'refused':
-        answer = [got[1]]
-    else:
-        answer, slices = [0] + list(got[1:4]), list(got[4:8])
-    line = answer + [hashed(a) for a in slices]
-    if data is None:
-        record(b'r', text, ROOM[room] + (0,), line)
-    else:
-        record(b'r', data, ROOM[room] + (0,), line, unit, len(text) - 4)
+        return printed(got[1]) + shown_bytes(out)
+    return printed(0, got[1]) + shown_bytes(got[2])
+
+
+def read(text, room='s', sizes=(), repeated=None):
+    """A text is read; what was read is written into slices of these sizes. repeated: `first`, `unit` and `end` of a long text, and its data."""
+    slices = [[FREE] * k for k in ROOM[room]]
+    got = reference.read_system(text, *slices)
+    line = printed(got[1]) if got[0] == 'refused' else printed(0, *got[1:4])
+    if got[0] != 'refused':
+        p, n, k = got[1:4]
+        slices = list(got[4:8])
+        system = (slices[0][:n + 1], slices[1][:k], slices[2][:k], slices[3][:n])
+        line += ''.join(written(p, *system, size) for size in sizes)
+    which, data, rest = (2, repeated[3], [*repeated[:3], len(text) - len(repeated[3])]) if repeated else (0, text, [])
+    calls.append([[which, *texts.place(data), *ROOM[room], *rest], [], [], [], [], list(sizes)])
+    answers.append(line + ''.join(shown(s) for s in slices))
     return got
 
 
-def write(p, starts, columns, values, b, size, letter=b'w'):
-    numbers = [p] + (starts + columns + values + b if letter == b'w' else [])
-    data = b''.join(x.to_bytes(4, 'big') for x in numbers)
-    out = bytes([MARK_BYTE]) * size
-    got = ref.write_system(p, starts, columns, values, b, out)
-    if got[0] == 'refused':
-        answer = [got[1]]
-    else:
-        answer, out = [0, got[1]], got[2]
-    record(letter, data, (len(starts), len(columns), len(values), len(b), size), answer + [hashed(out)])
-    return got
+def write(p, starts, columns, values, b, *sizes):
+    calls.append([[1, p], starts, columns, values, b, list(sizes)])
+    answers.append(''.join(written(p, starts, columns, values, b, size) for size in sizes))
 
 
 def text_of(p, n, k, a, b, end='end\n'):
@@ -129,18 +113,13 @@ def random_systems(rng):
             density = rng.random()
             a = [(i, j, rng.randrange(1, p)) for i in range(1, n + 1) for j in range(1, n + 1) if rng.random() < density][:1500]
             b = [(i, rng.randrange(1, p)) for i in range(1, n + 1) if rng.random() < 0.7]
-            got = read(text_of(p, n, len(a), a, b), 'l')
-            k = got[3]
-            starts, columns, values, right = got[4][:n + 1], got[5][:k], got[6][:k], got[7][:n]
-            size = len(text_of(p, n, len(a), a, b))
-            for room in (size, size - 1, size + 5, 0):
-                write(p, starts, columns, values, right, room, b'b')
+            text = text_of(p, n, len(a), a, b)
+            read(text, 'l', (len(text), len(text) - 1, len(text) + 5, 0))
 
 
 def writer_cases():
     good = (7, [0, 2, 3], [0, 1, 1], [2, 1, 3], [1, 0])
-    for room in (0, 40, 100):
-        write(*good, room)
+    write(*good, 0, 40, 100)
     bad = [
         (8,) + good[1:], (7, [], [], [], []), (7, [0], [], [], []), (7, [0, 2, 1], [0], [1], [0, 0]), (7, [1, 2, 3]) + good[2:],
         (7, [0, 2, 4]) + good[2:], (7, [0, 2, 3], [0, 1, 1], [2, 1], [1, 0]), (7, [0, 2, 3], [0, 2, 1], [2, 1, 3], [1, 0]),
@@ -149,22 +128,22 @@ def writer_cases():
         (7, [0, 1, 1], [5], [0], [9]), (7, [0, 1, 1], [1], [0], [9]), (7, [0, 1, 1], [1], [1], [9]), (7, [0, 1, 1], [1], [1], [9, 9]),
     ]
     for s in bad:
-        write(*s, 0)
-        write(*s, 200)
+        write(*s, 0, 200)
 
 
 def longest():
     p = 7
     a = [(i, j, 1 + (i * 5 + j) % 6) for i in range(1, 4097) for j in range(i % 9 + 1, i % 9 + 17)]
     b = [(i, 1 + i % 6) for i in range(1, 4097)]
-    got = read(text_of(p, 4096, len(a), a, b), 'l')
+    text = text_of(p, 4096, len(a), a, b)
+    got = read(text, 'l', (len(text),))
     assert got[0] == 'ok' and got[3] == 65536
-    write(p, got[4], got[5], got[6], got[7], len(text_of(p, 4096, len(a), a, b)), b'b')
 
 
 def repeated(first, unit, count, number):
     """A text of a first line, a line many times and `end`."""
-    got = read(first + unit * count + b'end\n', 'l', first + unit, len(unit))
+    end = len(first) + len(unit) * count
+    got = read(first + unit * count + b'end\n', 'l', (), (len(first), len(unit), end, first + unit + b'end\n'))
     assert got == ('refused', number), got
 
 
@@ -182,6 +161,10 @@ writer_cases()
 limits()
 random_systems(random.Random(8))
 longest()
-print(sum(len(c) for c in cases), 'bytes', len(cases), 'calls')
-open(os.path.join(here, 'stdin'), 'wb').write(b''.join(cases))
-open(os.path.join(here, 'stdout'), 'w').write(''.join(lines))
+
+
+def make():
+    return texts.behind(calls), ''.join(a + '\n' for a in answers).encode(), '%d calls' % len(calls)
+
+
+run(__file__, make)

@@ -4,11 +4,13 @@
 --     Monic d f        f has degree d and leading coefficient 1
 --     product f g      coefficient k is the sum of f i ⊗ g (k − i)
 --     const, shift     the polynomial c; z times f
+--     cons a f         a + z times f; cons-below: of one coefficient more
 --     at s d f j       the sum of f i ⊗ s (i + j) over i = 0 .. d: what f of degree d makes of s at place j
 --     Recurs N s d f   document 01's "f recurs on s", N the number of terms
 --     Shortest N s d f monic of degree d, recurs, and nothing monic of a lower degree does
-use mathlib.Core.Path.{_≡_, refl}
+use mathlib.Core.Path.{_≡_, refl, _∙_}
 use Prim.Native.Nat.{ℕ, zero, suc, _+_, _≤_, _<_}
+use native.Mathlib.Omega.{arith}
 use Rattle.algebra.specs.Ring.{Ring}
 use Rattle.algebra.specs.Sum.{sum}
 
@@ -47,6 +49,22 @@ module _ (R : Ring) where
   pub shift-suc : (f : ℕ → C) (i : ℕ) → shift f (suc i) ≡ f i
   unfolding shift
   shift-suc f i = refl
+
+  pub cons : C → (ℕ → C) → ℕ → C
+  cons a f zero = a
+  cons a f (suc i) = f i
+
+  pub cons-zero : (a : C) (f : ℕ → C) → cons a f 0 ≡ a
+  unfolding cons
+  cons-zero a f = refl
+
+  pub cons-suc : (a : C) (f : ℕ → C) (i : ℕ) → cons a f (suc i) ≡ f i
+  unfolding cons
+  cons-suc a f i = refl
+
+  pub cons-below : (n : ℕ) (a : C) (f : ℕ → C) → Below n f → Below (suc n) (cons a f)
+  cons-below n a f p zero l = absurd (omega arith)
+  cons-below n a f p (suc i) l = cons-suc a f i ∙ p i (omega arith)
 
   -- by the first coefficient of f, so that no difference of numbers stands in it
   pub product : (ℕ → C) → (ℕ → C) → ℕ → C

@@ -5,6 +5,7 @@
 --     neg-*, mul-*     laws of signs and zeros that follow
 --     sub-zero-eq      a ⊕ ⊖ b ≡ 𝟎 only for a ≡ b
 --     mul-cancel       in a field a ⊗ b ≡ 𝟎 and a ≢ 𝟎 only for b ≡ 𝟎
+--     mul-nonzero      so a product of two that are not 𝟎 is not; waits for request (vi), Xw ≢ 0
 use mathlib.Core.Path.{_≡_, sym, ap, _∙_}
 use mathlib.Core.Logic.{_≢_}
 
@@ -137,15 +138,6 @@ pub ruleset ring-laws = (
   mul-neg,
   neg-mul,
 )
-
-module _ (R : Ring) where
-  open Ring R using (C, add as _⊕_, mul as _⊗_, neg as ⊖_, zero as 𝟎, one as 𝟏)
-
-  infixl 60 _⊕_
-  infixl 70 _⊗_
-  infix 75 ⊖_
-  pub swap-sum : (a b c d : C) → a ⊕ b ⊕ (c ⊕ d) ≡ a ⊕ c ⊕ (b ⊕ d)
-  swap-sum a b c d = simp ring-laws
 
 module _ (F : Field) where
   open Field F using (ring as R, inv, zero?, mul-inv)

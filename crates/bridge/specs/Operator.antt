@@ -4,10 +4,10 @@
 --     operator-linear      it is linear, on vectors of n places
 --     coef-product         the meaning's product is it
 --     length-product, reduced-product      n elements, all below p
---     power-zero, power-suc, coef-power, length-power, reduced-power      Aᵏv
+--     power-zero, power-suc, coef-power, length-power      Aᵏv
 --     coef-apply, length-apply, reduced-apply      g(A)v
 --     mk-inner             u·v, for v of n places
---     coef-terms, length-terms, reduced-terms      u·r, u·Ar, ..: the theory's projected sequence
+--     coef-terms, length-terms      u·r, u·Ar, ..: the theory's projected sequence
 --     coef-multiply, length-multiply, reduced-multiply      the product of polynomials
 --     unitVector n j, coef-unit      the unit vector with its 1 at place j
 --     coef-zeros, zeros-from-null    the zero vector
@@ -134,10 +134,6 @@ module _ (p : ℕ) (h : Prime p) (A : Matrix) where
   length-power zero v e = ap length (power-zero v) ∙ e
   length-power (suc k) v e = ap length (power-suc k v) ∙ length-product (power p A k v)
 
-  pub reduced-power : (k : ℕ) (v : List ℕ) → Reduced p v → Reduced p (power p A k v)
-  reduced-power zero v r = rw power-zero r
-  reduced-power (suc k) v r = rw power-suc (reduced-product (power p A k v))
-
   -- ---- polynomials of the matrix
 
   coef-within : (v : List ℕ) → length v ≡ size A → Below R (size A) (coef p h v)
@@ -178,11 +174,6 @@ module _ (p : ℕ) (h : Prime p) (A : Matrix) where
   pub length-terms : (left : ℕ) (u r : List ℕ) → length (terms p A left u r) ≡ 2 * left
   unfolding terms
   length-terms left u r = length-table (2 * left) (λ i. dot p u (power p A i r))
-
-  pub reduced-terms : (left : ℕ) (u r : List ℕ) → Reduced p (terms p A left u r)
-  unfolding terms dot
-  reduced-terms left u r =
-      reduced-table-mod p (2 * left) (λ i. sumℕ (length (power p A i r)) (λ j. at u j * at (power p A i r) j)) (omega (arith, h .two-le))
 
 -- ---- products of polynomials, unit vectors, the zero vector
 

@@ -7,7 +7,7 @@
 --     state c                  q, t, L and e as the theory's: lists by coef, e by mk
 --     mk-discrepancy, coef-update, state-start, state-step      through it the meaning's are the theory's
 --     state-steps              and so are r steps, of any list s
---     steps-within, steps-head, steps-above      L ≤ r; q begins with 1 and is 0 above L
+--     steps-within, steps-above      L ≤ r; q is 0 above L
 --     degree-is, coef-generator      L and f are the theory's
 --     degree-within, length-generator, reduced-generator, generator-monic      L ≤ N; f has L + 1 elements, all below p; it is monic
 --     IsMonic p d f, monic-to, monic-from        what isMonic tests
@@ -207,11 +207,6 @@ module _ (p : ℕ) (h : Prime p) where
 
   pub steps-within : (s : List ℕ) (r : ℕ) → steps p s r .L ≤ r
   steps-within s r = subst (λ st. st .L ≤ r) (sym (state-steps s r)) (invariant (residues p h) (coef p h s) r .within)
-
-  pub steps-head : (s : List ℕ) (r : ℕ) → at (steps p s r .q) 0 ≡ 1
-  steps-head s r =
-      mk-inj p h (at (steps p s r .q) 0) 1 (reduced-getD p (steps p s r .q) (positive p h) (steps-reduced p h s r .q) 0) (h .two-le)
-      (subst (λ st. st .q 0 ≡ 𝟏) (sym (state-steps s r)) (invariant (residues p h) (coef p h s) r .head) ∙ sym (mk-one p h))
 
   pub steps-above : (s : List ℕ) (r i : ℕ) → steps p s r .L < i → at (steps p s r .q) i ≡ 0
   steps-above s r i l =

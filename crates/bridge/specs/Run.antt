@@ -1,5 +1,5 @@
 -- The meaning's passes and run are the theory's, for any size, 0 included, and any list of projections.
---     total ts             the sum of a list
+--     total qs             the degrees of passes, summed
 --     termCost-nil, termCost-cons, termCost-snoc      the terms' cost, by the first and by the last pass
 --     shortest-ext         a shortest recurrence reads the first N terms alone
 --     Stands us c          where the run c stands after passes with the projections us: r has n elements and F has D + 1, all below p; they are
@@ -27,10 +27,10 @@ use lib.Seq.{getD-append-add}
 use Rattle.meaning.specs.List.{isZero}
 use Rattle.meaning.specs.Matrix.{Matrix, size, apply}
 use Rattle.meaning.specs.Recurrence.{degree, generator}
-use Rattle.meaning.specs.Solver.{units, multiply, Run, begin, passTerms, pass, run}
+use Rattle.meaning.specs.Solver.{units, multiply, Pass, Run, begin, passTerms, pass, run, spent}
 use Rattle.meaning.specs.ThirdCondition.{termCost}
 use Rattle.laws.specs.Bool.{test-cases}
-use Rattle.laws.specs.List.{length-table, getD-table}
+use Rattle.laws.specs.Solver.{length-units, getD-units, spent-nil, spent-snoc}
 use Rattle.algebra.specs.Ring.{Ring, Field}
 use Rattle.algebra.specs.Sum.{sum-ext}
 use Rattle.algebra.specs.Polynomial.{Shortest, Recurs, const}
@@ -47,35 +47,36 @@ use Rattle.bridge.specs.Operator.{operator, operator-linear, coef-apply,
 
 -- ---- the terms' cost
 
-pub total : List ℕ → ℕ
+pub total : List Pass → ℕ
 total [] = 0
-total (t ∷ ts) = t + total ts
+total (q ∷ qs) = q .degree + total qs
 
 total-nil : total [] ≡ 0
 unfolding total
 total-nil = refl
 
-total-snoc : (ts : List ℕ) (t : ℕ) → total (ts ++ (t ∷ [])) ≡ total ts + t
+total-snoc : (qs : List Pass) (q : Pass) → total (qs ++ (q ∷ [])) ≡ total qs + q .degree
 unfolding total
-total-snoc [] t = omega arith
-total-snoc (x ∷ ts) t = omega (arith, total-snoc ts t)
+total-snoc [] q = omega arith
+total-snoc (x ∷ qs) q = omega (arith, total-snoc qs q)
 
 pub termCost-nil : (left : ℕ) → termCost left [] ≡ 0
 unfolding termCost
 termCost-nil left = refl
 
-pub termCost-cons : (left t : ℕ) (ts : List ℕ) → termCost left (t ∷ ts) ≡ 2 * left - 1 + termCost (left - t) ts
+pub termCost-cons : (left : ℕ) (q : Pass) (qs : List Pass) → termCost left (q ∷ qs) ≡ 2 * left - 1 + termCost (left - q .degree) qs
 unfolding termCost
-termCost-cons left t ts = refl
+termCost-cons left q qs = refl
 
-pub termCost-snoc : (left : ℕ) (ts : List ℕ) (t : ℕ) → termCost left (ts ++ (t ∷ [])) ≡ termCost left ts + (2 * (left - total ts) - 1)
+pub termCost-snoc : (left : ℕ) (qs : List Pass) (q : Pass) → termCost left (qs ++ (q ∷ [])) ≡ termCost left qs + (2 * (left - total qs) - 1)
 unfolding total
-termCost-snoc left [] t = omega (arith, termCost-cons left t [], termCost-nil (left - t), termCost-nil left)
-termCost-snoc left (x ∷ ts) t =
-    termCost-cons left x (ts ++ (t ∷ [])) ∙ ap (λ k. 2 * left - 1 + k) (termCost-snoc (left - x) ts t)
-    ∙ rest (termCost (left - x) ts) (termCost left (x ∷ ts)) (termCost-cons left x ts)
+termCost-snoc left [] q =
+    omega (arith, termCost-cons left q [], termCost-nil (left - q .degree), termCost-nil left)
+termCost-snoc left (x ∷ qs) q =
+    termCost-cons left x (qs ++ (q ∷ [])) ∙ ap (λ k. 2 * left - 1 + k) (termCost-snoc (left - x .degree) qs q)
+    ∙ rest (termCost (left - x .degree) qs) (termCost left (x ∷ qs)) (termCost-cons left x qs)
   where
-    rest : (a b : ℕ) → b ≡ 2 * left - 1 + a → 2 * left - 1 + (a + (2 * (left - x - total ts) - 1)) ≡ b + (2 * (left - (x + total ts)) - 1)
+    rest : (a b : ℕ) → b ≡ 2 * left - 1 + a → 2 * left - 1 + (a + (2 * (left - x .degree - total qs) - 1)) ≡ b + (2 * (left - (x .degree + total qs)) - 1)
     rest a b e = omega arith
 
 -- ---- a shortest recurrence
@@ -108,9 +109,9 @@ module _ (p : ℕ) (h : Prime p) (A : Matrix) (b : List ℕ) where
     pub size-factor : length (c .factor) ≡ c .found + 1
     pub reduced-factor : Reduced p (c .factor)
     pub reached : Reached R (size A) (operator p h A) (coef p h b) us (coef p h (c .residual)) (c .found) (coef p h (c .factor))
-    pub passes : length (c .degrees) ≡ length us
-    pub degrees : c .found ≡ total (c .degrees)
-    pub cost : c .applications ≡ termCost (size A) (c .degrees) + c .found
+    pub passes : length (c .passes) ≡ length us
+    pub degrees : c .found ≡ total (c .passes)
+    pub cost : spent (c .passes) ≡ termCost (size A) (c .passes) + c .found
 
   pub stands-begin : length b ≡ size A → Reduced p b → Stands [] (begin b)
   unfolding begin
@@ -123,7 +124,7 @@ module _ (p : ℕ) (h : Prime p) (A : Matrix) (b : List ℕ) where
         reached = subst (Reached R (size A) (operator p h A) (coef p h b) [] (coef p h b) 0) (sym (coef-one p h 1 ∙ ap (const R) (mk-one p h))) reach.start;
         passes = refl;
         degrees = sym total-nil;
-        cost = omega (arith, termCost-nil (size A));
+        cost = omega (arith, spent-nil, termCost-nil (size A));
       }
     where
       one : Reduced p (1 ∷ [])
@@ -163,8 +164,8 @@ module _ (p : ℕ) (h : Prime p) (A : Matrix) (b : List ℕ) where
               subst (λ r. Reached R (size A) (operator p h A) (coef p h b) (coef p h u ∷ us) r (c .found + t) (coef p h (multiply p (c .factor) f))) (sym applied)
               (subst (Reached R (size A) (operator p h A) (coef p h b) (coef p h u ∷ us) (theory.apply R (operator p h A) (suc t) (coef p h f) (coef p h (c .residual))) (c .found + t)) (sym (coef-multiply p h (c .factor) f (omega (arith, size-f))))
               (reach.pass (I .reached) pass-shortest));
-          passes = length-append (c .degrees) (t ∷ []) ∙ omega (arith, I .passes);
-          degrees = ap (λ d. d + t) (I .degrees) ∙ sym (total-snoc (c .degrees) t);
+          passes = length-append (c .passes) (q ∷ []) ∙ omega (arith, I .passes);
+          degrees = ap (λ d. d + t) (I .degrees) ∙ sym (total-snoc (c .passes) q);
           cost = cost;
         }
       where
@@ -174,6 +175,9 @@ module _ (p : ℕ) (h : Prime p) (A : Matrix) (b : List ℕ) where
         t : ℕ
         t = degree p s
 
+        q : Pass
+        q = record { left = left; degree = t; applications = 2 * left - 1 + t }
+
         size-f : length f ≡ t + 1
         size-f = length-generator p h s
 
@@ -182,9 +186,9 @@ module _ (p : ℕ) (h : Prime p) (A : Matrix) (b : List ℕ) where
             coef-apply p h A f (c .residual) (I .size-residual)
             ∙ ap (λ m. theory.apply R (operator p h A) m (coef p h f) (coef p h (c .residual))) (size-f ∙ add-one t)
 
-        cost : c .applications + (2 * left - 1 + t) ≡ termCost (size A) (c .degrees ++ (t ∷ [])) + (c .found + t)
+        cost : spent (c .passes ++ (q ∷ [])) ≡ termCost (size A) (c .passes ++ (q ∷ [])) + (c .found + t)
         cost =
-            omega (arith, I .cost, I .degrees, termCost-snoc (size A) (c .degrees) t, ap (λ d. 2 * (size A - d) - 1) (I .degrees))
+            omega (arith, I .cost, I .degrees, spent-snoc (c .passes) q, termCost-snoc (size A) (c .passes) q, ap (λ d. 2 * (size A - d) - 1) (I .degrees))
 
   -- ---- the run
 
@@ -254,10 +258,10 @@ module _ (p : ℕ) (h : Prime p) (A : Matrix) (b : List ℕ) where
     pub run-found : run p A us (begin b) .found ≤ size A
     run-found = run-kept .degree-le
 
-    pub run-few : length (run p A us (begin b) .degrees) ≤ length us
+    pub run-few : length (run p A us (begin b) .passes) ≤ length us
     run-few = omega (arith, run-begun .stands .passes, run-begun .few)
 
-    pub run-cost : run p A us (begin b) .applications ≡ termCost (size A) (run p A us (begin b) .degrees) + run p A us (begin b) .found
+    pub run-cost : spent (run p A us (begin b) .passes) ≡ termCost (size A) (run p A us (begin b) .passes) + run p A us (begin b) .found
     run-cost = run-begun .stands .cost
 
     pub run-zero : ((j : ℕ) → j < size A → Occurs us j) → isZero (run p A us (begin b) .residual) ≡ true
@@ -274,12 +278,11 @@ module _ (p : ℕ) (h : Prime p) (A : Matrix) (b : List ℕ) where
                 Memᴰ·cast (sym (ap (coef p h) (a j l .found) ∙ coef-unit p h (size A) j l)) (q .after (a j l .place) (a j l .within))
 
   pub units-occur : (us : List (List ℕ)) (j : ℕ) → j < size A → Occurs (us ++ units (size A)) j
-  unfolding units
   units-occur us j l =
       record {
         place = length us + j;
-        within = simp (length-append, length-table) (omega arith);
-        found = getD-append-add us (units (size A)) j [] ∙ getD-table (size A) (unitVector (size A)) j [] l;
+        within = simp (length-append, length-units) (omega arith);
+        found = getD-append-add us (units (size A)) j [] ∙ getD-units (size A) j l;
       }
 
   pub units-end : length b ≡ size A → Reduced p b → (us : List (List ℕ)) → isZero (run p A (us ++ units (size A)) (begin b) .residual) ≡ true

@@ -13,38 +13,38 @@
 --     run-counted          its applications
 --     thirdCondition, sameAnswer      the third condition; two such runs agree
 -- Of `solve`:
---     projections-zero, length-projections      the words' projections are such a list, of R + n
---     Accepted p A b, accepted      what the checks of a run say: p is prime, n ≥ 1, b has n elements, all below p
+--     projections-zero     the words' projections are such a list
+--     Accepted p A b, accepted-of, accepted      what the checks of a system, and of a run, say to the theory: p is prime, n ≥ 1, b has n elements, all below p
 --     everyRun             the third condition of every run, whatever the words
 --     everyTwoRuns         every two runs on one system give the same kind, vector and polynomial, whatever their words
 use mathlib.Core.Path.{_≡_, refl, sym, ap, ap₂, fun-ext, subst, _∙_}
 use mathlib.Core.Logic.{_≢_, _⊎_, inl, inr, _↔_}
-use mathlib.Core.Bool.{true, false, not, cond, _&&_}
+use mathlib.Core.Bool.{true, false, cond}
 use mathlib.Core.List.{List}
-use Prim.Native.Nat.{ℕ, zero, suc, _+_, _-_, _*_, _/_, _%_, _≤_, _<_}
+use Prim.Native.Nat.{ℕ, zero, suc, _+_, _-_, _*_, _%_, _≤_, _<_}
 use native.Mathlib.Numerals.{add-one}
 use native.Mathlib.Decide.{ℕ-discrete}
 use native.Mathlib.Omega.{arith}
-use lib.Dec.{eqb, leb}
-use lib.ListN.{length, drop, length-append, length-drop}
+use lib.ListN.{length, drop, length-drop}
 use lib.Seq.{getD-drop}
-use borrow.Author.Tests.{eq-eqb, ne-eqb, eqb-true, leb-true, not-false}
-use Rattle.meaning.specs.List.{at, sum as sumℕ, table, zeros, isZero, every}
-use Rattle.meaning.specs.Field.{isPrime, isModulus, minus, times, inverse}
+use borrow.Author.Tests.{eq-eqb, ne-eqb}
+use Rattle.meaning.specs.List.{at, sum as sumℕ, table, zeros, isZero}
+use Rattle.meaning.specs.Field.{minus, times, inverse}
 use Rattle.meaning.specs.Matrix.{Matrix, size, product, power, apply}
 use Rattle.meaning.specs.Recurrence.{isMonic}
-use Rattle.meaning.specs.Solver.{vectors, units, projections, Run, begin, run, Kind, solved, singular, verdict, close, solve}
+use Rattle.meaning.specs.Solver.{vectorCount, vectors, projections, Run, begin, run, Kind, solved, singular, spent, applications, verdict, close, solve}
 use Rattle.meaning.specs.ThirdCondition.{inSpan, termCost, ThirdCondition, SameAnswer}
-use Rattle.meaning.specs.Refusal.{first, elements, sizeTaken, startsTaken, columnsTaken, valueTaken, matrixChecks}
-use Rattle.meaning.specs.Calls.{systemChecks, runChecks, EveryRun, EveryTwoRuns}
-use Rattle.laws.specs.Bool.{and-left, and-right, test-cases, never}
+use Rattle.meaning.specs.Refusal.{first}
+use Rattle.meaning.specs.Calls.{runChecks, EveryRun, EveryTwoRuns}
+use Rattle.laws.specs.Bool.{test-cases, never}
 use Rattle.laws.specs.List.{length-table}
-use Rattle.laws.specs.Refusal.{first-none}
+use Rattle.laws.specs.Accepted.{AcceptedSystem, run-accepted}
+use Rattle.laws.specs.Solver.{length-projections, spent-nil}
 use Rattle.algebra.specs.Ring.{Ring, Field, ring-laws}
 use Rattle.algebra.specs.Ring as ring
 use Rattle.algebra.specs.Sum.{sum, sum-ext, sum-zeros}
 use Rattle.algebra.specs.Polynomial.{Below}
-use Rattle.residue.specs.Prime.{Prime, isPrime-Prime}
+use Rattle.residue.specs.Prime.{Prime, isModulus-Prime}
 use Rattle.residue.specs.Residue.{residues, mk, value, mk-zero, mk-inj, mk-inv, mk-value}
 use Rattle.residue.specs.Lists.{Reduced, reduced-getD, coef, coef-below, coef-ext, coef-table, values}
 use Rattle.krylov.specs.Operator.{Kills, times-at, power-below, apply-below, apply-degree-zero}
@@ -308,22 +308,22 @@ module _ (p : ℕ) (h : Prime p) (A : Matrix) (b : List ℕ) (size-b : length b 
   -- ---- runs from the beginning, with any list of projections
 
   pub run-counted : (us : List (List ℕ)) → isZero (run p A us (begin b) .residual) ≡ true
-      → close p A b (run p A us (begin b)) .applications ≡ cond (isZero b) 0 (termCost (size A) (run p A us (begin b) .degrees) + (2 * run p A us (begin b) .found - 1))
+      → applications (close p A b (run p A us (begin b))) ≡ cond (isZero b) 0 (termCost (size A) (run p A us (begin b) .passes) + (2 * run p A us (begin b) .found - 1))
   unfolding close begin
   run-counted us z = go (test-cases (isZero b))
     where
       c : Run
       c = run p A us (begin b)
 
-      go : (isZero b ≡ true) ⊎ (isZero b ≡ false) → c .applications + (c .found - 1) ≡ cond (isZero b) 0 (termCost (size A) (c .degrees) + (2 * c .found - 1))
+      go : (isZero b ≡ true) ⊎ (isZero b ≡ false) → spent (c .passes) + (c .found - 1) ≡ cond (isZero b) 0 (termCost (size A) (c .passes) + (2 * c .found - 1))
       go (inl e) =
-          ap (λ (r : Run). r .applications + (r .found - 1)) (run-rest p h A b us (begin b) e)
-          ∙ ap (λ t. cond t 0 (termCost (size A) (c .degrees) + (2 * c .found - 1))) (sym e)
+          ap (λ (r : Run). spent (r .passes) + (r .found - 1)) (run-rest p h A b us (begin b) e) ∙ omega (arith, spent-nil)
+          ∙ ap (λ t. cond t 0 (termCost (size A) (c .passes) + (2 * c .found - 1))) (sym e)
       go (inr e) =
           omega (arith, run-cost p h A b size-b reduced-b us, end-found c (run-begun p h A b size-b reduced-b us .stands) z e)
-          ∙ ap (λ t. cond t 0 (termCost (size A) (c .degrees) + (2 * c .found - 1))) (sym e)
+          ∙ ap (λ t. cond t 0 (termCost (size A) (c .passes) + (2 * c .found - 1))) (sym e)
 
-  pub thirdCondition : (us : List (List ℕ)) (words : List ℕ) → isZero (run p A us (begin b) .residual) ≡ true → length us ≡ length words / size A + size A
+  pub thirdCondition : (us : List (List ℕ)) (words : List ℕ) → isZero (run p A us (begin b) .residual) ≡ true → length us ≡ vectorCount (size A) words + size A
       → ThirdCondition p A b words (close p A b (run p A us (begin b)))
   unfolding close
   thirdCondition us words z l =
@@ -354,10 +354,6 @@ module _ (p : ℕ) (h : Prime p) (A : Matrix) (b : List ℕ) (size-b : length b 
   unfolding projections
   projections-zero words = units-end p h A b size-b reduced-b (vectors p (size A) words)
 
-pub length-projections : (p n : ℕ) (words : List ℕ) → length (projections p n words) ≡ length words / n + n
-unfolding projections vectors units
-length-projections p n words = simp (length-append, length-table)
-
 -- ---- every run
 
 pub record Accepted (p : ℕ) (A : Matrix) (b : List ℕ) : Type 0 where
@@ -366,23 +362,17 @@ pub record Accepted (p : ℕ) (A : Matrix) (b : List ℕ) : Type 0 where
   pub size-b : length b ≡ size A
   pub reduced-b : Reduced p b
 
-pub accepted : (p : ℕ) (A : Matrix) (b words : List ℕ) → first (runChecks p A b words) ≡ 0 → Accepted p A b
-unfolding runChecks systemChecks matrixChecks isModulus sizeTaken elements
-accepted p A b words e =
-    let three = first-none 3 (not (isModulus p)) _ (omega arith) e in
-    let four = first-none 4 (not (sizeTaken A)) _ (omega arith) (three .1) in
-    let five = first-none 5 (not (startsTaken A)) _ (omega arith) (four .1) in
-    let six = first-none 6 (not (columnsTaken A)) _ (omega arith) (five .1) in
-    let seven = first-none 7 (not (every (valueTaken p) (A .values))) _ (omega arith) (six .1) in
-    let eight = first-none 8 (not (eqb (length b) (size A))) _ (omega arith) (seven .1) in
-    let nine = first-none 9 (not (elements p b)) _ (omega arith) (eight .1) in
+pub accepted-of : {p : ℕ} {A : Matrix} {b : List ℕ} → AcceptedSystem p A b → Accepted p A b
+accepted-of {p} {A} {b} a =
     record {
-      prime = isPrime-Prime p .0 (and-left (isPrime p) (leb p 2147483647) (not-false (isModulus p) (three .0)));
-      size-positive =
-          leb-true 1 (size A) (and-left (leb 1 (size A)) (leb (size A) 4096) (and-right (not (eqb (length (A .starts)) 0)) (leb 1 (size A) && leb (size A) 4096) (not-false (sizeTaken A) (four .0))));
-      size-b = eqb-true (length b) (size A) (not-false (eqb (length b) (size A)) (eight .0));
-      reduced-b = every-reduced p b (not-false (elements p b) (nine .0));
+      prime = isModulus-Prime p (a .prime);
+      size-positive = a .size-low;
+      size-b = a .right-length;
+      reduced-b = every-reduced p b (a .right-below);
     }
+
+pub accepted : (p : ℕ) (A : Matrix) (b words : List ℕ) → first (runChecks p A b words) ≡ 0 → Accepted p A b
+accepted p A b words e = accepted-of (run-accepted p A b words e .system)
 
 pub everyRun : EveryRun
 unfolding solve

@@ -2,30 +2,38 @@
 --     columnTaken      6 for one entry: its column is below n, and below the next one of its row
 --     rises            a column is below the next one
 --     rowTaken         6 for one row
+--     Ordered          starts that rise and stay within the entries
 --     all-more, all-next, allFrom-none, allFrom-more, allFrom-at, allFrom-of      tests along a loop
 --     row-last         6 for one row by its last column
---     size-range, length-sizeTaken, rows-columnsTaken, all-elements      each check by what the code asks
---     Ordered          starts that rise and stay within the entries
-use mathlib.Core.Path.{_≡_, refl, sym, ap, _∙_, subst}
+--     size-range, length-sizeTaken, rows-columnsTaken, rows-next, all-elements      each check by what the code asks
+--     ordered          what 6 asks of the starts
+--     matrix-valid, Accepted, system-accepted      what the checks of a matrix, and of one with a vector, leave known
+--     matrix-sized, system-sized      the starts' number
+--     product-refused, product-passed, product-accepted      a product's checks; what they leave known
+--     Applicable, apply-accepted; takes-accepted             the same of g(A)v, and of the check that A takes x to b
+use mathlib.Core.Path.{_≡_, refl, sym, ap, ap₂, _∙_, subst}
+use mathlib.Core.Logic.{_≢_}
 use mathlib.Core.Bool.{Bool, true, _&&_, _||_, not}
 use mathlib.Core.List.{List, [], _∷_, _++_, append-assoc}
-use Prim.Native.Nat.{ℕ, zero, suc, _+_, _-_, _*_, _%_, _≤_, _<_}
-use native.Mathlib.Nat.{add-zero, sub-self, add-sub-of-le, le-refl, le-trans}
+use Prim.Native.Nat.{ℕ, zero, suc, _+_, _-_, _*_, _≤_, _<_}
+use native.Mathlib.Nat.{add-zero, sub-self, add-sub-of-le}
 use native.Mathlib.Decide.{decLt}
 use native.Mathlib.Numerals.{add-one}
 use native.Mathlib.Omega.{arith}
 use lib.Dec.{eqb, ltb, leb}
 use lib.ListN.{length}
 use borrow.Author.Tests.{ltb-true, leb-true, eqb-true, lt-ltb, le-leb, lt-leb, ne-eqb}
-use Rattle.meaning.specs.List.{at, all, allFrom, every}
-use Rattle.meaning.specs.Field.{isPrime, isModulus}
+use Rattle.meaning.specs.List.{at, all, allFrom}
+use Rattle.meaning.specs.Field.{isModulus}
 use Rattle.meaning.specs.Matrix.{Matrix, matrix, size}
-use Rattle.meaning.specs.Refusal.{Check, check, first, within, sizeTaken, startsTaken, columnsTaken, valueTaken, elements, matrixChecks}
+use Rattle.meaning.specs.Refusal.{Check, check, first, within, sizeTaken, startsTaken, columnsTaken, elements, matrixChecks}
 use Rattle.meaning.specs.Calls.{systemChecks, productRefusal, applyRefusal, takesRefusal}
 use Rattle.laws.specs.Bool.{and-left, and-right, and-both, same-test}
-use Rattle.laws.specs.List.{all-zero, all-suc, all-at, all-of, every-at, every-all}
-use Rattle.laws.specs.Refusal.{first-passed, numbered-matrix, numbered-system, first-append-zero}
-use Rattle.checks.specs.Valid.{Valid, Vector}
+use Rattle.laws.specs.List.{all-zero, all-suc, all-at, all-of, every-all}
+use Rattle.laws.specs.Refusal.{first-passed, numbered-matrix, numbered-system, first-append-zero, zero-by, leading-refused, leading-passed}
+use Rattle.laws.specs.Accepted as laws
+use Rattle.laws.specs.Accepted.{starts-known, starts-rise, matrix-accepted}
+use Rattle.checks.specs.Valid.{Valid, Vector, valid-of, right-of, vector-of}
 
 abbrev pub columnTaken : ℕ → ℕ → List ℕ → ℕ → Bool
 columnTaken n end columns k = ltb (at columns k) n && (leb end (k + 1) || ltb (at columns k) (at columns (k + 1)))
@@ -131,148 +139,35 @@ pub rows-columnsTaken : (starts columns values : List ℕ)
 unfolding columnsTaken
 rows-columnsTaken starts columns values = refl
 
+-- one row more
+pub rows-next : (starts columns : List ℕ) (i : ℕ) {taken row : Bool} {from end : ℕ} → taken ≡ all i (rowTaken starts columns)
+    → row ≡ allFrom from end (columnTaken (length starts - 1) end columns) → from ≡ at starts i → end ≡ at starts (i + 1)
+    → taken && row ≡ all (i + 1) (rowTaken starts columns)
+rows-next starts columns i e f a b =
+    ap₂ _&&_ e (f ∙ ap₂ (λ from end. allFrom from end (columnTaken (length starts - 1) end columns)) a b) ∙ sym (all-more i (rowTaken starts columns))
+
 pub all-elements : (p : ℕ) (v : List ℕ) → elements p v ≡ all (length v) (λ i. ltb (at v i) p)
 unfolding elements
 all-elements p v = every-all (λ a. ltb a p) v 0
 
--- the size is a matter of the starts, and the columns one of starts and columns
-pub starts-sizeTaken : (starts columns values : List ℕ) → sizeTaken (matrix starts columns values) ≡ sizeTaken (matrix starts [] [])
-unfolding sizeTaken
-starts-sizeTaken starts columns values = refl
-
-pub entries-columnsTaken : (starts columns values : List ℕ) → columnsTaken (matrix starts columns values) ≡ columnsTaken (matrix starts columns [])
-unfolding columnsTaken
-entries-columnsTaken starts columns values = refl
-
--- ---- what the checks leave known
-
-pub modulus-range : (p : ℕ) → isModulus p ≡ true → (2 ≤ p) × (p ≤ 2147483647)
-unfolding isModulus isPrime
-modulus-range p e = (
-  leb-true 2 p (and-left (leb 2 p) (all (p - 2) (λ i. not (eqb (p % (i + 2)) 0))) (and-left (isPrime p) (leb p 2147483647) e)),
-  leb-true p 2147483647 (and-right (isPrime p) (leb p 2147483647) e),
-)
-
-pub size-known : (A : Matrix) → sizeTaken A ≡ true → (length (A .starts) ≡ size A + 1) × (size A ≤ 4096) × (1 ≤ size A)
-size-known A e =
-    let n = length (A .starts) in
-    let h = sym (length-sizeTaken (A .starts) (A .columns) (A .values)) ∙ e in
-    let low = leb-true 2 n (and-left (leb 2 n) (leb n 4097) h) in
-    let high = leb-true n 4097 (and-right (leb 2 n) (leb n 4097) h) in
-    (omega (arith, low), omega (arith, high), omega (arith, low))
-
--- the five parts of 5
-pub record Started (A : Matrix) : Type 0 where
-  pub begins : at (A .starts) 0 ≡ 0
-  pub rise : (i : ℕ) → i < size A → at (A .starts) i ≤ at (A .starts) (i + 1)
-  pub ends : at (A .starts) (size A) ≡ length (A .columns)
-  pub paired : length (A .columns) ≡ length (A .values)
-  pub few : length (A .columns) ≤ 65536
-
-pub starts-known : (A : Matrix) → startsTaken A ≡ true → Started A
-unfolding startsTaken
-starts-known A e =
+-- what 6 asks of the starts, where 5 turned nothing down
+pub ordered : (A : Matrix) → startsTaken A ≡ true → 0 < length (A .starts) → Ordered (A .starts) (length (A .columns))
+ordered A e l =
+    let starts = starts-known A e in
     record {
-      begins = eqb-true (at (A .starts) 0) 0 (and-left begins rise (and-left (begins && rise) ends (and-left (begins && rise && ends) paired three)));
-      rise =
-          λ i l. leb-true (at (A .starts) i) (at (A .starts) (i + 1))
-          (all-at (size A) (λ j. leb (at (A .starts) j) (at (A .starts) (j + 1)))
-          (and-right begins rise (and-left (begins && rise) ends (and-left (begins && rise && ends) paired three))) i l);
-      ends = eqb-true (at (A .starts) (size A)) (length (A .columns)) (and-right (begins && rise) ends (and-left (begins && rise && ends) paired three));
-      paired = eqb-true (length (A .columns)) (length (A .values)) (and-right (begins && rise && ends) paired three);
-      few = leb-true (length (A .columns)) 65536 (and-right (begins && rise && ends && paired) (leb (length (A .columns)) 65536) e);
-    }
-  where
-    begins : Bool
-    begins = eqb (at (A .starts) 0) 0
-
-    rise : Bool
-    rise = all (size A) (λ i. leb (at (A .starts) i) (at (A .starts) (i + 1)))
-
-    ends : Bool
-    ends = eqb (at (A .starts) (size A)) (length (A .columns))
-
-    paired : Bool
-    paired = eqb (length (A .columns)) (length (A .values))
-
-    three : begins && rise && ends && paired ≡ true
-    three = and-left (begins && rise && ends && paired) (leb (length (A .columns)) 65536) e
-
-module _ (A : Matrix) (h : Started A) where
-  -- no start is above one further up
-  start-le : (i d : ℕ) → i + d ≤ size A → at (A .starts) i ≤ at (A .starts) (i + d)
-  start-le i zero l = rw (add-zero i) (le-refl (at (A .starts) i))
-  start-le i (suc d) l =
-      let next : i + d + 1 ≡ i + suc d = omega arith in
-      rw (← next) (le-trans (start-le i d (omega (arith, l))) (h .rise (i + d) (omega (arith, l))))
-
-  pub start-within : (i : ℕ) → i ≤ size A → at (A .starts) i ≤ length (A .columns)
-  start-within i l =
-      rw (← h .ends) (subst (λ k. at (A .starts) i ≤ at (A .starts) k) (add-sub-of-le l) (start-le i (size A - i) (omega (arith, l))))
-
-  pub ordered : 0 < length (A .starts) → Ordered (A .starts) (length (A .columns))
-  ordered l = record { some = l; rise = h .rise; within = λ i k. start-within (i + 1) (omega (arith, k)) }
-
-  -- every entry is in some row
-  column-known : columnsTaken A ≡ true → (i : ℕ) → i ≤ size A → (k : ℕ) → k < at (A .starts) i → at (A .columns) k < size A
-  column-known e zero l k b = absurd (omega (arith, h .begins, b))
-  column-known e (suc i) l k b = side (decLt k (at (A .starts) i)) (column-known e i (omega (arith, l)) k)
-    where
-      next : at (A .starts) (i + 1) ≡ at (A .starts) (suc i)
-      next = ap (at (A .starts)) (add-one i)
-
-      taken : rowTaken (A .starts) (A .columns) i ≡ true
-      taken = all-at (size A) (rowTaken (A .starts) (A .columns)) (sym (rows-columnsTaken (A .starts) (A .columns) (A .values)) ∙ e) i l
-
-      here : at (A .starts) i ≤ k → columnTaken (size A) (at (A .starts) (i + 1)) (A .columns) k ≡ true
-      here m =
-          allFrom-at (at (A .starts) i) (columnTaken (size A) (at (A .starts) (i + 1)) (A .columns)) (at (A .starts) (i + 1)) taken k m (omega (arith, b, next))
-
-      side : Dec (k < at (A .starts) i) → (k < at (A .starts) i → at (A .columns) k < size A) → at (A .columns) k < size A
-      side (yes m) ih = ih m
-      side (no m) ih =
-          ltb-true (at (A .columns) k) (size A)
-          (and-left (ltb (at (A .columns) k) (size A))
-          (leb (at (A .starts) (i + 1)) (k + 1) || ltb (at (A .columns) k) (at (A .columns) (k + 1))) (here (omega arith)))
-
-pub valid-of : (p : ℕ) (A : Matrix) → isModulus p ≡ true → sizeTaken A ≡ true → startsTaken A ≡ true → columnsTaken A ≡ true
-    → every (valueTaken p) (A .values) ≡ true → Valid p A
-valid-of p A m n s c v =
-    let range = modulus-range p m in
-    let sized = size-known A n in
-    let started = starts-known A s in
-    record {
-      positive = omega (arith, range .0);
-      small = range .1;
-      one-more = sized .0;
-      sized = sized .1;
-      some = sized .2;
-      rise = started .rise;
-      within = λ i l. start-within A started (i + 1) (omega (arith, l));
-      paired = started .paired;
-      few = started .few;
-      column = λ k l. column-known A started c (size A) (le-refl (size A)) k (omega (arith, l, started .ends));
-      value = λ k l. ltb-true (at (A .values) k) p (and-right (leb 1 (at (A .values) k)) (ltb (at (A .values) k) p) (every-at (valueTaken p) (A .values) 0 v k l));
+      some = l;
+      rise = starts .1;
+      within = λ i k. omega (arith, starts-rise A (starts .1) (i + 1) (size A) (omega (arith, k)) (omega arith), starts .2);
     }
 
-pub vector-of : (p : ℕ) (v : List ℕ) (n : ℕ) → length v ≡ n → elements p v ≡ true → Vector p n v
-unfolding elements
-vector-of p v n e h =
-    record { places = e; below = λ i l. ltb-true (at v i) p (every-at (λ a. ltb a p) v 0 h i (omega (arith, e, l))) }
-
--- ---- a matrix
-
-pub matrix-valid : (p : ℕ) (A : Matrix) → first (matrixChecks p A) ≡ 0 → Valid p A
+pub matrix-modulus : (p : ℕ) (A : Matrix) → first (matrixChecks p A) ≡ 0 → isModulus p ≡ true
 unfolding matrixChecks
-matrix-valid p A e =
-    let c3 = first-passed 3 (isModulus p) _ (omega arith) e in
-    let c4 = first-passed 4 (sizeTaken A) _ (omega arith) (c3 .1) in
-    let c5 = first-passed 5 (startsTaken A) _ (omega arith) (c4 .1) in
-    let c6 = first-passed 6 (columnsTaken A) _ (omega arith) (c5 .1) in
-    let c7 = first-passed 7 (every (valueTaken p) (A .values)) _ (omega arith) (c6 .1) in
-    valid-of p A (c3 .0) (c4 .0) (c5 .0) (c6 .0) (c7 .0)
+matrix-modulus p A e = first-passed 3 (isModulus p) _ (omega arith) e .0
 
 -- ---- the calls' checks
+
+pub matrix-valid : (p : ℕ) (A : Matrix) → first (matrixChecks p A) ≡ 0 → Valid p A
+matrix-valid p A e = valid-of (matrix-accepted p A e)
 
 -- a matrix and a vector that were not turned down
 pub record Accepted (p : ℕ) (A : Matrix) (v : List ℕ) : Type 0 where
@@ -282,44 +177,54 @@ pub record Accepted (p : ℕ) (A : Matrix) (v : List ℕ) : Type 0 where
 abbrev pub vectorChecks : ℕ → Matrix → List ℕ → List Check
 vectorChecks p A b = check 8 (not (eqb (length b) (size A))) ∷ check 9 (not (elements p b)) ∷ []
 
-pub systemChecks-parts : (p : ℕ) (A : Matrix) (b : List ℕ) → systemChecks p A b ≡ matrixChecks p A ++ vectorChecks p A b
-unfolding systemChecks
-systemChecks-parts p A b = refl
-
 pub system-accepted : (p : ℕ) (A : Matrix) (b : List ℕ) → first (systemChecks p A b) ≡ 0 → Accepted p A b
-unfolding systemChecks
 system-accepted p A b e =
-    let both = first-append-zero (matrixChecks p A) (vectorChecks p A b) (numbered-matrix p A) e in
-    let c8 = first-passed 8 (eqb (length b) (size A)) _ (omega arith) (both .1) in
-    let c9 = first-passed 9 (elements p b) _ (omega arith) (c8 .1) in
-    record { valid = matrix-valid p A (both .0); vector = vector-of p b (size A) (eqb-true (length b) (size A) (c8 .0)) (c9 .0) }
+    let a = laws.system-accepted p A b e in
+    record { valid = valid-of a; vector = right-of a }
+
+-- the starts' number, where the code has the number of the checks
+pub matrix-sized : (p : ℕ) (A : Matrix) {number : ℕ} → number ≡ first (matrixChecks p A) → number ≡ 0
+    → (2 ≤ length (A .starts)) × (length (A .starts) ≤ 4097)
+matrix-sized p A e z =
+    let a = matrix-accepted p A (zero-by e z) in
+    (omega (arith, a .size-low), omega (arith, a .size-high))
+
+pub system-sized : (p : ℕ) (A : Matrix) (b : List ℕ) {number : ℕ} → number ≡ first (systemChecks p A b) → number ≡ 0
+    → (2 ≤ length (A .starts)) × (length (A .starts) ≤ 4097)
+system-sized p A b e z =
+    let a = laws.system-accepted p A b (zero-by e z) in
+    (omega (arith, a .size-low), omega (arith, a .size-high))
 
 -- a product's checks are the system's, and then its slice's
-pub productRefusal-system : (p : ℕ) (A : Matrix) (v out : List ℕ)
-    → productRefusal p A v out ≡ first (systemChecks p A v ++ (check 11 (not (eqb (length out) (size A))) ∷ []))
-unfolding productRefusal systemChecks
-productRefusal-system p A v out =
-    ap first
-    (sym
-    (append-assoc (matrixChecks p A) (vectorChecks p A v) (check 11 (not (eqb (length out) (size A))) ∷ [])))
+module _ (p : ℕ) (A : Matrix) (v out : List ℕ) where
+  slice : List Check
+  slice = check 11 (not (eqb (length out) (size A))) ∷ []
 
-pub product-accepted : (p : ℕ) (A : Matrix) (v out : List ℕ) → productRefusal p A v out ≡ 0 → Accepted p A v × (length out ≡ size A)
-product-accepted p A v out e =
-    let both = first-append-zero (systemChecks p A v) (check 11 (not (eqb (length out) (size A))) ∷ []) (numbered-system p A v) (sym (productRefusal-system p A v out) ∙ e) in
-    let c11 = first-passed 11 (eqb (length out) (size A)) _ (omega arith) (both .1) in
-    (system-accepted p A v (both .0), eqb-true (length out) (size A) (c11 .0))
+  productRefusal-system : productRefusal p A v out ≡ first (systemChecks p A v ++ slice)
+  unfolding productRefusal systemChecks slice
+  productRefusal-system = ap first (sym (append-assoc (matrixChecks p A) (vectorChecks p A v) slice))
 
-abbrev pub applyChecks : ℕ → Matrix → List ℕ → List ℕ → List ℕ → List ℕ → List Check
+  pub product-refused : {number : ℕ} → number ≡ first (systemChecks p A v) → number ≢ 0 → number ≡ productRefusal p A v out
+  product-refused e q = leading-refused (systemChecks p A v) slice (numbered-system p A v) e q ∙ sym productRefusal-system
+
+  pub product-passed : {number k : ℕ} → number ≡ first (systemChecks p A v) → number ≡ 0 → first (check 11 (not (eqb (length out) (size A))) ∷ []) ≡ k
+      → k ≡ productRefusal p A v out
+  unfolding slice
+  product-passed e z f = leading-passed (systemChecks p A v) slice (numbered-system p A v) e z f ∙ sym productRefusal-system
+
+  pub product-accepted : productRefusal p A v out ≡ 0 → Accepted p A v × (length out ≡ size A)
+  unfolding slice
+  product-accepted e =
+      let both = first-append-zero (systemChecks p A v) slice (numbered-system p A v) (sym productRefusal-system ∙ e) in
+      let c11 = first-passed 11 (eqb (length out) (size A)) _ (omega arith) (both .1) in
+      (system-accepted p A v (both .0), eqb-true (length out) (size A) (c11 .0))
+
+abbrev applyChecks : ℕ → Matrix → List ℕ → List ℕ → List ℕ → List ℕ → List Check
 applyChecks p A g v out work =
     check 8 (not (within 1 (size A + 1) (length g) && eqb (length v) (size A)))
     ∷ check 9 (not (elements p g && elements p v))
     ∷ check 11 (not (eqb (length out) (size A) && leb (2 * size A) (length work)))
     ∷ []
-
-pub applyRefusal-parts : (p : ℕ) (A : Matrix) (g v out work : List ℕ)
-    → applyRefusal p A g v out work ≡ first (matrixChecks p A ++ applyChecks p A g v out work)
-unfolding applyRefusal
-applyRefusal-parts p A g v out work = refl
 
 -- what g(A)v needs that was not turned down
 pub record Applicable (p : ℕ) (A : Matrix) (g v out work : List ℕ) : Type 0 where
@@ -331,8 +236,9 @@ pub record Applicable (p : ℕ) (A : Matrix) (g v out work : List ℕ) : Type 0 
   pub room : 2 * size A ≤ length work
 
 pub apply-accepted : (p : ℕ) (A : Matrix) (g v out work : List ℕ) → applyRefusal p A g v out work ≡ 0 → Applicable p A g v out work
+unfolding applyRefusal
 apply-accepted p A g v out work e =
-    let both = first-append-zero (matrixChecks p A) (applyChecks p A g v out work) (numbered-matrix p A) (sym (applyRefusal-parts p A g v out work) ∙ e) in
+    let both = first-append-zero (matrixChecks p A) (applyChecks p A g v out work) (numbered-matrix p A) e in
     let c8 = first-passed 8 (within 1 (size A + 1) (length g) && eqb (length v) (size A)) _ (omega arith) (both .1) in
     let c9 = first-passed 9 (elements p g && elements p v) _ (omega arith) (c8 .1) in
     let c11 = first-passed 11 (eqb (length out) (size A) && leb (2 * size A) (length work)) _ (omega arith) (c9 .1) in
@@ -351,17 +257,14 @@ apply-accepted p A g v out work e =
       room = leb-true (2 * size A) (length work) (and-right (eqb (length out) (size A)) (leb (2 * size A) (length work)) slices);
     }
 
-abbrev pub takesChecks : ℕ → Matrix → List ℕ → List ℕ → List Check
+abbrev takesChecks : ℕ → Matrix → List ℕ → List ℕ → List Check
 takesChecks p A x b =
     check 8 (not (eqb (length x) (size A) && eqb (length b) (size A))) ∷ check 9 (not (elements p x && elements p b)) ∷ []
 
-pub takesRefusal-parts : (p : ℕ) (A : Matrix) (x b : List ℕ) → takesRefusal p A x b ≡ first (matrixChecks p A ++ takesChecks p A x b)
-unfolding takesRefusal
-takesRefusal-parts p A x b = refl
-
 pub takes-accepted : (p : ℕ) (A : Matrix) (x b : List ℕ) → takesRefusal p A x b ≡ 0 → Accepted p A x × (length b ≡ size A)
+unfolding takesRefusal
 takes-accepted p A x b e =
-    let both = first-append-zero (matrixChecks p A) (takesChecks p A x b) (numbered-matrix p A) (sym (takesRefusal-parts p A x b) ∙ e) in
+    let both = first-append-zero (matrixChecks p A) (takesChecks p A x b) (numbered-matrix p A) e in
     let c8 = first-passed 8 (eqb (length x) (size A) && eqb (length b) (size A)) _ (omega arith) (both .1) in
     let c9 = first-passed 9 (elements p x && elements p b) _ (omega arith) (c8 .1) in
     let lengths = c8 .0 in

@@ -1,17 +1,24 @@
--- What the checks leave known of a matrix and a vector, as the code that runs without checks needs it.
+-- What the checks leave known of a matrix and a vector (laws' Accepted), as the code that runs without checks needs it.
 --     Valid p A        a matrix of size 1 to 4,096 with values below p
 --     Vector p n v     n elements below p
+--     valid-of, right-of, vector-of      an accepted system's matrix and right side; a list that passed 8 and 9
 --     term             the product of entry k with its element of v
 --     rowProduct       their sum over row i
 --     Entries          what the sum of a row needs to know: entries and elements below 2³¹ − 1, columns within v
 --     valid-entries    a valid matrix with a vector
 use mathlib.Core.Path.{_≡_}
+use mathlib.Core.Bool.{true}
 use mathlib.Core.List.{List}
 use Prim.Native.Nat.{ℕ, _+_, _*_, _≤_, _<_}
 use native.Mathlib.Omega.{arith}
+use lib.Dec.{ltb}
 use lib.ListN.{length}
+use borrow.Author.Tests.{ltb-true}
 use Rattle.meaning.specs.List.{at}
 use Rattle.meaning.specs.Matrix.{Matrix, size, rowSum}
+use Rattle.meaning.specs.Refusal.{elements}
+use Rattle.laws.specs.List.{every-at}
+use Rattle.laws.specs.Accepted.{modulus-low, modulus-high, AcceptedSystem, start-within, column-within, value-below, right-at}
 
 pub record Valid (p : ℕ) (A : Matrix) : Type 0 where
   pub positive : 0 < p
@@ -29,6 +36,30 @@ pub record Valid (p : ℕ) (A : Matrix) : Type 0 where
 pub record Vector (p n : ℕ) (v : List ℕ) : Type 0 where
   pub places : length v ≡ n
   pub below : (i : ℕ) → i < n → at v i < p
+
+pub valid-of : {p : ℕ} {A : Matrix} {b : List ℕ} → AcceptedSystem p A b → Valid p A
+valid-of {p} {A} {b} a =
+    record {
+      positive = omega (arith, modulus-low p (a .prime));
+      small = modulus-high p (a .prime);
+      one-more = a .start-count;
+      sized = a .size-high;
+      some = a .size-low;
+      rise = a .rising;
+      within = λ i l. start-within a (i + 1) (omega (arith, l));
+      paired = a .as-many;
+      few = a .few;
+      column = column-within a;
+      value = value-below a;
+    }
+
+pub right-of : {p : ℕ} {A : Matrix} {b : List ℕ} → AcceptedSystem p A b → Vector p (size A) b
+right-of a = record { places = a .right-length; below = right-at a }
+
+pub vector-of : (p : ℕ) (v : List ℕ) (n : ℕ) → length v ≡ n → elements p v ≡ true → Vector p n v
+unfolding elements
+vector-of p v n e h =
+    record { places = e; below = λ i l. ltb-true (at v i) p (every-at (λ a. ltb a p) v 0 h i (omega (arith, e, l))) }
 
 abbrev pub term : List ℕ → List ℕ → List ℕ → ℕ → ℕ
 term columns values v k = at values k * at v (at columns k)

@@ -11,7 +11,7 @@ ghost use lib.Dec.{leb};
 ghost use lib.ListN.{length};
 ghost use Rattle.meaning.specs.List.{at, all, allFrom, every};
 ghost use Rattle.meaning.specs.Matrix.{matrix};
-ghost use Rattle.meaning.specs.Refusal.{first, within, elements, sizeTaken, startsTaken, columnsTaken, valueTaken, matrixChecks};
+ghost use Rattle.meaning.specs.Refusal.{wordsTaken, first, within, elements, sizeTaken, startsTaken, columnsTaken, valueTaken, matrixChecks};
 ghost use Rattle.meaning.specs.Calls.{systemChecks, productRefusal, applyRefusal, takesRefusal, recurrenceRefusal, solverRefusal};
 ghost use Rattle.checks.specs.Matrix.{columnTaken, rises, Ordered};
 
@@ -26,21 +26,20 @@ pub fn wide(x: u32) -> usize
 fn size_taken(starts: &[u32]) -> bool
     ensures { λ r. ⌜ r ≡ sizeTaken (matrix (now (starts .entry)) [] []) ⌝ }
 {
-    starts.len() >= 2 && starts.len() <= 4097
+    (starts.len() >= 2) & (starts.len() <= 4097)
 }
 
 // No start is above the next.
 fn rising(starts: &[u32]) -> bool
     ensures { λ r. ⌜ r ≡ all (length (now (starts .entry)) - 1) (λ i. leb (at (now (starts .entry)) i) (at (now (starts .entry)) (i + 1))) ⌝ }
 {
+    let mut rise = true;
     let mut i = 0;
     while i + 1 < starts.len() {
-        if starts[i + 1] < starts[i] {
-            return false;
-        }
+        rise = rise & (starts[i] <= starts[i + 1]);
         i += 1;
     }
-    true
+    rise
 }
 
 // 5: the starts and the number of entries.
@@ -48,19 +47,11 @@ fn starts_taken(starts: &[u32], columns: &[u32], values: &[u32]) -> bool
     requires { ⌜ 0 < length (now starts) ⌝ }
     ensures { λ r. ⌜ r ≡ startsTaken (matrix (now (starts .entry)) (now (columns .entry)) (now (values .entry))) ⌝ }
 {
-    if starts[0] != 0 {
-        return false;
-    }
-    if !rising(starts) {
-        return false;
-    }
-    if wide(starts[starts.len() - 1]) != columns.len() {
-        return false;
-    }
-    if columns.len() != values.len() {
-        return false;
-    }
-    columns.len() <= 65536
+    (starts[0] == 0)
+        & rising(starts)
+        & (wide(starts[starts.len() - 1]) == columns.len())
+        & (columns.len() == values.len())
+        & (columns.len() <= 65536)
 }
 
 // The columns from `from` to `last` rise strictly.
@@ -94,14 +85,13 @@ fn columns_taken(starts: &[u32], columns: &[u32]) -> bool
     ensures { λ r. ⌜ r ≡ columnsTaken (matrix (now (starts .entry)) (now (columns .entry)) []) ⌝ }
 {
     let n = starts.len() - 1;
+    let mut taken = true;
     let mut i = 0;
     while i < n {
-        if !row_taken(n, wide(starts[i]), wide(starts[i + 1]), columns) {
-            return false;
-        }
+        taken = taken & row_taken(n, wide(starts[i]), wide(starts[i + 1]), columns);
         i += 1;
     }
-    true
+    taken
 }
 
 // 7: the values.
@@ -154,7 +144,8 @@ pub fn matrix_refusal(p: u32, starts: &[u32], columns: &[u32], values: &[u32]) -
 
 // 3 to 9 for a matrix and a vector.
 pub fn system_refusal(p: u32, starts: &[u32], columns: &[u32], values: &[u32], b: &[u32]) -> u32
-    ensures { λ r. ⌜ r ≡ first (systemChecks p (matrix (now (starts .entry)) (now (columns .entry)) (now (values .entry))) (now (b .entry))) ⌝ }
+    ensures { λ r. ⌜ r ≡ first (systemChecks p (matrix (now (starts .entry)) (now (columns .entry)) (now (values .entry)))
+        (now (b .entry))) ⌝ }
 {
     let number = matrix_refusal(p, starts, columns, values);
     if number != 0 {
@@ -178,24 +169,17 @@ pub fn product_refusal(
     v: &[u32],
     out: &[u32],
 ) -> u32
-    ensures { λ r. ⌜ r ≡ productRefusal p (matrix (now (starts .entry)) (now (columns .entry)) (now (values .entry))) (now (v .entry)) (now (out .entry)) ⌝ }
+    ensures { λ r. ⌜ r ≡ productRefusal p (matrix (now (starts .entry)) (now (columns .entry)) (now (values .entry)))
+        (now (v .entry)) (now (out .entry)) ⌝ }
 {
     let number = system_refusal(p, starts, columns, values, v);
     if number != 0 {
         return number;
     }
-    if out.len() != v.len() {
+    if out.len() != starts.len() - 1 {
         return 11;
     }
     0
-}
-
-// 8 for a polynomial: 1 to n + 1 coefficients.
-fn polynomial_taken(n: usize, g: &[u32]) -> bool
-    requires { ⌜ n ≤ 4096 ⌝ }
-    ensures { λ r. ⌜ r ≡ within 1 (n + 1) (length (now (g .entry))) ⌝ }
-{
-    g.len() >= 1 && g.len() <= n + 1
 }
 
 // What g(A)v into out is refused for.
@@ -209,29 +193,21 @@ pub fn apply_refusal(
     out: &[u32],
     work: &[u32],
 ) -> u32
-    ensures { λ r. ⌜ r ≡ applyRefusal p (matrix (now (starts .entry)) (now (columns .entry)) (now (values .entry))) (now (g .entry)) (now (v .entry)) (now (out .entry)) (now (work .entry)) ⌝ }
+    ensures { λ r. ⌜ r ≡ applyRefusal p (matrix (now (starts .entry)) (now (columns .entry)) (now (values .entry)))
+        (now (g .entry)) (now (v .entry)) (now (out .entry)) (now (work .entry)) ⌝ }
 {
     let number = matrix_refusal(p, starts, columns, values);
     if number != 0 {
         return number;
     }
     let n = starts.len() - 1;
-    if !polynomial_taken(n, g) {
+    if !((g.len() >= 1) & (g.len() <= n + 1) & (v.len() == n)) {
         return 8;
     }
-    if v.len() != n {
-        return 8;
-    }
-    if !are_elements(p, g) {
+    if !(are_elements(p, g) & are_elements(p, v)) {
         return 9;
     }
-    if !are_elements(p, v) {
-        return 9;
-    }
-    if out.len() != n {
-        return 11;
-    }
-    if work.len() < 2 * n {
+    if !((out.len() == n) & (work.len() >= 2 * n)) {
         return 11;
     }
     0
@@ -246,23 +222,18 @@ pub fn takes_refusal(
     x: &[u32],
     b: &[u32],
 ) -> u32
-    ensures { λ r. ⌜ r ≡ takesRefusal p (matrix (now (starts .entry)) (now (columns .entry)) (now (values .entry))) (now (x .entry)) (now (b .entry)) ⌝ }
+    ensures { λ r. ⌜ r ≡ takesRefusal p (matrix (now (starts .entry)) (now (columns .entry)) (now (values .entry)))
+        (now (x .entry)) (now (b .entry)) ⌝ }
 {
     let number = matrix_refusal(p, starts, columns, values);
     if number != 0 {
         return number;
     }
     let n = starts.len() - 1;
-    if x.len() != n {
+    if !((x.len() == n) & (b.len() == n)) {
         return 8;
     }
-    if b.len() != n {
-        return 8;
-    }
-    if !are_elements(p, x) {
-        return 9;
-    }
-    if !are_elements(p, b) {
+    if !(are_elements(p, x) & are_elements(p, b)) {
         return 9;
     }
     0
@@ -281,13 +252,20 @@ pub fn recurrence_refusal(p: u32, s: &[u32], polynomial: &[u32], work: &[u32]) -
     if !are_elements(p, s) {
         return 9;
     }
-    if polynomial.len() != s.len() + 1 {
-        return 11;
-    }
-    if work.len() < 4 * s.len() + 8 {
+    if !((polynomial.len() == s.len() + 1) & (work.len() >= 4 * s.len() + 8)) {
         return 11;
     }
     0
+}
+
+// 10: the words are a multiple of n, and at most 64 × n.
+pub fn words_taken(n: usize, words: &[u32]) -> bool
+    ensures { λ r. ⌜ r ≡ wordsTaken n (now (words .entry)) ⌝ }
+{
+    if n == 0 {
+        return words.len() == 0;
+    }
+    words.len() % n == 0 && words.len() / n <= 64
 }
 
 // What a run of the solver is refused for.
@@ -302,26 +280,18 @@ pub fn solver_refusal(
     polynomial: &[u32],
     work: &[u32],
 ) -> u32
-    ensures { λ r. ⌜ r ≡ solverRefusal p (matrix (now (starts .entry)) (now (columns .entry)) (now (values .entry))) (now (b .entry)) (now (words .entry)) (now (vector .entry)) (now (polynomial .entry)) (now (work .entry)) ⌝ }
+    ensures { λ r. ⌜ r ≡ solverRefusal p (matrix (now (starts .entry)) (now (columns .entry)) (now (values .entry)))
+        (now (b .entry)) (now (words .entry)) (now (vector .entry)) (now (polynomial .entry)) (now (work .entry)) ⌝ }
 {
     let number = system_refusal(p, starts, columns, values, b);
     if number != 0 {
         return number;
     }
-    let n = b.len();
-    if words.len() % n != 0 {
+    let n = starts.len() - 1;
+    if !words_taken(n, words) {
         return 10;
     }
-    if words.len() > 64 * n {
-        return 10;
-    }
-    if vector.len() != n {
-        return 11;
-    }
-    if polynomial.len() != n + 1 {
-        return 11;
-    }
-    if work.len() < 16 * n + 16 {
+    if !((vector.len() == n) & (polynomial.len() == n + 1) & (work.len() >= 16 * n + 16)) {
         return 11;
     }
     0

@@ -4,10 +4,9 @@
 // The contracts cite the crate meaning (Field: what the operations mean; Calls: what a call refuses and answers) and specs/Answer.antt (what
 // each case of an answer says).
 mod euclid;
-mod prime;
 
 pub use euclid::inverse_modulo;
-pub use prime::is_modulus;
+pub use primality::is_modulus;
 ghost use mathlib.Core.Path.{_≡_};
 ghost use mathlib.Core.Bool.{_&&_};
 ghost use lib.Dec.{ltb};

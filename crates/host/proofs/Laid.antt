@@ -9,16 +9,16 @@ use mathlib.Core.Bool.{Bool, false, cond}
 use Prim.Native.Nat.{ℕ}
 use lib.Dec.{eqb}
 use borrow.Author.Tests.{ne-eqb}
-use Rattle.meaning.specs.Solver.{Kind, Outcome, passes}
+use Rattle.meaning.specs.Solver.{Kind, Outcome, passCount, applications}
 use Rattle.wiedemann.specs.declared.recurrence.Answer.{Answer}
 use Rattle.wiedemann.specs.declared.recurrence.Answer.the-variants.{Degree, Refused}
-use Rattle.wiedemann.specs.declared.solver.Counts.{Counts}
-use Rattle.wiedemann.specs.Recurrence.{Gives}
-use Rattle.wiedemann.specs.Verdict.{Counted}
+use Rattle.solver.specs.declared.Counts.{Counts}
+use Rattle.wiedemann.specs.Recurrence.{GivesDegree}
+use Rattle.solver.specs.Verdict.{Counted}
 use Rattle.host.specs.declared.runs.Verdict.{Verdict}
 use Rattle.host.specs.Answers.{kindNumber, verdictOf, systemOf}
 
-pub degree-answered : (a : Answer) (number L : ℕ) → Gives a number L → number ≡ 0 → a ≡ Degree L
+pub degree-answered : (a : Answer) (number L : ℕ) → GivesDegree a number L → number ≡ 0 → a ≡ Degree L
 degree-answered (Degree k) number L g e = ap Degree (sym (g .1))
 degree-answered (Refused k) number L g e = absurd (g .1 (sym (g .0) ∙ e))
 
@@ -39,7 +39,7 @@ verdict-refused k number o e some = ap (λ t. verdict t 0 0 0 0) (sym e) ∙ sym
   where
     unless : Bool → Verdict
     unless t =
-        verdict number (cond t (kindNumber (o .kind)) 0) (cond t (o .degree) 0) (cond t (passes o) 0) (cond t (o .applications) 0)
+        verdict number (cond t (kindNumber (o .kind)) 0) (cond t (o .degree) 0) (cond t (passCount o) 0) (cond t (applications o) 0)
 
     off : eqb number 0 ≡ false
     off = ne-eqb number 0 (λ z. some (sym e ∙ z))

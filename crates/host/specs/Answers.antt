@@ -4,7 +4,7 @@
 use mathlib.Core.Bool.{Bool, cond}
 use Prim.Native.Nat.{ℕ}
 use Rattle.meaning.specs.Refusal.{unlessRefused}
-use Rattle.meaning.specs.Solver.{Kind, solved, singular, Outcome, passes}
+use Rattle.meaning.specs.Solver.{Kind, solved, singular, Outcome, passCount, applications}
 use Rattle.host.specs.declared.elements.Element.{Element}
 use Rattle.host.specs.declared.recurrences.Degree.{Degree}
 use Rattle.host.specs.declared.runs.Verdict.{Verdict}
@@ -38,6 +38,6 @@ verdictOf number o =
       refusal = number;
       kind = unlessRefused number (kindNumber (o .kind)) 0;
       degree = unlessRefused number (o .degree) 0;
-      passes = unlessRefused number (passes o) 0;
-      applications = unlessRefused number (o .applications) 0;
+      passes = unlessRefused number (passCount o) 0;
+      applications = unlessRefused number (applications o) 0;
     }

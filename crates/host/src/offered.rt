@@ -1,6 +1,6 @@
 // The checks of answers that anyone offers.
 use field::Field;
-use wiedemann::offered::Verdict;
+use wiedemann::offered::Offered;
 use wiedemann::offered::is_null;
 use wiedemann::offered::takes;
 ghost use mathlib.Core.Path.{_≡_};
@@ -8,7 +8,7 @@ ghost use mathlib.Core.Bool.{Bool};
 ghost use Prim.Native.Nat.{ℕ};
 ghost use Rattle.meaning.specs.Matrix.{matrix};
 ghost use Rattle.meaning.specs.Calls.{takesRefusal, takesAnswer, isNullRefusal, isNullAnswer};
-ghost use Rattle.wiedemann.specs.Answers.{Says};
+ghost use Rattle.wiedemann.specs.Answers.{Decides};
 ghost use Rattle.host.specs.Answers.{yesOf};
 
 #[repr(C)]
@@ -18,13 +18,13 @@ pub struct Yes {
     pub yes: u32,
 }
 
-fn numbers_of(verdict: Verdict) -> Yes
-    ensures { λ r. ⌜ ((number : ℕ) (answer : Bool) → Says verdict number answer → r ≡ yesOf number answer) ⌝ }
+fn numbers_of(offered: Offered) -> Yes
+    ensures { λ r. ⌜ ((number : ℕ) (answer : Bool) → Decides offered number answer → r ≡ yesOf number answer) ⌝ }
 {
-    match verdict {
-        Verdict::Yes => Yes { refusal: 0, yes: 1 },
-        Verdict::No => Yes { refusal: 0, yes: 0 },
-        Verdict::Refused(refusal) => Yes { refusal, yes: 0 },
+    match offered {
+        Offered::Yes => Yes { refusal: 0, yes: 1 },
+        Offered::No => Yes { refusal: 0, yes: 0 },
+        Offered::Refused(refusal) => Yes { refusal, yes: 0 },
     }
 }
 

@@ -8,7 +8,7 @@ ghost use Prim.Native.Nat.{ℕ, _+_, _≤_};
 ghost use lib.ListN.{take};
 ghost use Rattle.meaning.specs.Recurrence.{IsShortest};
 ghost use Rattle.meaning.specs.Calls.{recurrenceRefusal, recurrenceAnswer, recurrenceAfter};
-ghost use Rattle.wiedemann.specs.Recurrence.{Gives};
+ghost use Rattle.wiedemann.specs.Recurrence.{GivesDegree};
 ghost use Rattle.host.specs.Answers.{degreeOf};
 
 #[repr(C)]
@@ -20,7 +20,7 @@ pub struct Degree {
 // A list has at most 8,192 elements, so 32 bits are enough for L.
 fn numbers_of(answer: Answer) -> Degree
     requires { ⌜ ((L : ℕ) → answer ≡ Answer.Degree L → L ≤ 8192) ⌝ }
-    ensures { λ r. ⌜ ((number L : ℕ) → Gives answer number L → r ≡ degreeOf number L) ⌝ }
+    ensures { λ r. ⌜ ((number L : ℕ) → GivesDegree answer number L → r ≡ degreeOf number L) ⌝ }
 {
     match answer {
         Answer::Degree(degree) => Degree {

@@ -1,7 +1,7 @@
 // The solver.
 use field::Field;
-use wiedemann::solver::Counts;
-use wiedemann::solver::solve;
+use solver::Counts;
+use solver::solve;
 ghost use mathlib.Core.Path.{_≡_};
 ghost use mathlib.Core.Logic.{_≢_};
 ghost use Prim.Native.Nat.{ℕ};
@@ -10,7 +10,7 @@ ghost use Rattle.meaning.specs.Solver.{Outcome};
 ghost use Rattle.meaning.specs.Solver as meaning;
 ghost use Rattle.meaning.specs.ThirdCondition.{ThirdCondition};
 ghost use Rattle.meaning.specs.Calls.{solverRefusal, vectorAfter, polynomialAfter};
-ghost use Rattle.wiedemann.specs.Verdict.{Says};
+ghost use Rattle.solver.specs.Verdict.{Says};
 ghost use Rattle.host.specs.Answers.{verdictOf};
 
 #[repr(C)]
@@ -36,13 +36,13 @@ fn counted(kind: u32, c: Counts) -> Verdict
     }
 }
 
-fn numbers_of(verdict: wiedemann::solver::Verdict) -> Verdict
+fn numbers_of(verdict: solver::Verdict) -> Verdict
     ensures { λ r. ⌜ ((number : ℕ) (o : Outcome) → Says verdict number o → r ≡ verdictOf number o) ⌝ }
 {
     match verdict {
-        wiedemann::solver::Verdict::Solved(c) => counted(1, c),
-        wiedemann::solver::Verdict::Singular(c) => counted(2, c),
-        wiedemann::solver::Verdict::Refused(refusal) => Verdict {
+        solver::Verdict::Solved(c) => counted(1, c),
+        solver::Verdict::Singular(c) => counted(2, c),
+        solver::Verdict::Refused(refusal) => Verdict {
             refusal,
             kind: 0,
             degree: 0,

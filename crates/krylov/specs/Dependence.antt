@@ -9,7 +9,7 @@ use native.Mathlib.Omega.{arith}
 use Rattle.algebra.specs.Ring.{Ring, Field, ring-laws}
 use Rattle.algebra.specs.Ring as ring
 use Rattle.algebra.specs.Sum.{sum, sum-head, sum-add, sum-scale-right, sum-zeros}
-use Rattle.algebra.specs.Polynomial.{Below, const, const-zero, const-suc}
+use Rattle.algebra.specs.Polynomial.{Below, const, const-zero, const-suc, cons, cons-zero, cons-suc, cons-below}
 use Rattle.polynomial.specs.Degree.{Degree, zeros-or-degree, monic-made, one-monic}
 use Rattle.krylov.specs.Operator.{Operator, Linear, Annihilator, power, apply, null, times, vector-laws}
 use Rattle.krylov.specs.Operator as operator
@@ -36,22 +36,6 @@ module _ (R : Ring) where
   every-place zero f a h (suc i) = h i
   every-place (suc p) f a h zero = h 0
   every-place (suc p) f a h (suc i) = every-place p (λ j. f (suc j)) a (λ j. h (suc j)) i
-
-  cons : C → (ℕ → C) → ℕ → C
-  cons a f zero = a
-  cons a f (suc i) = f i
-
-  cons-zero : (a : C) (f : ℕ → C) → cons a f 0 ≡ a
-  unfolding cons
-  cons-zero a f = refl
-
-  cons-suc : (a : C) (f : ℕ → C) (i : ℕ) → cons a f (suc i) ≡ f i
-  unfolding cons
-  cons-suc a f i = refl
-
-  cons-below : (n : ℕ) (a : C) (f : ℕ → C) → Below R n f → Below R (suc n) (cons a f)
-  cons-below n a f p zero l = absurd (omega arith)
-  cons-below n a f p (suc i) l = cons-suc a f i ∙ p i (omega arith)
 
   pub record Dependent (n : ℕ) (v : ℕ → ℕ → C) : Type 0 where
     pub coefficient : ℕ → C

@@ -18,7 +18,7 @@
 --     apply-horner         f(A)v = f₀·v + A(g(A)v) with g = (f − f₀)/z
 --     apply-extend         terms from m on add nothing, if f is zero there
 --     apply-null, apply-plus, apply-times      linear in f
---     apply-const, apply-degree-zero, apply-shift      of c, of 1, of z·f
+--     apply-degree-zero    of 1
 --     apply-vector-null, apply-vector-plus, apply-vector-times, apply-below      linear in v, and stays in the n places
 --     operator-apply, power-apply, apply-apply      A, Aᵏ and g(A) commute with f(A)
 --     apply-product, apply-product-monic      (f·g)(A)v = f(A)(g(A)v), counted in terms and in degrees
@@ -38,7 +38,7 @@ use native.Mathlib.Decide.{decLt}
 use Rattle.algebra.specs.Ring.{Ring, ring-laws}
 use Rattle.algebra.specs.Ring as ring
 use Rattle.algebra.specs.Sum.{sum, sum-zero, sum-suc, sum-ext, sum-add, sum-scale, sum-zeros, sum-extend, sum-single}
-use Rattle.algebra.specs.Polynomial.{Below, Monic, const, const-zero, const-suc, shift, shift-zero, shift-suc, product, product-zero, product-suc, at}
+use Rattle.algebra.specs.Polynomial.{Below, Monic, const, const-zero, product, product-zero, product-suc, at}
 use Rattle.polynomial.specs.Degree.{one-monic}
 use Rattle.polynomial.specs.Product.{product-zeros-left-at, product-monic}
 use Rattle.polynomial.specs.Shift.{shifts, shifts-low, shifts-high, shifts-below}
@@ -203,12 +203,6 @@ module _ (R : Ring) (A : Operator R) where
   apply-times zero c f v = simp apply-zero (fun-ext (λ p. simp vector-laws))
   apply-times (suc m) c f v = simp (apply-suc, apply-times m c f v) (fun-ext (λ p. simp vector-laws))
 
-  pub apply-const : (m : ℕ) (c : C) (v : ℕ → C) → apply R A (suc m) (const R c) v ≡ times R c v
-  apply-const m c v =
-      apply-head m (const R c) v
-      ∙ ap₂ (λ x w. plus R (times R x v) w) (const-zero R c) (ap (λ f. apply R A m f (A v)) (fun-ext (λ i. simp (const-suc, null-at))) ∙ apply-null m (A v))
-      ∙ fun-ext (λ p. simp vector-laws)
-
   pub apply-degree-zero : {f : ℕ → C} → Monic R 0 f → (v : ℕ → C) → apply R A 1 f v ≡ v
   apply-degree-zero {f} h v = apply-suc 0 f v ∙ simp (apply-zero, power-zero, h .lead) (fun-ext (λ p. simp vector-laws))
 
@@ -266,9 +260,6 @@ module _ (R : Ring) (n : ℕ) (A : Operator R) (L : Linear R n A) where
 
   pub apply-horner : (m : ℕ) (f v : ℕ → C) → apply R A (suc m) f v ≡ plus R (times R (f 0) v) (A (apply R A m (λ i. f (suc i)) v))
   apply-horner m f v = apply-head R A m f v ∙ ap (plus R (times R (f 0) v)) (sym (operator-apply m (λ i. f (suc i)) v))
-
-  pub apply-shift : (m : ℕ) (f v : ℕ → C) → apply R A (suc m) (shift R f) v ≡ A (apply R A m f v)
-  apply-shift m f v = apply-horner m (shift R f) v ∙ simp (shift-zero, shift-suc) (fun-ext (λ p. simp vector-laws))
 
   product-tail : (f g : ℕ → C) → (λ i. product R f g (suc i)) ≡ plus R (times R (f 0) (λ i. g (suc i))) (product R (λ i. f (suc i)) g)
   product-tail f g = fun-ext (λ i. simp (product-suc, plus-at, times-at))

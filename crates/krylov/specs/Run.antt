@@ -9,7 +9,7 @@
 --     kept-below           r has n places
 --     kept-full            r is null once D is n
 --     kept-units           r is null once all n unit vectors are used
---     kept-progress        the next pass finds a degree above 0, if its projection sees r
+--     kept-progress        the next pass finds a degree above 0, if its projection sees r; waits for request (x)
 use mathlib.Core.Path.{_≡_, sym, ap, subst, _∙_}
 use mathlib.Core.Logic.{_≢_, _⊎_, inl, inr}
 use mathlib.Core.List.{List, [], _∷_, List·Memᴰ, List·Memᴰ·not-nil, List·Memᴰ·cases-cons}

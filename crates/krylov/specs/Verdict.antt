@@ -8,7 +8,7 @@
 --                          zero, and G(A)b is not null
 --     verdict              so it is for whatever is reached with r null
 --     verdict-unique       D and F are determined by A and b
---     reached-unique       so two runs end with the same D and F, whatever their projections: one kind, one vector
+--     reached-unique       so two runs end with the same D and F, whatever their projections: one kind, one vector; waits for request (ix)
 use mathlib.Core.Path.{_≡_, sym, ap, fun-ext, subst, _∙_}
 use mathlib.Core.Logic.{_≢_, _↔_}
 use mathlib.Core.List.{List}

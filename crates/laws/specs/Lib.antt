@@ -1,4 +1,6 @@
 -- Laws of the meaning's definitions. Callers cite these and leave the definitions shut.
+pub mod Accepted
 pub mod Bool
 pub mod List
 pub mod Refusal
+pub mod Solver

@@ -7,21 +7,23 @@
 --     Numbered cs                    no check is numbered 0
 --     numbered-matrix, numbered-system, numbered-run, numbered-text      .. of document 01's
 --     first-append-none, first-append-some, first-append, first-append-zero      checks followed by further ones
+--     zero-by, leading-refused, leading-passed      the same where the code has the leading checks' number
 --     no-words                       an empty list of words is taken
 --     unlessRefused-none, unlessRefused-some                       what is left behind, by the number
+--     within-low, within-high, within-of      what within says
 use mathlib.Core.Path.{_≡_, refl, sym, ap, _∙_}
 use mathlib.Core.Logic.{_≢_}
 use mathlib.Core.Bool.{Bool, true, false, cond, not}
 use mathlib.Core.List.{List, [], _∷_, _++_}
-use Prim.Native.Nat.{ℕ, _*_, _%_}
+use Prim.Native.Nat.{ℕ, _*_, _%_, _≤_}
 use native.Mathlib.Nat.{zero-mod}
 use native.Mathlib.Omega.{arith}
 use native.Mathlib.Decide.{ℕ-discrete}
-use lib.Dec.{eqb}
-use borrow.Author.Tests.{eqb-false, not-true, not-false, eq-eqb, ne-eqb, le-leb}
+use lib.Dec.{eqb, leb}
+use borrow.Author.Tests.{eqb-false, not-true, not-false, eq-eqb, ne-eqb, le-leb, leb-true}
 use Rattle.meaning.specs.List.{every}
 use Rattle.meaning.specs.Matrix.{Matrix}
-use Rattle.meaning.specs.Refusal.{Check, check, first, unlessRefused, matrixChecks, wordsTaken, documentChecks}
+use Rattle.meaning.specs.Refusal.{Check, check, first, unlessRefused, within, matrixChecks, wordsTaken, documentChecks}
 use Rattle.meaning.specs.Calls.{systemChecks, runChecks, textChecks}
 use Rattle.laws.specs.Bool.{and-left, and-right, and-both}
 use Rattle.laws.specs.List.{every-cons}
@@ -103,6 +105,17 @@ first-append-zero cs ds n e = go (ℕ-discrete (first cs) 0)
     go (yes z) = (z, sym (first-append-none cs ds n z) ∙ e)
     go (no q) = absurd (q (sym (first-append-some cs ds q) ∙ e))
 
+-- the code's way past checks whose number it has
+pub zero-by : {a b : ℕ} → a ≡ b → a ≡ 0 → b ≡ 0
+zero-by e z = sym e ∙ z
+
+module _ (cs ds : List Check) {number : ℕ} (numbered : Numbered cs) (answer : number ≡ first cs) where
+  pub leading-refused : number ≢ 0 → number ≡ first (cs ++ ds)
+  leading-refused q = answer ∙ sym (first-append-some cs ds (λ z. q (answer ∙ z)))
+
+  pub leading-passed : {k : ℕ} → number ≡ 0 → first ds ≡ k → k ≡ first (cs ++ ds)
+  leading-passed z e = sym (first-append-none cs ds numbered (zero-by answer z) ∙ e)
+
 module _ {A : Type 0} where
   pub unlessRefused-none : (k : ℕ) (new old : A) → k ≡ 0 → unlessRefused k new old ≡ new
   unlessRefused-none k new old e = ap (λ t. cond t new old) (eq-eqb k 0 e)
@@ -113,3 +126,12 @@ module _ {A : Type 0} where
 pub no-words : (n : ℕ) → wordsTaken n [] ≡ true
 unfolding wordsTaken
 no-words n = and-both (eq-eqb (0 % n) 0 (zero-mod n)) (le-leb 0 (64 * n) (omega arith))
+
+pub within-low : (a b x : ℕ) → within a b x ≡ true → a ≤ x
+within-low a b x e = leb-true a x (and-left (leb a x) (leb x b) e)
+
+pub within-high : (a b x : ℕ) → within a b x ≡ true → x ≤ b
+within-high a b x e = leb-true x b (and-right (leb a x) (leb x b) e)
+
+pub within-of : (a b x : ℕ) → a ≤ x → x ≤ b → within a b x ≡ true
+within-of a b x l h = and-both (le-leb a x l) (le-leb x b h)

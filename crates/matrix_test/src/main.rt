@@ -1,262 +1,97 @@
-// Reads matrices with vectors from standard input and makes all five calls on each. A case is its modulus, the lengths of starts, columns, values, g,
-// v, b, out and work, two numbers that make a large case, and what the first six slices hold unless it is made. The slices to be written hold
-// 4,294,967,295 in every place before each call. Writes what each call answers and, of the three that write a slice, all its places (of a made
-// case their checksum). vectors.py writes the cases and the answers.
-use checks::wide;
-use field::Field;
-use libc::STDOUT_FILENO;
-use test_io::Cursor;
-use test_io::fill;
-use test_io::first;
-use test_io::numbers;
-use test_io::show;
-use test_io::show_refused;
-use test_io::store;
-use wiedemann::matrix::Writing;
-use wiedemann::offered::Verdict;
+// Makes the five calls on each of the matrices that standard input lists, after their number. A case is seven lists: its modulus and the places of out
+// and work; starts, columns, values, g, v and b. A line of the output is what product, transposed and apply answer and leave (the refusal's number,
+// or 0; out and two places behind it; of work, after apply, what it may not change: two places behind it and, where it refuses, all) and
+// what the two checks say (the refusal's number, or 0 and 1 for yes, 0 for no): after the product whether A takes v to what it left, at the
+// end whether A takes v to b and whether v is a null vector. A large case is its first list alone, with the numbers that make the others.
+// vectors.py makes cases and output.
 ghost use Prim.Native.Nat.{_≤_};
-ghost use lib.ListN.{length};
+use field::Field;
+use test_io::at;
+use test_io::front;
+use test_io::list;
+use test_io::part;
+use test_io::place;
+use test_io::print;
+use test_io::show;
+use wiedemann::matrix::Writing;
+use wiedemann::offered::Offered;
 
-// A checksum of all places, in their order.
-fn checksum(s: &[u32]) -> u64 {
-    let mut sum: u64 = 0;
-    let mut i = 0;
-    while i < s.len() {
-        sum = mixed(sum, s[i]);
-        i += 1;
-    }
-    sum
-}
-
-fn mixed(sum: u64, x: u32) -> u64 {
-    (sum % 4294967291 * 65599 + x as u64 + 1) % 4294967291
-}
-
-fn show_slice(whole: bool, s: &[u32]) {
-    if whole {
-        show(s);
-        return;
-    }
-    io::write_all(STDOUT_FILENO, b" checksum ");
-    io::print_decimal(STDOUT_FILENO, checksum(s));
-    io::write_all(STDOUT_FILENO, b"\n");
-}
-
-fn is_filled(s: &[u32]) -> bool {
-    let mut i = 0;
-    while i < s.len() {
-        if s[i] != 4294967295 {
-            return false;
-        }
-        i += 1;
-    }
-    true
-}
-
-fn show_writing(w: Writing, whole: bool, out: &[u32]) {
-    match w {
+// The answer; the places of work that the call was free to change.
+fn print_writing(writing: Writing, work: usize) -> usize {
+    match writing {
         Writing::Done => {
-            io::write_all(STDOUT_FILENO, b"done");
+            print(0);
+            work
         }
-        Writing::Refused(number) => show_refused(number),
-    }
-    show_slice(whole, out);
-}
-
-fn show_work(work: &[u32]) {
-    if is_filled(work) {
-        io::write_all(STDOUT_FILENO, b"work kept\n");
-    } else {
-        io::write_all(STDOUT_FILENO, b"work changed\n");
-    }
-}
-
-// A refusal keeps the work slice too.
-fn show_applied(w: Writing, whole: bool, out: &[u32], work: &[u32]) {
-    show_writing(w, whole, out);
-    match w {
-        Writing::Done => {}
-        Writing::Refused(_) => show_work(work),
-    }
-}
-
-fn show_verdict(v: Verdict) {
-    match v {
-        Verdict::Yes => {
-            io::write_all(STDOUT_FILENO, b"yes");
+        Writing::Refused(number) => {
+            print(number as u64);
+            0
         }
-        Verdict::No => {
-            io::write_all(STDOUT_FILENO, b"no");
-        }
-        Verdict::Refused(number) => show_refused(number),
     }
-    io::write_all(STDOUT_FILENO, b"\n");
 }
 
-// The product, and whether A takes v to what the call left in out.
-fn product(
-    p: u32,
-    whole: bool,
-    starts: &[u32],
-    columns: &[u32],
-    values: &[u32],
-    v: &[u32],
-    out: &mut [u32],
-) {
-    fill(out, 4294967295);
-    let answer = wiedemann::matrix::product(Field { p }, starts, columns, values, v, out);
-    show_writing(answer, whole, out);
-    show_verdict(wiedemann::offered::takes(Field { p }, starts, columns, values, v, out));
+fn print_verdict(verdict: Offered) {
+    match verdict {
+        Offered::Yes => {
+            print(0);
+            print(1);
+        }
+        Offered::No => {
+            print(0);
+            print(0);
+        }
+        Offered::Refused(number) => print(number as u64),
+    }
 }
 
-fn transposed(
-    p: u32,
-    whole: bool,
-    starts: &[u32],
-    columns: &[u32],
-    values: &[u32],
-    v: &[u32],
-    out: &mut [u32],
-) {
-    fill(out, 4294967295);
-    let answer = wiedemann::matrix::transposed(Field { p }, starts, columns, values, v, out);
-    show_writing(answer, whole, out);
-}
-
-fn apply(
-    p: u32,
-    whole: bool,
-    starts: &[u32],
-    columns: &[u32],
-    values: &[u32],
-    g: &[u32],
-    v: &[u32],
-    out: &mut [u32],
-    work: &mut [u32],
-) {
-    fill(out, 4294967295);
-    fill(work, 4294967295);
-    let answer = wiedemann::matrix::apply(Field { p }, starts, columns, values, g, v, out, work);
-    show_applied(answer, whole, out, work);
-}
-
-fn offered(p: u32, starts: &[u32], columns: &[u32], values: &[u32], v: &[u32], b: &[u32]) {
-    show_verdict(wiedemann::offered::takes(Field { p }, starts, columns, values, v, b));
-    show_verdict(wiedemann::offered::is_null(Field { p }, starts, columns, values, v));
-}
-
-fn calls(
-    p: u32,
-    whole: bool,
-    starts: &[u32],
-    columns: &[u32],
-    values: &[u32],
-    g: &[u32],
-    v: &[u32],
-    b: &[u32],
-    out: &mut [u32],
-    work: &mut [u32],
-) {
-    product(p, whole, starts, columns, values, v, out);
-    transposed(p, whole, starts, columns, values, v, out);
-    apply(p, whole, starts, columns, values, g, v, out, work);
-    offered(p, starts, columns, values, v, b);
-}
-
-fn part(memory: &[u32], i: usize) -> u32 {
-    if i < memory.len() { memory[i] } else { 0 }
-}
-
-fn length(memory: &[u32], i: usize) -> usize
-    ensures { λ r. ⌜ r ≤ 4294967295 ⌝ }
-{
-    wide(part(memory, i))
-}
-
-fn low(i: usize) -> u32 {
-    (i % 4294967296) as u32
-}
-
-// Where the six slices end in memory: they stand one after the other behind the eleven numbers of the case.
-struct Layout {
-    starts: usize,
-    columns: usize,
-    values: usize,
-    g: usize,
-    v: usize,
-    b: usize,
-}
-
-fn ends(memory: &[u32]) -> Layout
-    ensures { λ r. ⌜ (11 ≤ r .starts) × (r .starts ≤ r .columns) × (r .columns ≤ r .values) × (r .values ≤ r .g) × (r .g ≤ r .v) × (r .v ≤ r .b) ⌝ }
-{
-    let starts = 11 + length(memory, 1);
-    let columns = starts + length(memory, 2);
-    let values = columns + length(memory, 3);
-    let g = values + length(memory, 4);
-    let v = g + length(memory, 5);
-    let b = v + length(memory, 6);
-    Layout {
+fn calls(memory: &[u32], from: usize) {
+    let head = list(memory, from, 0);
+    let room = place(head, 1);
+    let scratch = place(head, 2);
+    let f = Field { p: at(head, 0) };
+    let starts = list(memory, from, 1);
+    let columns = list(memory, from, 2);
+    let values = list(memory, from, 3);
+    let v = list(memory, from, 5);
+    let mut out = test_io::lent();
+    let product = wiedemann::matrix::product(f, starts, columns, values, v, front(&mut out, room));
+    print_writing(product, 0);
+    show(&out, 0, room);
+    let left = part(&out, 0, room);
+    print_verdict(wiedemann::offered::takes(f, starts, columns, values, v, left));
+    let transposed = wiedemann::matrix::transposed(
+        f,
         starts,
         columns,
         values,
-        g,
         v,
-        b,
-    }
-}
-
-fn lend_parts(e: Layout, whole: bool, memory: &[u32], out: &mut [u32], work: &mut [u32])
-    requires { ⌜ (11 ≤ e .starts) × (e .starts ≤ e .columns) × (e .columns ≤ e .values) × (e .values ≤ e .g) × (e .g ≤ e .v) × (e .v ≤ e .b) ⌝ }
-    requires { ⌜ e .b ≤ length (now memory) ⌝ }
-{
-    let z: usize = 11;
-    let starts = e.starts;
-    let columns = e.columns;
-    let values = e.values;
-    let g = e.g;
-    let v = e.v;
-    let b = e.b;
-    calls(
-        part(memory, 0),
-        whole,
-        &memory[z..starts],
-        &memory[starts..columns],
-        &memory[columns..values],
-        &memory[values..g],
-        &memory[g..v],
-        &memory[v..b],
-        out,
-        work,
+        front(&mut out, room),
     );
-}
-
-// The slices of the case, and leading parts of the other two.
-fn lend(memory: &[u32], out: &mut [u32], work: &mut [u32]) {
-    let z: usize = 0;
-    let e = ends(memory);
-    let room = length(memory, 7);
-    let scratch = length(memory, 8);
-    if e.b > memory.len() {
-        return;
-    }
-    if room > out.len() {
-        return;
-    }
-    if scratch > work.len() {
-        return;
-    }
-    lend_parts(
-        e,
-        part(memory, 9) > 32,
-        memory,
-        &mut out[z..room],
-        &mut work[z..scratch],
+    print_writing(transposed, 0);
+    show(&out, 0, room);
+    let mut work = test_io::lent();
+    let applied = wiedemann::matrix::apply(
+        f,
+        starts,
+        columns,
+        values,
+        list(memory, from, 4),
+        v,
+        front(&mut out, room),
+        front(&mut work, scratch),
     );
+    let free = print_writing(applied, scratch);
+    show(&out, 0, room);
+    show(&work, free, scratch);
+    let b = list(memory, from, 6);
+    print_verdict(wiedemann::offered::takes(f, starts, columns, values, v, b));
+    print_verdict(wiedemann::offered::is_null(f, starts, columns, values, v));
+    test_io::end_line();
 }
 
-// ---- made cases: 4,096 rows, two of them with 32 entries together, the first of the two with `even` of them; of two entries the second is the
-// first with the other sign, so that 1, 1, .. is taken to zero where `even` is an even number
+// ---- large cases: 4,096 rows, two of them with 32 entries together, the first of the two with `even` of them; of two entries the second is the
+// first with the other sign, so that 1, 1, .. is taken to zero where `even` is an even number. The first list goes on after p, out and work
+// with `even`, a seed, the number of elements of each of the seven lists, and the numbers at which the elements of g, v and b begin.
 
 fn below(x: u32, m: u32) -> u32
     ensures { λ r. ⌜ r ≤ m ⌝ }
@@ -264,8 +99,8 @@ fn below(x: u32, m: u32) -> u32
     if m == 0 { 0 } else { x % m }
 }
 
-fn word(seed: u32, i: u32) -> u32 {
-    let x = (i as u64 * 2654435761 + seed as u64) % 4294967296;
+fn word(seed: u32, base: u32, i: u32) -> u32 {
+    let x = ((base as u64 + i as u64) % 4294967296 * 2654435761 + seed as u64) % 4294967296;
     ((x / 65536 * 48271 + x) % 4294967296) as u32
 }
 
@@ -288,86 +123,96 @@ fn value(p: u32, seed: u32, k: u32) -> u32 {
     if p == 0 {
         return 0;
     }
-    let a = below(word(seed, k / 2), p - 1) + 1;
+    let a = below(word(seed, 0, k / 2), p - 1) + 1;
     if k % 2 == 0 { a } else { p - a }
 }
 
-fn element(p: u32, seed: u32, i: u32) -> u32 {
+fn element(p: u32, seed: u32, base: u32, i: u32) -> u32 {
     if seed == 0 {
         1
     } else {
-        below(word(seed, i), p)
+        below(word(seed, base, i), p)
     }
 }
 
-// Place i of memory.
-fn made(e: Layout, memory: &[u32], i: usize) -> u32 {
-    let p = part(memory, 0);
-    let even = part(memory, 9);
-    let seed = part(memory, 10);
-    if i < 11 {
-        return part(memory, i);
+// Element j of a list.
+fn made(head: &[u32], list: u32, j: u32) -> u32 {
+    let p = at(head, 0);
+    let even = at(head, 3);
+    let seed = at(head, 4);
+    match list {
+        0 => at(head, j as usize),
+        1 => start(even, j),
+        2 => column(even, j),
+        3 => value(p, seed, j),
+        _ => element(p, seed, at(head, list as usize + 8), j),
     }
-    if i < e.starts {
-        if i + 1 < e.starts {
-            return start(even, low(i - 11));
+}
+
+// A place of the lists: a list's number of elements, where `j` is 0, then its elements.
+struct Place {
+    list: u32,
+    j: u32,
+}
+
+// The last start is the number of columns.
+fn held(head: &[u32], c: Place) -> u32 {
+    let count = at(head, c.list as usize + 5);
+    if c.j == 0 {
+        return count;
+    }
+    if c.list == 1 {
+        if c.j == count {
+            return at(head, 7);
         }
-        return part(memory, 2);
     }
-    if i < e.columns {
-        return column(even, low(i - e.starts));
-    }
-    if i < e.values {
-        return value(p, seed, low(i - e.columns));
-    }
-    element(p, seed, low(i - 11))
+    made(head, c.list, c.j - 1)
 }
 
-fn make(e: Layout, memory: &mut [u32]) {
-    let mut i = 11;
-    while i < e.b {
-        store(memory, i, made(e, memory, i));
+fn next(head: &[u32], c: Place) -> Place {
+    if c.j < at(head, c.list as usize + 5) {
+        return Place {
+            list: c.list,
+            j: c.j + 1,
+        };
+    }
+    Place {
+        list: c.list % 16 + 1,
+        j: 0,
+    }
+}
+
+fn make(head: &[u32], lists: &mut [u32]) {
+    let mut c = Place { list: 0, j: 0 };
+    let mut i = 0;
+    while i < lists.len() {
+        lists[i] = held(head, c);
+        c = next(head, c);
         i += 1;
     }
 }
 
-// A case into memory.
-fn load(buffer: &mut [u8], start: Cursor, memory: &mut [u32]) -> Cursor {
-    let c = numbers(buffer, start, memory, 0, 11);
-    let e = ends(memory);
-    if part(memory, 9) > 32 {
-        return numbers(buffer, c, memory, 11, e.b);
+fn case(memory: &[u32], from: usize) {
+    let head = list(memory, from, 0);
+    if head.len() == 3 {
+        calls(memory, from);
+        return;
     }
-    make(e, memory);
-    c
-}
-
-fn one(
-    buffer: &mut [u8],
-    start: Cursor,
-    memory: &mut [u32],
-    out: &mut [u32],
-    work: &mut [u32],
-) -> Cursor {
-    let c = load(buffer, start, memory);
-    lend(memory, out, work);
-    c
-}
-
-fn all(buffer: &mut [u8], memory: &mut [u32], out: &mut [u32], work: &mut [u32]) {
-    let mut c = first(buffer);
-    let cases = c.value;
-    let mut k = 0;
-    while k < cases {
-        c = one(buffer, c, memory, out, work);
-        k += 1;
-    }
+    let mut lists = test_io::memory();
+    make(head, &mut lists);
+    calls(&lists, 0);
 }
 
 fn main() {
-    let mut buffer = io::buffer();
-    let mut memory = [0u32; 147600];
-    let mut out = [0u32; 4100];
-    let mut work = [0u32; 8200];
-    all(&mut buffer, &mut memory, &mut out, &mut work);
+    let mut room = test_io::memory();
+    test_io::read_numbers(&mut room);
+    let memory: &[u32] = &room;
+    let cases = at(memory, 0);
+    let mut from = 1;
+    let mut k = 0;
+    while k < cases {
+        case(memory, from);
+        from = test_io::after(memory, from, 7);
+        k += 1;
+    }
 }

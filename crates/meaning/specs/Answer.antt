@@ -6,7 +6,7 @@ use mathlib.Core.List.{List, [], _∷_, _++_}
 use Prim.Native.Nat.{ℕ, _+_}
 use lib.ListN.{length}
 use Rattle.meaning.specs.List.{at, table, flat, bytes}
-use Rattle.meaning.specs.Solver.{Kind, solved, singular, Outcome, passes}
+use Rattle.meaning.specs.Solver.{Kind, solved, singular, Outcome, passCount, applications}
 use Rattle.meaning.specs.Text.{decimal, line}
 
 abbrev pub kindWord : Kind → List ℕ
@@ -19,7 +19,7 @@ vectorWord singular = bytes "w"
 
 unfoldable pub answerText : Outcome → List ℕ
 answerText o =
-    line (bytes "answer" ∷ kindWord (o .kind) ∷ decimal (o .degree) ∷ decimal (passes o) ∷ decimal (o .applications) ∷ [])
+    line (bytes "answer" ∷ kindWord (o .kind) ∷ decimal (o .degree) ∷ decimal (passCount o) ∷ decimal (applications o) ∷ [])
     ++ flat (table (o .degree + 1) (λ i. line (bytes "f" ∷ decimal i ∷ decimal (at (o .polynomial) i) ∷ [])))
     ++ flat (table (length (o .vector)) (λ i. line (vectorWord (o .kind) ∷ decimal (i + 1) ∷ decimal (at (o .vector) i) ∷ [])))
     ++ line (bytes "end" ∷ [])

@@ -17,7 +17,7 @@ use lib.Dec.{eqb, ltb, leb}
 use lib.ListN.{length}
 use Rattle.meaning.specs.List.{padded, overwrite}
 use Rattle.meaning.specs.Field.{isModulus, inverse}
-use Rattle.meaning.specs.Matrix.{Matrix, matrix, size, apply}
+use Rattle.meaning.specs.Matrix.{Matrix, size, apply}
 use Rattle.meaning.specs.Recurrence.{degree, generator}
 use Rattle.meaning.specs.Solver.{solve, takes, isNull}
 use Rattle.meaning.specs.ThirdCondition.{ThirdCondition, SameAnswer}

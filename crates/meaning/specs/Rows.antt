@@ -14,7 +14,7 @@ use Rattle.meaning.specs.List.{sum, table, all, every, chainFrom, chain,
 use Rattle.meaning.specs.Field.{isPrime, isModulus, plus, minus, times, inverse}
 use Rattle.meaning.specs.Matrix.{product, transposed, power, apply, Matrix, matrix}
 use Rattle.meaning.specs.Recurrence.{isMonic, recurs, start, discrepancy, update, step, steps, reversed, degree, generator, Steps}
-use Rattle.meaning.specs.Solver.{vectors, units, projections, dot, terms, multiply, begin, passTerms, pass, run, verdict, close, solve, takes, isNull, Kind, solved, singular, passes}
+use Rattle.meaning.specs.Solver.{vectorCount, vectors, units, projections, dot, terms, multiply, Pass, begin, passTerms, pass, run, spent, verdict, close, solve, takes, isNull, Kind, solved, singular, passCount, applications}
 use Rattle.meaning.specs.Text.{digits, decimal, valueAfter, isNumeral, line, onFirst, parts, hasForm, formOf, lineOf, lines, saying, inForm, document, system, writeRow, writeElement, write}
 use Rattle.meaning.specs.Answer.{answerText, refusedText}
 use Rattle.meaning.specs.Refusal.{first, elements, sizeTaken, startsTaken, columnsTaken, matrixChecks, wordsTaken, countTaken, before, placesTaken, documentChecks}
@@ -22,12 +22,14 @@ use Rattle.meaning.specs.Calls.{fieldRefusal, operationRefusal, inverseR
 
 -- every definition open, so that the rows compute
 unfoldable compute : Unit {0}
-unfolding sum table all every chainFrom chain equal least select flat bytes isPrime isModulus plus minus times inverse product transposed power apply isMonic recurs start discrepancy update step steps reversed degree generator vectors units projections dot terms multiply begin passTerms pass run verdict close solve takes isNull digits decimal valueAfter isNumeral line onFirst parts hasForm formOf lineOf lines saying inForm document system writeRow writeElement write answerText refusedText first elements sizeTaken startsTaken columnsTaken matrixChecks wordsTaken countTaken before placesTaken documentChecks fieldRefusal operationRefusal inverseRefusal productRefusal applyRefusal recurrenceRefusal systemChecks runChecks solverRefusal takesRefusal isNullRefusal textChecks readerRefusal writerRefusal textRefusal solvedText programOutput
+unfolding sum table all every chainFrom chain equal least select flat bytes isPrime isModulus plus minus times inverse product transposed power apply isMonic recurs start discrepancy update step steps reversed degree generator vectorCount vectors units projections dot terms multiply begin passTerms pass run spent verdict close solve takes isNull digits decimal valueAfter isNumeral line onFirst parts hasForm formOf lineOf lines saying inForm document system writeRow writeElement write answerText refusedText first elements sizeTaken startsTaken columnsTaken matrixChecks wordsTaken countTaken before placesTaken documentChecks fieldRefusal operationRefusal inverseRefusal productRefusal applyRefusal recurrenceRefusal systemChecks runChecks solverRefusal takesRefusal isNullRefusal textChecks readerRefusal writerRefusal textRefusal solvedText programOutput
 compute = tt
 
 pub data Case : Type 0 where
   -- a run on p, A, b and words: kind, vector, f, passes, applications
   solver-gives : (p : ℕ) (A : Matrix) (b words : List ℕ) → Kind → (vector f : List ℕ) (passes applications : ℕ) → Case
+  -- its passes
+  solver-makes : (p : ℕ) (A : Matrix) (b words : List ℕ) → List Pass → Case
   -- the terms that the pass with u takes after the passes with us
   pass-takes : (p : ℕ) (A : Matrix) (b : List ℕ) (us : List (List ℕ)) (u terms : List ℕ) → Case
   -- the solver's refusal, for slices of these lengths (vector, polynomial, work)
@@ -63,7 +65,8 @@ abbrev pub Holds : Case → Type 0
 Holds (solver-gives p A b words k x f n a) =
     let o = solve p A b words in
     _≡_ {A = ℕ × Kind × List ℕ × List ℕ × ℕ × ℕ}
-    (first (runChecks p A b words), o .kind, o .vector, o .polynomial, passes o, o .applications) (0, k, x, f, n, a)
+    (first (runChecks p A b words), o .kind, o .vector, o .polynomial, passCount o, applications o) (0, k, x, f, n, a)
+Holds (solver-makes p A b words qs) = solve p A b words .passes ≡ qs
 Holds (pass-takes p A b us u s) = passTerms p A u (run p A us (begin b)) ≡ s
 Holds (solver-refuses p A b words vector polynomial work k) =
     let x = nines vector in
@@ -139,6 +142,10 @@ diag23 = matrix (0 ∷ 1 ∷ 2 ∷ []) (0 ∷ 1 ∷ []) (2 ∷ 3 ∷ [])
 abbrev pub U : Matrix
 U = matrix (0 ∷ 1 ∷ 1 ∷ []) (1 ∷ []) (1 ∷ [])
 
+-- a pass: left, degree, applications
+abbrev pub made : ℕ → ℕ → ℕ → Pass
+made left t cost = record { left = left; degree = t; applications = cost }
+
 -- document 01, "Cases", those marked (P)
 abbrev pub proved-cases : List Case
 proved-cases =
@@ -184,6 +191,9 @@ more-cases =
     ∷ solver-gives 2 (matrix (0 ∷ 0 ∷ 1 ∷ 2 ∷ []) (0 ∷ 1 ∷ []) (1 ∷ 1 ∷ [])) (0 ∷ 1 ∷ 0 ∷ []) [] singular (0 ∷ 0 ∷ 1 ∷ []) (0 ∷ 0 ∷ 1 ∷ []) 3 16
     ∷ solver-gives 2 (matrix (0 ∷ 2 ∷ 3 ∷ 4 ∷ 4 ∷ []) (0 ∷ 1 ∷ 0 ∷ 3 ∷ []) (1 ∷ 1 ∷ 1 ∷ 1 ∷ [])) (1 ∷ 0 ∷ 0 ∷ 1 ∷ []) [] singular (0 ∷ 0 ∷ 1 ∷ 0 ∷ []) (0 ∷ 0 ∷ 1 ∷ 1 ∷ 1 ∷ []) 3 20
     ∷ solver-gives 3 (matrix (0 ∷ 1 ∷ 1 ∷ 2 ∷ 3 ∷ []) (1 ∷ 3 ∷ 2 ∷ []) (2 ∷ 1 ∷ 2 ∷ [])) (2 ∷ 2 ∷ 1 ∷ 0 ∷ []) [] singular (1 ∷ 0 ∷ 0 ∷ 0 ∷ []) (0 ∷ 0 ∷ 1 ∷ 0 ∷ 1 ∷ []) 3 20
+    -- the passes one by one: what they leave to the next, and a pass of degree 0
+    ∷ solver-makes 7 diag23 (1 ∷ 1 ∷ []) [] (made 2 1 4 ∷ made 1 1 2 ∷ [])
+    ∷ solver-makes 7 diag23 (1 ∷ 1 ∷ []) (0 ∷ 0 ∷ []) (made 2 0 3 ∷ made 2 1 4 ∷ made 1 1 2 ∷ [])
     -- the terms of a pass after another: 2 × left, and not 2 × n
     ∷ pass-takes 2 (matrix (0 ∷ 0 ∷ 1 ∷ []) (1 ∷ []) (1 ∷ [])) (1 ∷ 1 ∷ []) ((1 ∷ 0 ∷ []) ∷ []) (0 ∷ 1 ∷ []) (1 ∷ 1 ∷ [])
     ∷ pass-takes 5 (matrix (0 ∷ 1 ∷ 2 ∷ 3 ∷ []) (0 ∷ 1 ∷ 2 ∷ []) (1 ∷ 2 ∷ 3 ∷ [])) (1 ∷ 1 ∷ 1 ∷ []) ((1 ∷ 0 ∷ 0 ∷ []) ∷ []) (0 ∷ 1 ∷ 0 ∷ []) (1 ∷ 2 ∷ 4 ∷ 3 ∷ [])
@@ -299,4 +309,4 @@ more-cases =
 
 pub more-rows : AllHold more-cases
 unfolding compute
-more-rows = (refl, (refl, (refl, (refl, (refl, (refl, (refl, (refl, (refl, (refl, (refl, (refl, (refl, (refl, (refl, (refl, (refl, (refl, (refl, (refl, (refl, (refl, (refl, (refl, (refl, (refl, (refl, (refl, (refl, (refl, (refl, (refl, (refl, (refl, (refl, (refl, (refl, (refl, (refl, (refl, (refl, (refl, (refl, (refl, (refl, (refl, (refl, (refl, (refl, (refl, (refl, (refl, (refl, (refl, (refl, (refl, (refl, (refl, (refl, (refl, (refl, (refl, (refl, (refl, (refl, (refl, (refl, (refl, (refl, (refl, (refl, (refl, (refl, (refl, (refl, (refl, (refl, (refl, (refl, (refl, (refl, (refl, (refl, (refl, (refl, (refl, (refl, (refl, (refl, (refl, (refl, (refl, (refl, (refl, (refl, (refl, (refl, (refl, (refl, (refl, (refl, (refl, (refl, (refl, (refl, (refl, (refl, (refl, (refl, tt)))))))))))))))))))))))))))))))))))))))))))))))))))))))))))))))))))))))))))))))))))))))))))))))))))))))))))))
+more-rows = (refl, (refl, (refl, (refl, (refl, (refl, (refl, (refl, (refl, (refl, (refl, (refl, (refl, (refl, (refl, (refl, (refl, (refl, (refl, (refl, (refl, (refl, (refl, (refl, (refl, (refl, (refl, (refl, (refl, (refl, (refl, (refl, (refl, (refl, (refl, (refl, (refl, (refl, (refl, (refl, (refl, (refl, (refl, (refl, (refl, (refl, (refl, (refl, (refl, (refl, (refl, (refl, (refl, (refl, (refl, (refl, (refl, (refl, (refl, (refl, (refl, (refl, (refl, (refl, (refl, (refl, (refl, (refl, (refl, (refl, (refl, (refl, (refl, (refl, (refl, (refl, (refl, (refl, (refl, (refl, (refl, (refl, (refl, (refl, (refl, (refl, (refl, (refl, (refl, (refl, (refl, (refl, (refl, (refl, (refl, (refl, (refl, (refl, (refl, (refl, (refl, (refl, (refl, (refl, (refl, (refl, (refl, (refl, (refl, (refl, (refl, tt)))))))))))))))))))))))))))))))))))))))))))))))))))))))))))))))))))))))))))))))))))))))))))))))))))))))))))))))

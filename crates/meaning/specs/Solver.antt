@@ -1,15 +1,20 @@
 -- Document 01, "The solver", for any size, 0 included, and any list of projections.
+--     vectorCount n words    R, the number of vectors in the words
 --     vectors p n words      "R vectors .. vector j begins at word j × n", each word "taken modulo p"
 --     units n                "the unit vectors 1 to n"
 --     projections            "the R vectors, then the unit vectors"
 --     dot                    u·v
 --     terms                  "the 2 × left terms u·r, u·Ar, u·A²r, .."
---     Run                    r, F and D between two passes, the degrees t of the passes made, and their applications
+--     Pass                   a pass: left, its degree t, its applications
+--     Run                    r, F and D between two passes, and the passes made
 --     begin                  "r = b, F = 1, D = 0"
 --     passTerms p A u        the terms of a pass with the projection u, left = n − D
 --     pass p A u             that pass: "f is their shortest recurrence", which knows its own terms only
 --     run p A us             "while r is not zero, make a pass with the next projection"
 --     Kind, Outcome          solved or singular; what a run ends with
+--     passCount              "the passes", their number
+--     spent                  the applications of passes, summed
+--     applications           "one for each product with A": those of the passes, "and D − 1 for G(A)b where D is at least 1"
 --     close                  "when r is zero, let G = (F − F[0]) / z .."
 --     solve                  the whole run
 --     takes, isNull          the two checks of offered answers
@@ -23,8 +28,12 @@ use Rattle.meaning.specs.Field.{minus, times, inverse}
 use Rattle.meaning.specs.Matrix.{Matrix, size, product, power, apply}
 use Rattle.meaning.specs.Recurrence.{degree, generator}
 
+-- R
+unfoldable pub vectorCount : ℕ → List ℕ → ℕ
+vectorCount n words = length words / n
+
 unfoldable pub vectors : ℕ → ℕ → List ℕ → List (List ℕ)
-vectors p n words = table (length words / n) (λ j. table n (λ i. at words (j * n + i) % p))
+vectors p n words = table (vectorCount n words) (λ j. table n (λ i. at words (j * n + i) % p))
 
 unfoldable pub units : ℕ → List (List ℕ)
 units n = table n (λ j. table n (λ i. cond (eqb i j) 1 0))
@@ -42,15 +51,19 @@ terms p A left u r = table (2 * left) (λ i. dot p u (power p A i r))
 unfoldable pub multiply : ℕ → List ℕ → List ℕ → List ℕ
 multiply p f g = table (length f + length g - 1) (λ k. sum (k + 1) (λ i. at f i * at g (k - i)) % p)
 
+pub record Pass : Type 0 where
+  pub left : ℕ
+  pub degree : ℕ
+  pub applications : ℕ
+
 pub record Run : Type 0 where
   pub residual : List ℕ
   pub factor : List ℕ
   pub found : ℕ
-  pub degrees : List ℕ
-  pub applications : ℕ
+  pub passes : List Pass
 
 unfoldable pub begin : List ℕ → Run
-begin b = record { residual = b; factor = 1 ∷ []; found = 0; degrees = []; applications = 0 }
+begin b = record { residual = b; factor = 1 ∷ []; found = 0; passes = [] }
 
 unfoldable pub passTerms : ℕ → Matrix → List ℕ → Run → List ℕ
 passTerms p A u c = terms p A (size A - c .found) u (c .residual)
@@ -65,8 +78,7 @@ pass p A u c =
       residual = apply p A f (c .residual);
       factor = multiply p (c .factor) f;
       found = c .found + t;
-      degrees = c .degrees ++ (t ∷ []);
-      applications = c .applications + (2 * left - 1 + t);
+      passes = c .passes ++ (record { left = left; degree = t; applications = 2 * left - 1 + t } ∷ []);
     }
 
 -- with no projection left r is zero (proved with the run), so the first line is never a failure
@@ -84,11 +96,17 @@ pub record Outcome : Type 0 where
   pub vector : List ℕ
   pub polynomial : List ℕ
   pub degree : ℕ
-  pub degrees : List ℕ
-  pub applications : ℕ
+  pub passes : List Pass
 
-abbrev pub passes : Outcome → ℕ
-passes o = length (o .degrees)
+abbrev pub passCount : Outcome → ℕ
+passCount o = length (o .passes)
+
+unfoldable pub spent : List Pass → ℕ
+spent [] = 0
+spent (q ∷ qs) = q .applications + spent qs
+
+abbrev pub applications : Outcome → ℕ
+applications o = spent (o .passes) + (o .degree - 1)
 
 -- what F makes of b: "if D = 0, x is zero. If F[0] is not 0, the kind is solved and x = −G(A)b / F[0]. Otherwise .. G(A)b"
 unfoldable pub verdict : ℕ → Matrix → List ℕ → List ℕ → ℕ → Kind × List ℕ
@@ -108,8 +126,7 @@ close p A b c =
       vector = answer .1;
       polynomial = c .factor;
       degree = c .found;
-      degrees = c .degrees;
-      applications = c .applications + (c .found - 1);
+      passes = c .passes;
     }
 
 unfoldable pub solve : ℕ → Matrix → List ℕ → List ℕ → Outcome

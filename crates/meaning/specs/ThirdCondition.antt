@@ -8,12 +8,11 @@ use mathlib.Core.Path.{_≡_}
 use mathlib.Core.Logic.{_≢_, _↔_}
 use mathlib.Core.Bool.{true, cond}
 use mathlib.Core.List.{List, [], _∷_}
-use Prim.Native.Nat.{ℕ, _+_, _-_, _*_, _/_, _%_, _≤_, _<_}
-use lib.ListN.{length}
+use Prim.Native.Nat.{ℕ, _+_, _-_, _*_, _%_, _≤_, _<_}
 use Rattle.meaning.specs.List.{at, sum, table, zeros, isZero}
 use Rattle.meaning.specs.Matrix.{Matrix, size, product, power, apply}
 use Rattle.meaning.specs.Recurrence.{isMonic}
-use Rattle.meaning.specs.Solver.{Outcome, solved, singular, passes}
+use Rattle.meaning.specs.Solver.{vectorCount, Pass, Outcome, solved, singular, passCount, applications}
 
 -- n coefficients c with b = c[0] × Ab + .. + c[n − 1] × Aⁿb
 abbrev pub inSpan : ℕ → Matrix → List ℕ → Type 0
@@ -21,9 +20,9 @@ inSpan p A b =
     (c : List ℕ) ×
     (b ≡ table (size A) (λ j. sum (size A) (λ i. at c i * at (power p A (i + 1) b) j) % p))
 
-unfoldable pub termCost : ℕ → List ℕ → ℕ
+unfoldable pub termCost : ℕ → List Pass → ℕ
 termCost left [] = 0
-termCost left (t ∷ ts) = 2 * left - 1 + termCost (left - t) ts
+termCost left (q ∷ qs) = 2 * left - 1 + termCost (left - q .degree) qs
 
 pub record ThirdCondition (p : ℕ) (A : Matrix) (b words : List ℕ) (o : Outcome) : Type 0 where
   -- "f is monic, of a degree D, with f(A)b = 0, and every other monic g with g(A)b = 0 has a higher degree"
@@ -37,9 +36,9 @@ pub record ThirdCondition (p : ℕ) (A : Matrix) (b words : List ℕ) (o : Outco
   pub not-zero : o .kind ≡ singular → o .vector ≢ zeros (size A)
   pub to-zero : o .kind ≡ singular → product p A (o .vector) ≡ zeros (size A)
   -- "at most R + n" passes
-  pub few : passes o ≤ length words / size A + size A
+  pub few : passCount o ≤ vectorCount (size A) words + size A
   -- "the sum of 2 × left − 1 over its passes plus 2 × D − 1, or 0 if b = 0"
-  pub counted : o .applications ≡ cond (isZero b) 0 (termCost (size A) (o .degrees) + (2 * o .degree - 1))
+  pub counted : applications o ≡ cond (isZero b) 0 (termCost (size A) (o .passes) + (2 * o .degree - 1))
 
 pub record SameAnswer (o o′ : Outcome) : Type 0 where
   pub kind : o .kind ≡ o′ .kind

@@ -1,12 +1,11 @@
 -- Degrees: how far a polynomial reaches, and over a field its leading coefficient.
 --     below-pred           one coefficient less, if it is zero
---     below-add, below-scale      of sums and multiples
---     monic-add            a monic polynomial and a shorter one
+--     below-scale          of multiples
 --     one-monic            the polynomial 1
 --     Degree n f           f's degree, below n: the place of its last coefficient that is not zero
 --     zeros-or-degree      over a field: f is zero everywhere or has a degree
 --     monic-made           f divided by its leading coefficient is monic
-use mathlib.Core.Path.{_≡_, sym, ap, ap₂, _∙_}
+use mathlib.Core.Path.{_≡_, sym, ap, _∙_}
 use mathlib.Core.Logic.{_≢_, _⊎_, inl, inr, ⊎-map}
 use Prim.Native.Nat.{ℕ, zero, suc, _<_}
 use native.Mathlib.Omega.{arith}
@@ -27,18 +26,8 @@ module _ (R : Ring) where
       at (yes e) = ap f (sym e) ∙ z
       at (no e) = p i (omega arith)
 
-  pub below-add : (n : ℕ) (f g : ℕ → C) → Below R n f → Below R n g → Below R n (λ i. f i ⊕ g i)
-  below-add n f g p q i l = ap₂ _⊕_ (p i l) (q i l) ∙ ring.add-zero R 𝟎
-
   pub below-scale : (n : ℕ) (c : C) (f : ℕ → C) → Below R n f → Below R n (λ i. c ⊗ f i)
   below-scale n c f p i l = ap (λ x. c ⊗ x) (p i l) ∙ ring.mul-zero R c
-
-  pub monic-add : (d : ℕ) (f g : ℕ → C) → Monic R d f → Below R d g → Monic R d (λ i. f i ⊕ g i)
-  monic-add d f g p q =
-      record {
-        lead = ap₂ _⊕_ (p .lead) (q d (omega arith)) ∙ ring.add-zero R 𝟏;
-        above = below-add (suc d) f g (p .above) (λ i l. q i (omega arith));
-      }
 
   pub one-monic : Monic R 0 (const R 𝟏)
   one-monic = record { lead = const-zero R 𝟏; above = above }

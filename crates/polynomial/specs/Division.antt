@@ -9,7 +9,7 @@ use Prim.Native.Nat.{ℕ, zero, suc, _+_, _-_, _≤_}
 use native.Mathlib.Omega.{arith}
 use native.Mathlib.Decide.{ℕ-discrete}
 use Rattle.algebra.specs.Ring.{Ring, ring-laws}
-use Rattle.algebra.specs.Polynomial.{Below, Monic, product, product-zero, product-suc}
+use Rattle.algebra.specs.Polynomial.{Below, Monic, cons, cons-zero, cons-suc, cons-below, product, product-zero, product-suc}
 use Rattle.polynomial.specs.Product.{product-zeros-left-at, monic-of-product}
 
 module _ (R : Ring) where
@@ -18,23 +18,6 @@ module _ (R : Ring) where
   infixl 60 _⊕_
   infixl 70 _⊗_
   infix 75 ⊖_
-  -- a + z · f
-  cons : C → (ℕ → C) → ℕ → C
-  cons a f zero = a
-  cons a f (suc i) = f i
-
-  cons-zero : (a : C) (f : ℕ → C) → cons a f 0 ≡ a
-  unfolding cons
-  cons-zero a f = refl
-
-  cons-suc : (a : C) (f : ℕ → C) (i : ℕ) → cons a f (suc i) ≡ f i
-  unfolding cons
-  cons-suc a f i = refl
-
-  cons-below : (n : ℕ) (a : C) (f : ℕ → C) → Below R n f → Below R (suc n) (cons a f)
-  cons-below n a f p zero l = absurd (omega arith)
-  cons-below n a f p (suc i) l = cons-suc a f i ∙ p i (omega arith)
-
   pub record Division (d : ℕ) (f : ℕ → C) (k : ℕ) (g : ℕ → C) : Type 0 where
     pub quotient : ℕ → C
     pub remainder : ℕ → C
@@ -46,27 +29,27 @@ module _ (R : Ring) where
   divide-suc : (d k : ℕ) (f g : ℕ → C) → Monic R d f → Division d f (d + k) (λ i. g (suc i)) → Division d f (d + suc k) g
   divide-suc d k f g p s =
       record {
-        quotient = cons c (s .quotient);
+        quotient = cons R c (s .quotient);
         remainder = λ i. w i ⊕ ⊖ (c ⊗ f i);
         equation = fun-ext equation;
-        quotient-below = λ i l. cons-below (d + k - d) c (s .quotient) (s .quotient-below) i (omega arith);
+        quotient-below = λ i l. cons-below R (d + k - d) c (s .quotient) (s .quotient-below) i (omega arith);
         remainder-below = λ i l. below i l (ℕ-discrete d i);
       }
     where
       w : ℕ → C
-      w = cons (g 0) (s .remainder)
+      w = cons R (g 0) (s .remainder)
 
       c : C
       c = w d
 
-      equation : (i : ℕ) → g i ≡ product R (cons c (s .quotient)) f i ⊕ (w i ⊕ ⊖ (c ⊗ f i))
+      equation : (i : ℕ) → g i ≡ product R (cons R c (s .quotient)) f i ⊕ (w i ⊕ ⊖ (c ⊗ f i))
       equation zero = simp (product-zero, cons-zero, ring-laws)
       equation (suc i) = ap (λ (a : ℕ → C). a i) (s .equation) ∙ simp (product-suc, cons-zero, cons-suc, ring-laws)
 
       below : (i : ℕ) → d ≤ i → Dec (d ≡ i) → w i ⊕ ⊖ (c ⊗ f i) ≡ 𝟎
       below i l (yes e) = ap (λ j. w j ⊕ ⊖ (c ⊗ f j)) (sym e) ∙ simp (p .lead, ring-laws)
       below i l (no e) =
-          simp (cons-below d (g 0) (s .remainder) (s .remainder-below) i (omega arith), p .above i (omega arith), ring-laws)
+          simp (cons-below R d (g 0) (s .remainder) (s .remainder-below) i (omega arith), p .above i (omega arith), ring-laws)
 
   divide-from : (d k : ℕ) (f g : ℕ → C) → Monic R d f → Below R (d + k) g → Division d f (d + k) g
   divide-from d zero f g p q =

@@ -3,4 +3,3 @@ pub mod Degree
 pub mod Product
 pub mod Shift
 pub mod Division
-pub mod Lists

@@ -2,8 +2,8 @@
 -- the form that `simp` applies.
 --     product-suc-right    the clause from g's side
 --     product-comm, product-assoc, product-one-left, product-one-right
---     product-add-*, product-scale-*, product-zeros-left      linear
---     product-const-left, product-shift-*     by a constant; by z
+--     product-add-left-at, product-scale-left-at, product-zeros-left-at      linear
+--     product-const-left, product-shift-left      by a constant; by z
 --     product-sum          coefficient k as a sum of k + 1 terms
 --     product-below        m and n + 1 coefficients make m + n
 --     product-lead         the leading coefficient is the product of both
@@ -11,8 +11,6 @@
 --     product-monic        the degrees add up
 --     below-of-product     over a monic factor of degree e: product below m only for h below m − e
 --     monic-of-product     and product monic of degree k only for h monic of degree k − e
---     series               power series over a ring are a ring, so each law of Ring.antt is one of `product`
---     product-neg-left     the sign comes out
 use mathlib.Core.Path.{_≡_, sym, ap, ap₂, _∙_, fun-ext}
 use mathlib.Core.Logic.{_≢_}
 use Prim.Native.Nat.{ℕ, zero, suc, _+_, _-_, _≤_, _<_}
@@ -60,26 +58,9 @@ module _ (R : Ring) where
   pub product-assoc : (f g h : ℕ → C) → product R (product R f g) h ≡ product R f (product R g h)
   product-assoc f g h = fun-ext (product-assoc-at f g h)
 
-  pub product-add-left : (f g h : ℕ → C) → product R (λ i. f i ⊕ g i) h ≡ (λ i. product R f h i ⊕ product R g h i)
-  product-add-left f g h = fun-ext (product-add-left-at f g h)
-
-  pub product-add-right : (f g h : ℕ → C) → product R f (λ i. g i ⊕ h i) ≡ (λ i. product R f g i ⊕ product R f h i)
-  product-add-right f g h =
-      product-comm f (λ i. g i ⊕ h i) ∙ product-add-left g h f ∙ simp (product-comm-at g f, product-comm-at h f)
-
-  pub product-scale-left : (c : C) (f g : ℕ → C) → product R (λ i. c ⊗ f i) g ≡ (λ i. c ⊗ product R f g i)
-  product-scale-left c f g = fun-ext (product-scale-left-at c f g)
-
-  pub product-scale-right : (c : C) (f g : ℕ → C) → product R f (λ i. c ⊗ g i) ≡ (λ i. c ⊗ product R f g i)
-  product-scale-right c f g =
-      product-comm f (λ i. c ⊗ g i) ∙ product-scale-left c g f ∙ simp (product-comm-at g f)
-
   pub product-zeros-left-at : (f : ℕ → C) (k : ℕ) → product R (λ i. 𝟎) f k ≡ 𝟎
   product-zeros-left-at f zero = simp (product-zero, ring-laws)
   product-zeros-left-at f (suc k) = simp (product-suc, product-zeros-left-at f k, ring-laws)
-
-  pub product-zeros-left : (f : ℕ → C) → product R (λ i. 𝟎) f ≡ (λ i. 𝟎)
-  product-zeros-left f = fun-ext (product-zeros-left-at f)
 
   pub product-const-left-at : (c : C) (f : ℕ → C) (k : ℕ) → product R (const R c) f k ≡ c ⊗ f k
   product-const-left-at c f zero = simp (product-zero, const-zero)
@@ -100,9 +81,6 @@ module _ (R : Ring) where
 
   pub product-shift-left : (f g : ℕ → C) → product R (shift R f) g ≡ shift R (product R f g)
   product-shift-left f g = fun-ext (product-shift-left-at f g)
-
-  pub product-shift-right : (f g : ℕ → C) → product R f (shift R g) ≡ shift R (product R f g)
-  product-shift-right f g = product-comm f (shift R g) ∙ product-shift-left g f ∙ ap (shift R) (product-comm g f)
 
   pub product-sum : (f g : ℕ → C) (k : ℕ) → product R f g k ≡ sum R (suc k) (λ i. f i ⊗ g (k - i))
   product-sum f g zero = simp (product-zero, sum-suc R 0, sum-zero, ring-laws)
@@ -166,25 +144,3 @@ module _ (R : Ring) where
 
       lead : h (k - e) ≡ 𝟏
       lead = sym (product-lead-monic (k - e) e h g above q) ∙ ap (product R h g) (omega (arith, le)) ∙ s .lead
-
-abbrev pub series : Ring → Ring
-series R =
-    record {
-      C = ℕ → R .C;
-      add = λ f g i. R .add (f i) (g i);
-      mul = product R;
-      neg = λ f i. R .neg (f i);
-      zero = λ i. R .zero;
-      one = const R (R .one);
-      add-comm = λ f g. fun-ext (λ i. R .add-comm (f i) (g i));
-      add-assoc = λ f g h. fun-ext (λ i. R .add-assoc (f i) (g i) (h i));
-      add-zero = λ f. fun-ext (λ i. R .add-zero (f i));
-      add-neg = λ f. fun-ext (λ i. R .add-neg (f i));
-      mul-comm = product-comm R;
-      mul-assoc = product-assoc R;
-      mul-one = product-one-right R;
-      mul-add = product-add-right R;
-    }
-
-pub product-neg-left : (R : Ring) (f g : ℕ → R .C) → product R (λ i. R .neg (f i)) g ≡ (λ i. R .neg (product R f g i))
-product-neg-left R f g = ring.neg-mul (series R) f g

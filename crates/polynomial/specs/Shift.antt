@@ -2,15 +2,15 @@
 --     shifts-zero, shifts-suc      its two clauses
 --     shifts-low           zero at the first j places
 --     shifts-high          f from place j on
---     shifts-below, shifts-monic      the degree grows by j
---     product-shifts-*     zʲ comes out of a product
+--     shifts-below         the degree grows by j
+--     product-shifts-left  zʲ comes out of a product
 use mathlib.Core.Path.{_≡_, refl, sym, ap, _∙_}
 use Prim.Native.Nat.{ℕ, zero, suc, _+_, _-_, _<_}
 use native.Mathlib.Nat.{zero-add, suc-add}
 use native.Mathlib.Omega.{arith}
 use Rattle.algebra.specs.Ring.{Ring}
-use Rattle.algebra.specs.Polynomial.{Below, Monic, shift, shift-zero, shift-suc, product}
-use Rattle.polynomial.specs.Product.{product-comm, product-shift-left}
+use Rattle.algebra.specs.Polynomial.{Below, shift, shift-zero, shift-suc, product}
+use Rattle.polynomial.specs.Product.{product-shift-left}
 
 module _ (R : Ring) where
   open Ring R using (C, zero as 𝟎)
@@ -40,15 +40,7 @@ module _ (R : Ring) where
   shifts-below j n f p i l =
       ap (shifts j f) (omega arith) ∙ shifts-high j f (i - j) ∙ p (i - j) (omega arith)
 
-  pub shifts-monic : (j d : ℕ) (f : ℕ → C) → Monic R d f → Monic R (j + d) (shifts j f)
-  shifts-monic j d f p =
-      record { lead = shifts-high j f d ∙ p .lead; above = λ i l. shifts-below j (suc d) f (p .above) i (omega arith) }
-
   pub product-shifts-left : (j : ℕ) (f g : ℕ → C) → product R (shifts j f) g ≡ shifts j (product R f g)
   product-shifts-left zero f g = ap (λ a. product R a g) (shifts-zero f) ∙ sym (shifts-zero (product R f g))
   product-shifts-left (suc j) f g =
       ap (λ a. product R a g) (shifts-suc j f) ∙ product-shift-left R (shifts j f) g ∙ ap (shift R) (product-shifts-left j f g) ∙ sym (shifts-suc j (product R f g))
-
-  pub product-shifts-right : (j : ℕ) (f g : ℕ → C) → product R f (shifts j g) ≡ shifts j (product R f g)
-  product-shifts-right j f g =
-      product-comm R f (shifts j g) ∙ product-shifts-left j g f ∙ ap (shifts j) (product-comm R g f)

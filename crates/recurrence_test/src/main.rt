@@ -1,92 +1,57 @@
-// Reads calls of the shortest recurrence from standard input and makes them one after the other on the same slices: what one call leaves
-// there, the next one finds. A call is its modulus, the places of its polynomial and work slices, its number of terms and the terms. Writes
-// what each call answers, and the polynomial slice, which held 4,294,967,295 in every place. generate.py makes the calls and the answers.
-use checks::wide;
-use libc::STDOUT_FILENO;
-use test_io::Cursor;
-use test_io::fill;
-use test_io::first;
-use test_io::numbers;
+// Makes the calls of the shortest recurrence that standard input lists, after their number. A call is two lists: its modulus and the places of its
+// polynomial and work slices; and the terms. A line of the output: the refusal's number, or 0 and the degree; the polynomial slice and two places
+// behind it; and of the work slice what a call may not change, two places behind it and, where it refuses, all. vectors.py makes calls and output.
+use test_io::at;
+use test_io::front;
+use test_io::list;
+use test_io::place;
+use test_io::print;
 use test_io::show;
-use test_io::show_refused;
 use wiedemann::recurrence::Answer;
 
-fn call(p: u32, s: &[u32], polynomial: &mut [u32], work: &mut [u32]) {
-    match wiedemann::recurrence::recurrence(field::Field { p }, s, polynomial, work) {
+// The answer; the places that the call was free to change.
+fn print_answer(answer: Answer, work: usize) -> usize {
+    match answer {
         Answer::Degree(degree) => {
-            io::write_all(STDOUT_FILENO, b"degree ");
-            io::print_decimal(STDOUT_FILENO, degree as u64);
+            print(0);
+            print(degree as u64);
+            work
         }
-        Answer::Refused(number) => show_refused(number),
+        Answer::Refused(number) => {
+            print(number as u64);
+            0
+        }
     }
-    show(polynomial);
 }
 
-fn lend(
-    p: u32,
-    count: usize,
-    places: usize,
-    room: usize,
-    s: &[u32],
-    polynomial: &mut [u32],
-    work: &mut [u32],
-) {
-    if count > s.len() {
-        return;
-    }
-    if places > polynomial.len() {
-        return;
-    }
-    if room > work.len() {
-        return;
-    }
-    let z: usize = 0;
-    call(
-        p,
-        &s[z..count],
-        &mut polynomial[z..places],
-        &mut work[z..room],
+fn call(memory: &[u32], from: usize) {
+    let head = list(memory, from, 0);
+    let places = place(head, 1);
+    let room = place(head, 2);
+    let mut polynomial = test_io::lent();
+    let mut work = test_io::lent();
+    let answer = wiedemann::recurrence::recurrence(
+        field::Field { p: at(head, 0) },
+        list(memory, from, 1),
+        front(&mut polynomial, places),
+        front(&mut work, room),
     );
-}
-
-fn one(
-    buffer: &mut [u8],
-    start: Cursor,
-    s: &mut [u32],
-    polynomial: &mut [u32],
-    work: &mut [u32],
-) -> Cursor {
-    let mut header = [0u32; 4];
-    let c = numbers(buffer, start, &mut header, 0, 4);
-    let count = wide(header[3]);
-    let end = numbers(buffer, c, s, 0, count);
-    fill(polynomial, 4294967295);
-    lend(
-        header[0],
-        count,
-        wide(header[1]),
-        wide(header[2]),
-        s,
-        polynomial,
-        work,
-    );
-    end
-}
-
-fn all(buffer: &mut [u8], s: &mut [u32], polynomial: &mut [u32], work: &mut [u32]) {
-    let mut c = first(buffer);
-    let calls = c.value;
-    let mut k = 0;
-    while k < calls {
-        c = one(buffer, c, s, polynomial, work);
-        k += 1;
-    }
+    let free = print_answer(answer, room);
+    show(&polynomial, 0, places);
+    show(&work, free, room);
+    test_io::end_line();
 }
 
 fn main() {
-    let mut buffer = io::buffer();
-    let mut s = [0u32; 8200];
-    let mut polynomial = [0u32; 8200];
-    let mut work = [0u32; 32800];
-    all(&mut buffer, &mut s, &mut polynomial, &mut work);
+    let mut room = test_io::memory();
+    test_io::read_numbers(&mut room);
+    let memory: &[u32] = &room;
+    let calls = at(memory, 0);
+    let mut from = 1;
+    let mut k = 0;
+    while k < calls {
+        call(memory, from);
+        from = test_io::after(memory, from, 2);
+        k += 1;
+    }
 }

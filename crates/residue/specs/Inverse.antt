@@ -9,9 +9,8 @@
 --     euclid-lt        it is below p
 --     mul-euclid       (a · euclid p a) mod p is 1
 --     inverse-euclid   so it is the inverse
---     inverse-lt, mul-inverse      the same of the meaning's inverse, for a from 1 to p − 1
---     mul-mod-nonzero  p divides a product only if it divides a factor
---     inverse-123456789      an example
+--     inverse-lt, mul-inverse      the same of the meaning's inverse, for a from 1 to p − 1; mul-inverse waits for request (vii)
+--     mul-mod-nonzero  p divides a product only if it divides a factor; waits for request (vi)
 use mathlib.Core.Path.{_≡_, refl, sym, ap, fun-ext, _∙_}
 use mathlib.Core.Logic.{_≢_}
 use mathlib.Core.Bool.{Bool, true, false}
@@ -137,6 +136,3 @@ module _ (p : ℕ) (h : Prime p) where
           ap (λ z. z % p) (sym (mul-one b)) ∙ ap (λ z. b * z % p) (sym i) ∙ mul-mod-mod b (a % p * x) p
           ∙ ap (λ z. z % p) (mul-left-comm b (a % p) x) ∙ mod-mul-mod a (b * x) p ∙ ap (λ z. z % p) (sym (mul-assoc a b x))
           ∙ sym (mod-mul-mod (a * b) x p) ∙ ap (λ z. z * x % p) e ∙ ap (λ z. z % p) (zero-mul x) ∙ zero-mod p
-
-pub inverse-123456789 : inverse 2147483647 123456789 ≡ 391219981
-inverse-123456789 = inverse-is 2147483647 123456789 391219981 (omega arith) refl

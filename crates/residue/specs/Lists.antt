@@ -2,29 +2,27 @@
 --     Reduced p l      every element of l is below p
 --     reduced-getD     then getD l i 0 is, at every place i
 --     reduced-table    a table of numbers below p is such a list
---     getD-map         an element of a mapped list
 --     sum-head         a sum of numbers from its first term on
 --     coef l i         the residue of l's element at i, zero from the length on (coef-below)
---     value-coef, coef-ext      of a reduced list: its elements again; it is determined by its length and its residues
---     coef-map, coef-table, coef-table-below      coef of a mapped list and of a table
---     values n f       the numbers of f 0, .., f (n − 1), a reduced list
---     coef-values, values-coef      inverse to coef, where f is zero from n on and the list is reduced
---     mk-sum, value-sum      the meaning's sum of numbers, modulo p, is the ring's sum
---     mk-dot, value-dot      a sum of products of numbers modulo p
-use mathlib.Core.Path.{_≡_, refl, sym, ap, fun-ext, _∙_}
-use mathlib.Core.List.{List, [], _∷_, map}
-use Prim.Native.Nat.{ℕ, zero, suc, _+_, _*_, _%_, _<_}
+--     coef-ext         a reduced list is determined by its length and its residues
+--     coef-table, coef-table-below      coef of a table
+--     values n f       the numbers of f 0, .., f (n − 1)
+--     mk-sum           the meaning's sum of numbers, modulo p, is the ring's sum
+--     mk-dot           a sum of products of numbers modulo p
+use mathlib.Core.Path.{_≡_, refl, sym, ap, _∙_}
+use mathlib.Core.List.{List, [], _∷_}
+use Prim.Native.Nat.{ℕ, zero, suc, _+_, _*_, _<_}
 use native.Mathlib.Decide.{decLt}
 use native.Mathlib.Omega.{arith}
-use lib.ListN.{length, getD, length-map, List·getD-map, List·getD-eq-default}
+use lib.ListN.{length, getD, List·getD-eq-default}
 use lib.Seq.{ext-getD}
 use Rattle.meaning.specs.List.{table, sum as sumℕ}
-use Rattle.laws.specs.List.{length-table, getD-table, table-of, sum-zero as sumℕ-zero, sum-suc as sumℕ-suc}
+use Rattle.laws.specs.List.{length-table, getD-table, sum-zero as sumℕ-zero, sum-suc as sumℕ-suc}
 use Rattle.algebra.specs.Ring.{Ring, Field}
 use Rattle.algebra.specs.Sum.{sum, sum-zero, sum-suc, sum-ext}
 use Rattle.algebra.specs.Polynomial.{Below}
 use Rattle.residue.specs.Prime.{Prime}
-use Rattle.residue.specs.Residue.{residues, mk, value, mk-zero, mk-add, mk-mul, mk-value, mk-inj, value-mk, value-mk-mod, value-lt}
+use Rattle.residue.specs.Residue.{residues, mk, value, mk-zero, mk-add, mk-mul, mk-inj}
 
 abbrev pub Reduced : ℕ → List ℕ → Type 0
 Reduced p l = (i : ℕ) → i < length l → getD l i 0 < p
@@ -46,9 +44,6 @@ getD-default [] i c d k = absurd (omega arith)
 getD-default (x ∷ l) zero c d k = refl
 getD-default (x ∷ l) (suc i) c d k = getD-default l i c d (omega arith)
 
-pub getD-map : (f : ℕ → ℕ) (l : List ℕ) (i : ℕ) → i < length l → getD (map f l) i 0 ≡ f (getD l i 0)
-getD-map f l i k = getD-default (map f l) i 0 (f 0) (rw length-map k) ∙ List·getD-map f l i 0
-
 pub sum-head : (n : ℕ) (f : ℕ → ℕ) → sumℕ (suc n) f ≡ f 0 + sumℕ n (λ i. f (suc i))
 sum-head zero f = omega (arith, sumℕ-suc 0 f, sumℕ-zero f, sumℕ-zero (λ i. f (suc i)))
 sum-head (suc n) f = omega (arith, sumℕ-suc (suc n) f, sum-head n f, sumℕ-suc n (λ i. f (suc i)))
@@ -66,14 +61,8 @@ module _ (p : ℕ) (h : Prime p) where
   pub coef-below : (l : List ℕ) → Below R (length l) (coef l)
   coef-below l i k = ap (mk p h) (List·getD-eq-default l 0 k) ∙ mk-zero p h
 
-  pub value-coef : (l : List ℕ) → Reduced p l → (i : ℕ) → value p h (coef l i) ≡ getD l i 0
-  value-coef l r i = value-mk p h (getD l i 0) (reduced-getD p l (omega (arith, h .two-le)) r i)
-
   pub coef-ext : (l m : List ℕ) → Reduced p l → Reduced p m → length l ≡ length m → ((i : ℕ) → i < length l → coef l i ≡ coef m i) → l ≡ m
   coef-ext l m r s e f = ext-getD 0 l m e (λ i k. mk-inj p h (getD l i 0) (getD m i 0) (r i k) (s i (omega arith)) (f i k))
-
-  pub coef-map : (f : ℕ → ℕ) (l : List ℕ) (i : ℕ) → i < length l → coef (map f l) i ≡ mk p h (f (getD l i 0))
-  coef-map f l i k = ap (mk p h) (getD-map f l i k)
 
   pub coef-table : (n : ℕ) (f : ℕ → ℕ) (i : ℕ) → i < n → coef (table n f) i ≡ mk p h (f i)
   coef-table n f i k = ap (mk p h) (getD-table n f i 0 k)
@@ -85,33 +74,13 @@ module _ (p : ℕ) (h : Prime p) where
   abbrev pub values : ℕ → (ℕ → C) → List ℕ
   values n f = table n (λ i. value p h (f i))
 
-  pub reduced-values : (n : ℕ) (f : ℕ → C) → Reduced p (values n f)
-  reduced-values n f = reduced-table p n (λ i. value p h (f i)) (λ i k. value-lt p h (f i))
-
-  pub coef-values : (n : ℕ) (f : ℕ → C) → Below R n f → coef (values n f) ≡ f
-  coef-values n f b = fun-ext (λ i. split i (decLt i n))
-    where
-      split : (i : ℕ) → Dec (i < n) → coef (values n f) i ≡ f i
-      split i (yes k) = coef-table n (λ j. value p h (f j)) i k ∙ mk-value p h (f i)
-      split i (no k) = coef-table-below n (λ j. value p h (f j)) i (omega arith) ∙ sym (b i (omega arith))
-
-  pub values-coef : (l : List ℕ) → Reduced p l → values (length l) (coef l) ≡ l
-  values-coef l r =
-      sym (table-of 0 l (length l) (λ i. value p h (coef l i)) refl (λ i k. sym (value-coef l r i)))
-
   pub mk-sum : (n : ℕ) (f : ℕ → ℕ) → mk p h (sumℕ n f) ≡ sum R n (λ i. mk p h (f i))
   mk-sum zero f = ap (mk p h) (sumℕ-zero f) ∙ mk-zero p h ∙ sym (sum-zero R (λ i. mk p h (f i)))
   mk-sum (suc n) f =
       ap (mk p h) (sumℕ-suc n f) ∙ mk-add p h (sumℕ n f) (f n) ∙ ap (λ a. a ⊕ mk p h (f n)) (mk-sum n f)
       ∙ sym (sum-suc R n (λ i. mk p h (f i)))
 
-  pub value-sum : (n : ℕ) (f : ℕ → ℕ) → value p h (sum R n (λ i. mk p h (f i))) ≡ sumℕ n f % p
-  value-sum n f = ap (value p h) (sym (mk-sum n f)) ∙ value-mk-mod p h (sumℕ n f)
-
   pub mk-dot : (n : ℕ) (f g : ℕ → ℕ) → mk p h (sumℕ n (λ i. f i * g i)) ≡ sum R n (λ i. mk p h (f i) ⊗ mk p h (g i))
   mk-dot n f g =
       mk-sum n (λ i. f i * g i)
       ∙ sum-ext R n (λ i. mk p h (f i * g i)) (λ i. mk p h (f i) ⊗ mk p h (g i)) (λ i l. mk-mul p h (f i) (g i))
-
-  pub value-dot : (n : ℕ) (f g : ℕ → ℕ) → value p h (sum R n (λ i. mk p h (f i) ⊗ mk p h (g i))) ≡ sumℕ n (λ i. f i * g i) % p
-  value-dot n f g = ap (value p h) (sym (mk-dot n f g)) ∙ value-mk-mod p h (sumℕ n (λ i. f i * g i))

@@ -2,26 +2,24 @@
 -- laws below alone, so that `simp ring-laws` sorts residues as it sorts the elements of any ring.
 --     residues p h     the field, h : Prime p. An element is a number x with x % p ≡ x; −x is p − x reduced
 --     mk x, value a    the residue of any number; the number below p of a residue
---     mk-value, value-mk, value-mk-mod, value-lt      they undo each other; value (mk x) ≡ x % p
+--     mk-value, value-mk-mod      they undo each other; value (mk x) ≡ x % p
 --     value-inj, mk-inj, mk-iff     equal numbers and equal residues; mk x ≡ mk y exactly if x % p ≡ y % p
---     mk-zero-iff, value-zero-iff   when a residue is zero
---     mk-zero, mk-one, mk-modulus, mk-mod, mk-add, mk-mul, mk-neg, mk-sub, mk-minus, mk-inv, mk-euclid      an operation on numbers as one on residues
+--     mk-zero-iff      when a residue is zero
+--     mk-zero, mk-one, mk-modulus, mk-mod, mk-add, mk-mul, mk-neg, mk-sub, mk-inv, mk-euclid      an operation on numbers as one on residues
 --     mk-laws          those of them that always apply: `simp (mk-laws, ring-laws)` proves equations modulo p
---     value-zero, value-one, value-add, value-mul, value-neg, value-sub, value-inv, value-euclid      an operation on residues as one on numbers
---     value-mk-add, value-mk-mul, value-mk-sub      the same at mk x and mk y
---     The inverse of zero is zero here, where the meaning's `inverse p 0` is p: mk-inv holds for every number, value-inv of residues other than zero.
-use mathlib.Core.Path.{_≡_, refl, sym, ap, ap₂, _∙_}
+--     The inverse of zero is zero here, where the meaning's `inverse p 0` is p: mk-inv holds for every number.
+use mathlib.Core.Path.{_≡_, refl, sym, ap, _∙_}
 use mathlib.Core.Logic.{_≢_, _↔_}
 use mathlib.Core.HLevel.{Σ-prop-path}
-use Prim.Native.Nat.{ℕ, zero, _+_, _*_, _-_, _%_, _≤_, _<_}
-use native.Mathlib.Nat.{ℕ-set, mod-mod, mod-lt, mod-eq-of-lt, mod-add-mod, add-mod-mod, add-comm, add-assoc, add-zero, zero-mod, sub-add-cancel, add-sub-of-le, le-of-lt, mod-self, mul-comm, mul-assoc, mul-add, mul-one, pos-of-ne-zero}
+use Prim.Native.Nat.{ℕ, zero, _+_, _*_, _-_, _%_, _<_}
+use native.Mathlib.Nat.{ℕ-set, mod-mod, mod-lt, mod-eq-of-lt, mod-add-mod, add-mod-mod, add-comm, add-assoc, add-zero, zero-mod, add-sub-of-le, le-of-lt, mod-self, mul-comm, mul-assoc, mul-add, mul-one, pos-of-ne-zero}
 use native.Mathlib.Decide.{ℕ-discrete, map-dec}
 use native.Mathlib.Omega.{arith}
 use Rattle.residue.specs.Numbers.{mul-mod-mod, mod-mul-mod}
 use Rattle.residue.specs.Prime.{Prime}
 use Rattle.meaning.specs.Field.{inverse}
-use Rattle.residue.specs.Inverse.{euclid, euclid-zero, euclid-lt, mul-euclid, inverse-euclid, inverse-zero, inverse-mod}
-use Rattle.algebra.specs.Ring.{Ring, Field, ring-laws}
+use Rattle.residue.specs.Inverse.{euclid, euclid-zero, mul-euclid, inverse-euclid, inverse-zero, inverse-mod}
+use Rattle.algebra.specs.Ring.{Ring, Field}
 use Rattle.algebra.specs.Ring as ring
 
 Residue : ℕ → Type 0
@@ -187,16 +185,9 @@ module _ (p : ℕ) (h : Prime p) where
   unfolding mk value
   value-mk-mod x = number-reduce p x
 
-  pub value-mk : (x : ℕ) → x < p → value (mk x) ≡ x
-  value-mk x l = value-mk-mod x ∙ mod-eq-of-lt l
-
   pub mk-value : (a : C) → mk (value a) ≡ a
   unfolding mk value
   mk-value a = reduce-number p a
-
-  pub value-lt : (a : C) → value a < p
-  unfolding value
-  value-lt a = number-lt p h a
 
   pub value-inj : (a b : C) → value a ≡ value b → a ≡ b
   value-inj a b e = sym (mk-value a) ∙ ap mk e ∙ mk-value b
@@ -243,13 +234,6 @@ module _ (p : ℕ) (h : Prime p) where
   pub mk-sub : (x y : ℕ) → mk (x + (p - y % p)) ≡ mk x ⊕ ⊖ mk y
   mk-sub x y = mk-add x (p - y % p) ∙ ap (λ a. mk x ⊕ a) (mk-neg y)
 
-  pub mk-minus : (x y : ℕ) → y ≤ x → mk (x - y) ≡ mk x ⊕ ⊖ mk y
-  mk-minus x y l =
-      back (mk (x - y)) (mk y) ∙ ap (λ a. a ⊕ ⊖ mk y) (sym (mk-add (x - y) y) ∙ ap mk (sub-add-cancel l))
-    where
-      back : (a b : C) → a ≡ a ⊕ b ⊕ ⊖ b
-      back a b = simp ring-laws
-
   pub mk-euclid : (x : ℕ) → mk (euclid p (x % p)) ≡ inv (mk x)
   unfolding mk residues inverted
   mk-euclid x = ap (λ y. reduce p (euclid p y)) (sym (number-reduce p x))
@@ -263,49 +247,5 @@ module _ (p : ℕ) (h : Prime p) where
           ap (λ y. mk (inverse p y)) z ∙ ap mk (inverse-zero p) ∙ mk-modulus ∙ sym mk-zero ∙ ap mk (sym (euclid-zero p))
           ∙ ap (λ y. mk (euclid p y)) (sym z)
       below (no f) = ap mk (inverse-euclid p h (x % p) (pos-of-ne-zero f) (mod-lt x (positive p h)))
-
-  pub value-mk-add : (x y : ℕ) → value (mk x ⊕ mk y) ≡ (x + y) % p
-  value-mk-add x y = ap value (sym (mk-add x y)) ∙ value-mk-mod (x + y)
-
-  pub value-mk-mul : (x y : ℕ) → value (mk x ⊗ mk y) ≡ x * y % p
-  value-mk-mul x y = ap value (sym (mk-mul x y)) ∙ value-mk-mod (x * y)
-
-  pub value-mk-sub : (x y : ℕ) → value (mk x ⊕ ⊖ mk y) ≡ (x + (p - y % p)) % p
-  value-mk-sub x y = ap value (sym (mk-sub x y)) ∙ value-mk-mod (x + (p - y % p))
-
-  pub value-zero : value 𝟎 ≡ 0
-  value-zero = ap value (sym mk-zero) ∙ value-mk-mod 0 ∙ zero-mod p
-
-  pub value-one : value 𝟏 ≡ 1
-  value-one = ap value (sym mk-one) ∙ value-mk 1 (h .two-le)
-
-  pub value-zero-iff : (a : C) → (value a ≡ 0) ↔ (a ≡ 𝟎)
-  value-zero-iff a = (λ e. value-inj a 𝟎 (e ∙ sym value-zero), λ e. ap value e ∙ value-zero)
-
-  pub value-add : (a b : C) → value (a ⊕ b) ≡ (value a + value b) % p
-  value-add a b = ap value (ap₂ _⊕_ (sym (mk-value a)) (sym (mk-value b))) ∙ value-mk-add (value a) (value b)
-
-  pub value-mul : (a b : C) → value (a ⊗ b) ≡ value a * value b % p
-  value-mul a b = ap value (ap₂ _⊗_ (sym (mk-value a)) (sym (mk-value b))) ∙ value-mk-mul (value a) (value b)
-
-  pub value-neg : (a : C) → value (⊖ a) ≡ (p - value a) % p
-  value-neg a =
-      ap (λ b. value (⊖ b)) (sym (mk-value a)) ∙ ap value (sym (mk-neg (value a))) ∙ value-mk-mod (p - value a % p)
-      ∙ ap (λ x. (p - x) % p) (mod-eq-of-lt (value-lt a))
-
-  pub value-sub : (a b : C) → value (a ⊕ ⊖ b) ≡ (value a + (p - value b)) % p
-  value-sub a b =
-      value-add a (⊖ b) ∙ ap (λ x. (value a + x) % p) (value-neg b) ∙ add-mod-mod (value a) (p - value b) p
-
-  pub value-euclid : (a : C) → value (inv a) ≡ euclid p (value a)
-  value-euclid a =
-      ap (λ b. value (inv b)) (sym (mk-value a)) ∙ ap value (sym (mk-euclid (value a)))
-      ∙ ap (λ x. value (mk (euclid p x))) (mod-eq-of-lt (value-lt a))
-      ∙ value-mk (euclid p (value a)) (euclid-lt p h (value a) (value-lt a))
-
-  pub value-inv : (a : C) → a ≢ 𝟎 → value (inv a) ≡ inverse p (value a)
-  value-inv a f =
-      value-euclid a
-      ∙ sym (inverse-euclid p h (value a) (pos-of-ne-zero (λ e. f (value-zero-iff a .0 e))) (value-lt a))
 
 pub ruleset mk-laws = (mk-zero, mk-one, mk-modulus, mk-mod, mk-add, mk-mul, mk-neg)

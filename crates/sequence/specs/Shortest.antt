@@ -1,6 +1,5 @@
 -- The steps give the shortest recurrence, and where it is at most half as long as the list, no other fits.
 --     generator s N    what the steps end with: f of document 01, of degree steps s N .L
---     length-within    that degree is at most N
 --     shortest         it is a shortest recurrence of the first N terms
 --     shorter-never    where 2·L ≤ N, no monic polynomial of degree below L is zero at the places where L terms follow within N
 --     shorter-zero     where 2·L ≤ N, a polynomial of degree below the least L that recurs as if it had degree L is zero
@@ -30,9 +29,6 @@ module _ (F : Field) where
   infix 75 ⊖_
   abbrev pub generator : (ℕ → C) → ℕ → ℕ → C
   generator s N = reverse R (steps F s N .L) (steps F s N .q)
-
-  pub length-within : (s : ℕ → C) (N : ℕ) → steps F s N .L ≤ N
-  length-within s N = invariant F s N .within
 
   pub shortest : (s : ℕ → C) (N : ℕ) → Shortest R N s (steps F s N .L) (generator s N)
   shortest s N =

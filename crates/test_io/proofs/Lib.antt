@@ -1,2 +1,3 @@
 -- laws that only the proofs here use
-pub mod Filled
+pub mod Kept
+pub mod Cut

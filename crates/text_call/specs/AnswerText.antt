@@ -11,7 +11,7 @@ use native.Mathlib.Omega.{arith}
 use lib.ListN.{length}
 use Rattle.meaning.specs.List.{at, table, flat, bytes}
 use Rattle.meaning.specs.Text.{decimal, line}
-use Rattle.meaning.specs.Solver.{Kind, solved, singular, Outcome, passes}
+use Rattle.meaning.specs.Solver.{Kind, solved, singular, Outcome, passCount, applications}
 use Rattle.meaning.specs.Answer.{kindWord, vectorWord, answerText, refusedText}
 use Rattle.laws.specs.List.{table-ext}
 use Rattle.text_laws.specs.Line.{line-two-words}
@@ -41,21 +41,21 @@ module _ (o : Outcome) where
       (λ i l. let e : i ≡ i + 0 = omega arith in ap (λ k. line (bytes "f" ∷ decimal k ∷ decimal (at (o .polynomial) i) ∷ [])) e))
 
   by-kind : (k : Kind) → o .kind ≡ k
-      → answerText o ≡ textOf (bytes "answer" ++ 9 ∷ kindWord k) (vectorWord k) (o .degree) (passes o) (o .applications) (o .polynomial) (o .vector)
+      → answerText o ≡ textOf (bytes "answer" ++ 9 ∷ kindWord k) (vectorWord k) (o .degree) (passCount o) (applications o) (o .polynomial) (o .vector)
   unfolding answerText textOf elementLines
   by-kind k e =
-      let numbers = decimal (o .degree) ∷ decimal (passes o) ∷ decimal (o .applications) ∷ [] in
+      let numbers = decimal (o .degree) ∷ decimal (passCount o) ∷ decimal (applications o) ∷ [] in
       let rest : Kind → List ℕ = λ j. flat (table (length (o .vector)) (elementLine (vectorWord j) 1 (o .vector))) in
       ap (λ j. line (bytes "answer" ∷ kindWord j ∷ numbers) ++ flat (table (o .degree + 1) (λ i. line (bytes "f" ∷ decimal i ∷ decimal (at (o .polynomial) i) ∷ []))) ++ rest j ++ line (bytes "end" ∷ [])) e
       ∙ ap₂ (λ h f. h ++ f ++ rest k ++ line (bytes "end" ∷ [])) (sym (line-two-words (bytes "answer") (kindWord k) numbers)) (powers (o .degree + 1))
 
   pub answer-solved : o .kind ≡ solved
-      → answerText o ≡ textOf (bytes "answer\tsolved") (bytes "x") (o .degree) (passes o) (o .applications) (o .polynomial) (o .vector)
+      → answerText o ≡ textOf (bytes "answer\tsolved") (bytes "x") (o .degree) (passCount o) (applications o) (o .polynomial) (o .vector)
   unfolding bytes
   answer-solved e = by-kind solved e
 
   pub answer-singular : o .kind ≡ singular
-      → answerText o ≡ textOf (bytes "answer\tsingular") (bytes "w") (o .degree) (passes o) (o .applications) (o .polynomial) (o .vector)
+      → answerText o ≡ textOf (bytes "answer\tsingular") (bytes "w") (o .degree) (passCount o) (applications o) (o .polynomial) (o .vector)
   unfolding bytes
   answer-singular e = by-kind singular e
 

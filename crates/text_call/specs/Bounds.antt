@@ -8,7 +8,7 @@ use mathlib.Core.Path.{_≡_, refl, sym, ap, subst}
 use mathlib.Core.Bool.{Bool, true, false, cond, _&&_}
 use mathlib.Core.List.{List, [], _∷_, _++_}
 use Prim.Native.Nat.{ℕ, _+_, _-_, _*_, _≤_, _<_}
-use native.Mathlib.Nat.{zero-div}
+use Rattle.laws.specs.Solver.{vectorCount-nil}
 use native.Mathlib.Decide.{ℕ-discrete}
 use native.Mathlib.Omega.{arith}
 use lib.Dec.{eqb, ltb}
@@ -18,7 +18,7 @@ use Rattle.meaning.specs.List.{at, table, isZero, every, flat, bytes}
 use Rattle.meaning.specs.Field.{times, minus, inverse}
 use Rattle.meaning.specs.Matrix.{Matrix, size, apply}
 use Rattle.meaning.specs.Recurrence.{isMonic}
-use Rattle.meaning.specs.Solver.{Kind, solved, singular, Outcome, passes, projections, begin, run, verdict, close, solve}
+use Rattle.meaning.specs.Solver.{Pass, Kind, solved, singular, Outcome, passCount, applications, projections, begin, run, verdict, close, solve}
 use Rattle.meaning.specs.ThirdCondition.{termCost, ThirdCondition}
 use Rattle.meaning.specs.Text.{decimal, line}
 use Rattle.meaning.specs.Answer.{kindWord, vectorWord, answerText}
@@ -36,15 +36,15 @@ use Rattle.text_laws.specs.Numeral.{decimal-short, decimal-bounded, decimal-pos
 use Rattle.text_laws.specs.Line.{length-line-last, length-line-more}
 use Rattle.text_laws.specs.Length.{length-line-three, length-flat-rows}
 
-pub termCost-bounded : (left : ℕ) (ts : List ℕ) → left ≤ 128 → termCost left ts ≤ 256 * length ts
+pub termCost-bounded : (left : ℕ) (qs : List Pass) → left ≤ 128 → termCost left qs ≤ 256 * length qs
 termCost-bounded left [] h = omega (arith, termCost-nil left)
-termCost-bounded left (t ∷ ts) h =
-    omega (arith, termCost-cons left t ts, termCost-bounded (left - t) ts (omega arith))
+termCost-bounded left (q ∷ qs) h =
+    omega (arith, termCost-cons left q qs, termCost-bounded (left - q .degree) qs (omega arith))
 
 pub record Small (p n : ℕ) (o : Outcome) : Type 0 where
   pub degree-low : o .degree ≤ n
-  pub passes-few : passes o ≤ n
-  pub applications-few : o .applications ≤ 33023
+  pub passes-few : passCount o ≤ n
+  pub applications-few : applications o ≤ 33023
   pub vector-length : length (o .vector) ≡ n
   pub vector-below : Reduced p (o .vector)
   pub polynomial-length : length (o .polynomial) ≡ o .degree + 1
@@ -76,12 +76,12 @@ module _ (p : ℕ) (A : Matrix) (b : List ℕ) (e : first (runChecks p A b []) �
   abbrev o : Outcome
   o = solve p A b []
 
-  cost : ThirdCondition p A b [] o → passes o ≤ size A → o .degree ≤ size A → o .applications ≤ 33023
+  cost : ThirdCondition p A b [] o → passCount o ≤ size A → o .degree ≤ size A → applications o ≤ 33023
   cost third few D = subst (λ k. k ≤ 33023) (sym (third .counted)) (go (isZero b))
     where
-      go : (z : Bool) → cond z 0 (termCost (size A) (o .degrees) + (2 * o .degree - 1)) ≤ 33023
+      go : (z : Bool) → cond z 0 (termCost (size A) (o .passes) + (2 * o .degree - 1)) ≤ 33023
       go true = omega arith
-      go false = omega (arith, termCost-bounded (size A) (o .degrees) h)
+      go false = omega (arith, termCost-bounded (size A) (o .passes) h)
 
   pub run-small : Small p (size A) o
   unfolding solve close isMonic
@@ -91,7 +91,7 @@ module _ (p : ℕ) (A : Matrix) (b : List ℕ) (e : first (runChecks p A b []) �
       let c = run p A (projections p (size A) []) (begin b) in
       let v = verdict-vector p (a .prime) A b (c .factor) (c .found) in
       let D : o .degree ≤ size A = run-found p (a .prime) A b (a .size-b) (a .reduced-b) (projections p (size A) []) in
-      let few : passes o ≤ size A = omega (arith, third .few, zero-div (size A)) in
+      let few : passCount o ≤ size A = omega (arith, third .few, vectorCount-nil (size A)) in
       let monic =
       and-left (eqb (length (o .polynomial)) (o .degree + 1) && every (λ a. ltb a p) (o .polynomial)) (eqb (at (o .polynomial) (o .degree)) 1)
       (third .monic) in
@@ -131,7 +131,7 @@ length-lines n g h = omega (arith, length-flat-rows (λ i. i) 17 n g (λ i l. om
 
 module _ (o : Outcome) where
   abbrev head : List ℕ
-  head = line (bytes "answer" ∷ kindWord (o .kind) ∷ decimal (o .degree) ∷ decimal (passes o) ∷ decimal (o .applications) ∷ [])
+  head = line (bytes "answer" ∷ kindWord (o .kind) ∷ decimal (o .degree) ∷ decimal (passCount o) ∷ decimal (applications o) ∷ [])
 
   abbrev powers : List ℕ
   powers = flat (table (o .degree + 1) (λ i. line (bytes "f" ∷ decimal i ∷ decimal (at (o .polynomial) i) ∷ [])))
@@ -153,12 +153,12 @@ module _ (o : Outcome) where
         length-line-last (bytes "end"),
       )
 
-  length-head : length head ≡ 6 + length (kindWord (o .kind)) + length (decimal (o .degree)) + length (decimal (passes o)) + length (decimal (o .applications)) + 5
+  length-head : length head ≡ 6 + length (kindWord (o .kind)) + length (decimal (o .degree)) + length (decimal (passCount o)) + length (decimal (applications o)) + 5
   unfolding bytes
   length-head =
       let d = decimal (o .degree) in
-      let q = decimal (passes o) in
-      let a = decimal (o .applications) in
+      let q = decimal (passCount o) in
+      let a = decimal (applications o) in
       omega (
         arith,
         length-line-more (bytes "answer") (kindWord (o .kind)) (d ∷ q ∷ a ∷ []),
@@ -174,8 +174,8 @@ module _ (o : Outcome) where
         length-head,
         kindWord-low (o .kind),
         decimal-positive (o .degree),
-        decimal-positive (passes o),
-        decimal-positive (o .applications),
+        decimal-positive (passCount o),
+        decimal-positive (applications o),
       )
 
   module _ (p n : ℕ) (s : Small p n o) (hp : p ≤ 2147483647) (hn : n ≤ 128) where
@@ -198,7 +198,7 @@ module _ (o : Outcome) where
           length-head,
           kindWord-high (o .kind),
           decimal-short 2 D (omega arith),
-          decimal-short 2 (passes o) (omega (arith, s .passes-few)),
-          decimal-short 4 (o .applications) (omega (arith, s .applications-few)),
+          decimal-short 2 (passCount o) (omega (arith, s .passes-few)),
+          decimal-short 4 (applications o) (omega (arith, s .applications-few)),
           s .vector-length,
         )

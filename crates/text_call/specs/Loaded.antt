@@ -25,7 +25,7 @@ use borrow.Author.Tests.{leb-true, le-leb, eq-eqb}
 use Rattle.meaning.specs.List.{at, padded, overwrite, bytes, select}
 use Rattle.meaning.specs.Matrix.{Matrix, matrix, size}
 use Rattle.meaning.specs.Text.{Document, document, system, row, decimal, line}
-use Rattle.meaning.specs.Solver.{Outcome, passes, solve}
+use Rattle.meaning.specs.Solver.{Outcome, passCount, applications, solve}
 use Rattle.meaning.specs.Refusal.{check, first, unlessRefused}
 use Rattle.meaning.specs.Answer.{answerText}
 use Rattle.meaning.specs.Calls.{systemChecks, runChecks, textChecks, solverRefusal, readerRefusal, readerAnswer, readerAfter, solvedText}
@@ -34,10 +34,10 @@ use Rattle.laws.specs.List.{length-table, getD-table}
 use Rattle.laws.specs.Refusal.{first-nil, first-passed, first-pass, numbered-run, numbered-text, first-append-none, first-append-zero, unlessRefused-none}
 use Rattle.text_laws.specs.Accepted.{document-accepted, modulus-low}
 use Rattle.text_laws.specs.RoundTrip.{systemOf, read-and-written, text-accepted}
-use Rattle.wiedemann.specs.declared.solver.Counts.{Counts}
-use Rattle.wiedemann.specs.declared.solver.Verdict.{Verdict}
-use Rattle.wiedemann.specs.declared.solver.Verdict.the-variants.{Solved, Singular, Refused}
-use Rattle.wiedemann.specs.Verdict.{Says, Solves}
+use Rattle.solver.specs.declared.Counts.{Counts}
+use Rattle.solver.specs.declared.Verdict.{Verdict}
+use Rattle.solver.specs.declared.Verdict.the-variants.{Solved, Singular, Refused}
+use Rattle.solver.specs.Verdict.{Says, Solves}
 use Rattle.text_call.specs.Bounds.{Small, run-small}
 use Rattle.text_call.specs.Checks.{run-checked}
 use Rattle.text_call.specs.AnswerText.{elementLines, elementLines-ext, textOf, answer-solved, answer-singular}
@@ -215,14 +215,14 @@ module _ (polynomial vector : List ℕ) where
 
 module _ (p n : ℕ) (o : Outcome) (s : Small p n o) where
   -- the polynomial's zeros after F are not written
-  same-text : (head w : List ℕ) (degree passed applied : ℕ) → degree ≡ o .degree → passed ≡ passes o → applied ≡ o .applications
+  same-text : (head w : List ℕ) (degree passed applied : ℕ) → degree ≡ o .degree → passed ≡ passCount o → applied ≡ applications o
       → textOf head w degree passed applied (padded (n + 1) (o .polynomial)) (o .vector)
-      ≡ textOf head w (o .degree) (passes o) (o .applications) (o .polynomial) (o .vector)
+      ≡ textOf head w (o .degree) (passCount o) (applications o) (o .polynomial) (o .vector)
   unfolding textOf
   same-text head w degree passed applied ed eq ea =
       ap (λ D. textOf head w D passed applied (padded (n + 1) (o .polynomial)) (o .vector)) ed
       ∙ ap₂ (λ q a. textOf head w (o .degree) q a (padded (n + 1) (o .polynomial)) (o .vector)) eq ea
-      ∙ ap (λ f. line (head ∷ decimal (o .degree) ∷ decimal (passes o) ∷ decimal (o .applications) ∷ []) ++ f ++ elementLines w 1 (o .vector) (length (o .vector)) ++ line (bytes "end" ∷ []))
+      ∙ ap (λ f. line (head ∷ decimal (o .degree) ∷ decimal (passCount o) ∷ decimal (applications o) ∷ []) ++ f ++ elementLines w 1 (o .vector) (length (o .vector)) ++ line (bytes "end" ∷ []))
       (elementLines-ext (bytes "f") 0 (padded (n + 1) (o .polynomial)) (o .polynomial) (o .degree + 1)
       (λ i l. getD-table (n + 1) (λ i. at (o .polynomial) i) i 0 (omega (arith, s .degree-low))))
 

@@ -1,10 +1,10 @@
 // The call on its arrays: the reader, the solver, the answer's writer.
 use crate::answer::put_answer;
 use field::Field;
+use solver::Verdict;
+use solver::solve;
 use system_text::reader::Reading;
 use system_text::reader::read;
-use wiedemann::solver::Verdict;
-use wiedemann::solver::solve;
 ghost use mathlib.Core.Path.{_≡_};
 ghost use Prim.Native.Nat.{_+_, _≤_, _<_};
 ghost use lib.ListN.{length};

@@ -3,9 +3,9 @@ pub mod Elements
 pub mod Shoup
 pub mod Upper
 pub mod Wrapped
-pub mod Turning
-pub mod Turn
-pub mod Kept
-pub mod Stepped
-pub mod Found
+pub mod Reversing
+pub mod Update
+pub mod HoldsSteps
+pub mod AfterSteps
+pub mod HoldsGenerator
 pub mod Recurred

@@ -1,6 +1,7 @@
 -- What the call `recurrence` answers.
 --     recurred-refused           the answer of a refusal, and slices left as they were
---     recurred-found             the answer of an accepted call, from the core's
+--     modulus-range, ready       what the checks leave known: of p, and for the core
+--     recurred-generator         the answer of an accepted call, from the core's
 use mathlib.Core.Path.{_≡_, refl, sym, ap, _∙_, subst}
 use mathlib.Core.Logic.{_≢_}
 use mathlib.Core.Bool.{true, false, cond}
@@ -16,13 +17,13 @@ use Rattle.meaning.specs.List.{at, padded}
 use Rattle.meaning.specs.Recurrence.{IsShortest, degree, generator}
 use Rattle.meaning.specs.Calls.{recurrenceRefusal}
 use Rattle.laws.specs.List.{table-of}
-use Rattle.residue.specs.Prime.{isModulus-Prime}
+use Rattle.residue.specs.Prime.{isModulus-Prime, isModulus-le}
 use Rattle.bridge.specs.Recurrence.{degree-within, length-generator, isShortest}
 use Rattle.checks.specs.Recurrence.{Accepted}
 use Rattle.wiedemann.specs.Written.{Written}
-use Rattle.wiedemann.specs.Recurrence.{Ready, Found, Recurred}
+use Rattle.wiedemann.specs.Recurrence.{Ready, HoldsGenerator, Recurred}
 use Rattle.wiedemann.specs.declared.recurrence.Answer.the-variants.{Degree, Refused}
-use Rattle.wiedemann.proofs.Found.{found-at}
+use Rattle.wiedemann.proofs.HoldsGenerator.{generator-at}
 
 pub recurred-refused : (p : ℕ) (s polynomial work : List ℕ) (k : ℕ) → k ≡ recurrenceRefusal p s polynomial work → k ≢ 0
     → Recurred p s polynomial work (Refused k) polynomial work
@@ -35,19 +36,21 @@ recurred-refused p s polynomial work k e n =
       shortest = λ L z. absurd (let y : _≡_ {A = ℕ} 0 1 = cc in omega arith);
     }
 
+pub modulus-range : {p : ℕ} {s polynomial work : List ℕ} → Accepted p s polynomial work → (0 < p) × (p ≤ 2147483647)
+modulus-range {p} input = (omega (arith, isModulus-Prime p (input .modulus) .two-le), isModulus-le p (input .modulus))
+
 module _ {p : ℕ} {s polynomial work W₁ : List ℕ} (input : Accepted p s polynomial work)
     (placed : Written work 0 (length s) (λ i. at s (0 + i)) W₁) where
   terms : (i : ℕ) → i < length s → at W₁ i ≡ at s i
   terms i l = ap (at W₁) (sym (zero-add i)) ∙ placed .inside i l ∙ ap (at s) (zero-add i)
 
-  pub ready : Ready p (length s) W₁
-  ready =
-      record {
-        modulus = input .modulus;
-        few = input .few;
-        room = omega (arith, input .room, placed .same-length);
-        elements = λ i l. subst (λ x. x < p) (sym (terms i l)) (input .below i l);
-      }
+  pub ready : {m : ℕ} → m ≡ p → Ready m (length s) W₁
+  ready {m} same-modulus = subst (λ n. Ready n (length s) W₁) (sym same-modulus) (record {
+    modulus = input .modulus;
+    few = input .few;
+    room = omega (arith, input .room, placed .same-length);
+    elements = λ i l. subst (λ x. x < p) (sym (terms i l)) (input .below i l);
+  })
 
   same : take (length s) W₁ ≡ s
   same =
@@ -55,10 +58,10 @@ module _ {p : ℕ} {s polynomial work W₁ : List ℕ} (input : Accepted p s pol
       ext-getD 0 (take (length s) W₁) s size
       (λ i l. let b : i < length s = omega arith in getD-take (length s) W₁ i 0 b ∙ terms i b)
 
-  pub recurred-found : {W₂ polynomial′ : List ℕ} {L : ℕ} → Found p (length s) W₁ W₂ L
+  pub recurred-generator : {W₂ polynomial′ : List ℕ} {L m : ℕ} → m ≡ p → HoldsGenerator m (length s) W₁ W₂ L
       → Written polynomial 0 (length s + 1) (λ i. at W₂ (length s + 2 + i)) polynomial′
       → Recurred p s polynomial work (Degree L) polynomial′ W₂
-  recurred-found {W₂} {polynomial′} {L} found written =
+  recurred-generator {W₂} {polynomial′} {L} {m} same-modulus holds written =
       record {
         gives = (input .none, ap (λ b. cond b (degree p s) 0) zero ∙ sym answer);
         after =
@@ -68,6 +71,9 @@ module _ {p : ℕ} {s polynomial work W₁ : List ℕ} (input : Accepted p s pol
         shortest = λ L′ e. let same : L ≡ L′ = cc in subst (λ n. IsShortest p s n (take (n + 1) polynomial′)) same shortest;
       }
     where
+      found : HoldsGenerator p (length s) W₁ W₂ L
+      found = subst (λ n. HoldsGenerator n (length s) W₁ W₂ L) same-modulus holds
+
       zero : eqb (recurrenceRefusal p s polynomial work) 0 ≡ true
       zero = eq-eqb (recurrenceRefusal p s polynomial work) 0 (input .none)
 
@@ -76,7 +82,7 @@ module _ {p : ℕ} {s polynomial work W₁ : List ℕ} (input : Accepted p s pol
 
       coefficient : (i : ℕ) → i < length s + 1 → at polynomial′ i ≡ at (generator p s) i
       coefficient i l =
-          ap (at polynomial′) (sym (zero-add i)) ∙ written .inside i l ∙ found-at found i (omega arith)
+          ap (at polynomial′) (sym (zero-add i)) ∙ written .inside i l ∙ generator-at found i (omega arith)
           ∙ ap (λ x. at (generator p x) i) same
 
       within : L ≤ length s

@@ -1,4 +1,4 @@
--- The upper word of a product, from the products of the halves (src/sums.rt, `upper`). B is 2³² in the code.
+-- The upper word of a product, from the products of the halves (src/modulus.rt, `upper`). B is 2³² in the code.
 --     upper-exact      the product is that many times B·B, and what is left over
 --     upper-div        so it is the quotient by B·B
 use mathlib.Core.Path.{_≡_, sym, ap, ap₂, _∙_}

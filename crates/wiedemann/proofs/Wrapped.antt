@@ -1,4 +1,4 @@
--- A remainder without a branch (src/scale.rt, `folded`): d is s − p wrapped, and p is added again by its top bit.
+-- A remainder without a branch (src/modulus.rt, `folded`): d is s − p wrapped, and p is added again by its top bit.
 --     wrapped-fits, wrapped-mod
 use mathlib.Core.Path.{_≡_, sym, ap, _∙_}
 use mathlib.Core.Logic.{_⊎_, inl, inr, ⊎-elim}

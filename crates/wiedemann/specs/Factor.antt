@@ -1,16 +1,18 @@
 -- The product of two polynomials in one slice: F at its front, f further up; it takes F's place from its highest coefficient down.
---     nothing          the empty sum
---     cross            the products of coefficient k
+--     Factors          what the product asks: room, and residues
 --     productAt        coefficient k of the product
---     coefficient      what coefficient k is, by the places of F and f that meet there
+--     Meeting          the places of F that meet one of f in coefficient k
+--     crossing         they can be read against each other
+--     coefficient      their sum is coefficient k
 --     Descending       the coefficients from k on have been written
 --     Multiplied       all of them have; multiplied-lent: in a leading part that was lent
---     descending-none, descending-same, descending-more, descending-all      where that begins, what a turn reads, a turn, and where it ends
-use mathlib.Core.Path.{_≡_, refl, sym, ap, ap₂, _∙_}
+--     descending-none, descending-factors, descending-same, descending-more, descending-all      where that begins, what a turn asks and reads, a turn, and
+--                      where it ends
+use mathlib.Core.Path.{_≡_, refl, sym, ap, ap₂, _∙_, subst}
 use mathlib.Core.Logic.{_⊎_, inl, inr}
 use mathlib.Core.List.{List}
 use Prim.Native.Nat.{ℕ, _+_, _-_, _*_, _%_, _≤_, _<_}
-use native.Mathlib.Nat.{zero-add, add-zero, zero-mul, mul-zero, eq-or-lt-of-le}
+use native.Mathlib.Nat.{zero-add, add-zero, zero-mul, mul-zero, mod-lt, eq-or-lt-of-le}
 use native.Mathlib.Decide.{decLt}
 use native.Mathlib.Omega.{arith}
 use lib.ListN.{length, drop, set, length-set, List·getD-eq-default}
@@ -19,39 +21,49 @@ use Rattle.meaning.specs.List.{at, sum, sumFrom}
 use Rattle.meaning.specs.Solver.{multiply}
 use Rattle.laws.specs.List.{sum-ext, sum-zeros, table-of}
 use Rattle.wiedemann.specs.declared.sums.Total.{Total}
-use Rattle.wiedemann.specs.Sums.{sumFrom-split, sumFrom-ext}
+use Rattle.wiedemann.specs.Sums.{number, Summed, sumFrom-split, sumFrom-ext}
+use Rattle.wiedemann.specs.Convolution.{cross, Crossing, nothing}
 use Rattle.wiedemann.specs.Region.{part, length-part, at-part}
 use Rattle.wiedemann.specs.Projection.{sumFrom-zero}
 use Rattle.wiedemann.specs.Lent.{lent, length-lent, part-lent, inner-lent, drop-lent, part-at, part-of-part, same-after, drop-ext}
 
--- the empty sum
-abbrev pub nothing : Total
-nothing = record { low = 0; high = 0 }
+-- F, degree d, and f, degree t
+pub record Factors (p : ℕ) (W : List ℕ) (d f t : ℕ) : Type 0 where
+  pub few : d + t ≤ 8192
+  pub below : d + t < f
+  pub room : f + t < length W
+  pub left : (i : ℕ) → i ≤ d → at W i < p
+  pub right : (i : ℕ) → i ≤ t → at W (f + i) < p
 
-abbrev pub cross : List ℕ → ℕ → ℕ → ℕ → ℕ
-cross W f k i = at W i * at W (f + (k - i))
-
--- coefficient k of the product of F, degree d, and f, degree t
 abbrev pub productAt : ℕ → List ℕ → ℕ → ℕ → ℕ → ℕ → ℕ
 productAt p W d f t k = sum (k + 1) (λ i. at (part 0 (d + 1) W) i * at (part f (t + 1) W) (k - i)) % p
+
+-- from k − t up to, but not including, what is lower of k + 1 and d + 1
+pub record Meeting (d t k from to : ℕ) : Type 0 where
+  pub inside : k ≤ d + t
+  pub start : from ≡ k - t
+  pub low : to ≤ k + 1
+  pub short : to ≤ d + 1
+  pub end : (to ≡ k + 1) ⊎ (to ≡ d + 1)
 
 sumFrom-zeros : (a b : ℕ) (f : ℕ → ℕ) → ((k : ℕ) → a ≤ k → k < b → f k ≡ 0) → sumFrom a b f ≡ 0
 sumFrom-zeros a b f h = sum-zeros (b - a) (λ j. f (a + j)) (λ j l. h (a + j) (omega arith) (omega arith))
 
-module _ (W : List ℕ) (d f t : ℕ) (below : d + t < f) (room : f + t < length W) where
+module _ {p : ℕ} {W : List ℕ} {d f t : ℕ} (h : Factors p W d f t) where
   left : ℕ → ℕ
   left i = at (part 0 (d + 1) W) i
 
   right : ℕ → ℕ
   right i = at (part f (t + 1) W) i
 
-  left-in : (i : ℕ) → i ≤ d → left i ≡ at W i
+  left-in : (i : ℕ) → i ≤ d → left i ≡ at W (0 + i)
   unfolding left
-  left-in i l = at-part 0 (d + 1) W i (omega (arith, l)) ∙ ap (at W) (zero-add i)
+  left-in i l = at-part 0 (d + 1) W i (omega (arith, l))
 
   left-out : (i : ℕ) → d < i → left i ≡ 0
   unfolding left
-  left-out i l = List·getD-eq-default (part 0 (d + 1) W) 0 (omega (arith, length-part 0 (d + 1) W (omega (arith, below, room)), l))
+  left-out i l =
+      List·getD-eq-default (part 0 (d + 1) W) 0 (omega (arith, length-part 0 (d + 1) W (omega (arith, h .below, h .room)), l))
 
   right-in : (i : ℕ) → i ≤ t → right i ≡ at W (f + i)
   unfolding right
@@ -59,40 +71,63 @@ module _ (W : List ℕ) (d f t : ℕ) (below : d + t < f) (room : f + t < length
 
   right-out : (i : ℕ) → t < i → right i ≡ 0
   unfolding right
-  right-out i l = List·getD-eq-default (part f (t + 1) W) 0 (omega (arith, length-part f (t + 1) W (omega (arith, room)), l))
+  right-out i l = List·getD-eq-default (part f (t + 1) W) 0 (omega (arith, length-part f (t + 1) W (omega (arith, h .room)), l))
 
-  -- coefficient k is the sum over the places where both have a coefficient: from k − t to k or d
-  pub coefficient : (k to : ℕ) → k ≤ d + t → to ≤ k + 1 → to ≤ d + 1 → (to ≡ k + 1) ⊎ (to ≡ d + 1)
-      → sumFrom (k - t) to (cross W f k) ≡ sum (k + 1) (λ i. at (part 0 (d + 1) W) i * at (part f (t + 1) W) (k - i))
-  unfolding left right
-  coefficient k to l a b e =
-      sym
-      (sym (sumFrom-zero (k + 1) g)
-      ∙ sumFrom-split 0 (k - t) (k + 1) g (omega arith) (omega arith)
-      ∙ ap₂ _+_ (sumFrom-zeros 0 (k - t) g low)
-      (sumFrom-split (k - t) to (k + 1) g order a ∙ ap₂ _+_ (sumFrom-ext (k - t) to g (cross W f k) middle) (sumFrom-zeros to (k + 1) g (high e))
-      ∙ add-zero (sumFrom (k - t) to (cross W f k)))
-      ∙ zero-add (sumFrom (k - t) to (cross W f k)))
-    where
-      g : ℕ → ℕ
-      g i = left i * right (k - i)
+  module _ {k from to : ℕ} (m : Meeting d t k from to) where
+    order : from ≤ to
+    order = go (m .end)
+      where
+        go : (to ≡ k + 1) ⊎ (to ≡ d + 1) → from ≤ to
+        go (inl q) = omega (arith, q, m .start)
+        go (inr q) = omega (arith, q, m .start, m .inside)
 
-      order : k - t ≤ to
-      order = go e
-        where
-          go : (to ≡ k + 1) ⊎ (to ≡ d + 1) → k - t ≤ to
-          go (inl q) = omega (arith, q)
-          go (inr q) = omega (arith, q, l)
+    back : (i : ℕ) → i < to → f + (k - i) ≡ f + k - i
+    back i l = omega (arith, l, m .low)
 
-      low : (i : ℕ) → 0 ≤ i → i < k - t → g i ≡ 0
-      low i z h = ap (λ x. left i * x) (right-out (k - i) (omega (arith, h))) ∙ mul-zero (left i)
+    pub crossing : p ≤ 2147483647 → Crossing W 0 (f + k) from to
+    crossing small =
+        record {
+          order = order;
+          few = omega (arith, m .short, h .few);
+          front = omega (arith, m .short, h .below, h .room);
+          back = omega (arith, m .low);
+          room = omega (arith, m .start, h .room);
+          left = λ i a l. omega (arith, h .left (0 + i) (omega (arith, l, m .short)), small);
+          right =
+              λ i a l.
+              subst (λ x. at W x < 2147483647) {x = f + (k - i)} {y = f + k - i} (back i l)
+              (omega (arith, h .right (k - i) (omega (arith, a, m .start)), small));
+        }
 
-      middle : (i : ℕ) → k - t ≤ i → i < to → g i ≡ cross W f k i
-      middle i h m = ap₂ _*_ (left-in i (omega (arith, m, b))) (right-in (k - i) (omega (arith, h)))
+    meets : sumFrom from to (cross W 0 (f + k)) ≡ sum (k + 1) (λ i. at (part 0 (d + 1) W) i * at (part f (t + 1) W) (k - i))
+    unfolding left right
+    meets =
+        sym
+        (sym (sumFrom-zero (k + 1) g)
+        ∙ sumFrom-split 0 from (k + 1) g (omega arith) (omega (arith, m .start))
+        ∙ ap₂ _+_ (sumFrom-zeros 0 from g low)
+        (sumFrom-split from to (k + 1) g order (m .low)
+        ∙ ap₂ _+_ (sumFrom-ext from to g (cross W 0 (f + k)) middle) (sumFrom-zeros to (k + 1) g (high (m .end)))
+        ∙ add-zero (sumFrom from to (cross W 0 (f + k))))
+        ∙ zero-add (sumFrom from to (cross W 0 (f + k))))
+      where
+        g : ℕ → ℕ
+        g i = left i * right (k - i)
 
-      high : (to ≡ k + 1) ⊎ (to ≡ d + 1) → (i : ℕ) → to ≤ i → i < k + 1 → g i ≡ 0
-      high (inl q) i h m = absurd (omega (arith, q, h, m))
-      high (inr q) i h m = ap (λ x. x * right (k - i)) (left-out i (omega (arith, q, h))) ∙ zero-mul (right (k - i))
+        low : (i : ℕ) → 0 ≤ i → i < from → g i ≡ 0
+        low i z l = ap (λ x. left i * x) (right-out (k - i) (omega (arith, l, m .start))) ∙ mul-zero (left i)
+
+        middle : (i : ℕ) → from ≤ i → i < to → g i ≡ cross W 0 (f + k) i
+        middle i a l =
+            ap₂ _*_ (left-in i (omega (arith, l, m .short))) (right-in (k - i) (omega (arith, a, m .start)) ∙ ap (at W) (back i l))
+
+        high : (to ≡ k + 1) ⊎ (to ≡ d + 1) → (i : ℕ) → to ≤ i → i < k + 1 → g i ≡ 0
+        high (inl q) i a l = absurd (omega (arith, q, a, l))
+        high (inr q) i a l = ap (λ x. x * right (k - i)) (left-out i (omega (arith, q, a))) ∙ zero-mul (right (k - i))
+
+    pub coefficient : (T : Total) (v : ℕ) → Summed nothing T from to (cross W 0 (f + k)) → v ≡ number T % p → v ≡ productAt p W d f t k
+    coefficient T v summed residue =
+        residue ∙ ap (λ x. x % p) (summed .sum ∙ zero-add (sumFrom from to (cross W 0 (f + k))) ∙ meets)
 
 pub record Descending (p : ℕ) (W : List ℕ) (d f t k : ℕ) (W′ : List ℕ) : Type 0 where
   pub same-length : length W′ ≡ length W
@@ -103,6 +138,23 @@ pub record Descending (p : ℕ) (W : List ℕ) (d f t k : ℕ) (W′ : List ℕ)
 pub descending-none : (p : ℕ) (W : List ℕ) (d f t : ℕ) → Descending p W d f t (d + t + 1) W
 descending-none p W d f t =
     record { same-length = refl; below = λ i l. refl; inside = λ i a b. absurd (omega (arith, a, b)); after = λ i l. refl }
+
+-- what has been written so far are residues
+pub descending-factors : {p : ℕ} {W : List ℕ} {d f t k : ℕ} {W′ : List ℕ} → 0 < p → Factors p W d f t → Descending p W d f t k W′ → Factors p W′ d f t
+descending-factors {p} {W} {d} {f} {t} {k} {W′} positive h w =
+    record {
+      few = h .few;
+      below = h .below;
+      room = omega (arith, h .room, w .same-length);
+      left = λ i l. go i l (decLt i k);
+      right = λ i l. subst (λ x. x < p) (sym (w .after (f + i) (omega (arith, h .below)))) (h .right i l);
+    }
+  where
+    go : (i : ℕ) → i ≤ d → Dec (i < k) → at W′ i < p
+    go i l (yes a) = subst (λ x. x < p) (sym (w .below i a)) (h .left i l)
+    go i l (no a) =
+        subst (λ x. x < p) (sym (w .inside i (omega (arith, a)) (omega (arith, l))))
+        (mod-lt (sum (i + 1) (λ j. at (part 0 (d + 1) W) j * at (part f (t + 1) W) (i - j))) positive)
 
 pub descending-more : {p : ℕ} {W : List ℕ} {d f t k : ℕ} {W′ : List ℕ} (v : ℕ) → Descending p W d f t (k + 1) W′ → k ≤ d + t → k < length W
     → v ≡ productAt p W d f t k → Descending p W d f t k (set W′ k v)
@@ -130,30 +182,30 @@ place-same a n W W′ i l e h = go (decLt i n)
         ∙ sym (List·getD-eq-default (part a n W) 0 (omega (arith, k, length-part a n W l)))
 
 -- what has been written so far is not read for coefficient k
-pub descending-same : {p : ℕ} {W : List ℕ} {d f t : ℕ} (k : ℕ) {W′ : List ℕ} → Descending p W d f t (k + 1) W′ → d + t < f → f + t < length W
+pub descending-same : {p : ℕ} {W : List ℕ} {d f t : ℕ} (k : ℕ) {W′ : List ℕ} → Descending p W d f t (k + 1) W′ → Factors p W d f t
     → productAt p W′ d f t k ≡ productAt p W d f t k
-descending-same {p} {W} {d} {f} {t} k {W′} w a b =
+descending-same {p} {W} {d} {f} {t} k {W′} w h =
     ap (λ x. x % p)
     (sum-ext (k + 1) (λ i. at (part 0 (d + 1) W′) i * at (part f (t + 1) W′) (k - i)) (λ i. at (part 0 (d + 1) W) i * at (part f (t + 1) W) (k - i))
     (λ i l. ap₂ _*_
-    (place-same 0 (d + 1) W W′ i (omega (arith, a, b)) (w .same-length) (λ m. w .below (0 + i) (omega (arith, l))))
-    (place-same f (t + 1) W W′ (k - i) (omega (arith, b)) (w .same-length) (λ m. w .after (f + (k - i)) (omega (arith, a))))))
+    (place-same 0 (d + 1) W W′ i (omega (arith, h .below, h .room)) (w .same-length) (λ m. w .below (0 + i) (omega (arith, l))))
+    (place-same f (t + 1) W W′ (k - i) (omega (arith, h .room)) (w .same-length) (λ m. w .after (f + (k - i)) (omega (arith, h .below))))))
 
 pub record Multiplied (p : ℕ) (W : List ℕ) (d f t : ℕ) (W′ : List ℕ) : Type 0 where
   pub same-length : length W′ ≡ length W
   pub product : part 0 (d + t + 1) W′ ≡ multiply p (part 0 (d + 1) W) (part f (t + 1) W)
   pub rest : drop (d + t + 1) W′ ≡ drop (d + t + 1) W
 
-pub descending-all : {p : ℕ} {W : List ℕ} {d f t : ℕ} {W′ : List ℕ} → d + t < f → f + t < length W → Descending p W d f t 0 W′ → Multiplied p W d f t W′
+pub descending-all : {p : ℕ} {W : List ℕ} {d f t : ℕ} {W′ : List ℕ} → Factors p W d f t → Descending p W d f t 0 W′ → Multiplied p W d f t W′
 unfolding multiply
-descending-all {p} {W} {d} {f} {t} {W′} a b w =
+descending-all {p} {W} {d} {f} {t} {W′} h w =
     record {
       same-length = w .same-length;
       product =
           table-of 0 (part 0 (d + t + 1) W′) size (λ k. productAt p W d f t k)
-          (length-part 0 (d + t + 1) W′ (omega (arith, a, b, w .same-length)) ∙ sym sized)
-          (λ i l. let h : i < d + t + 1 = omega (arith, l, sized) in
-          at-part 0 (d + t + 1) W′ i h ∙ ap (at W′) (zero-add i) ∙ w .inside i (omega arith) (omega (arith, h)));
+          (length-part 0 (d + t + 1) W′ (omega (arith, h .below, h .room, w .same-length)) ∙ sym sized)
+          (λ i l. let k : i < d + t + 1 = omega (arith, l, sized) in
+          at-part 0 (d + t + 1) W′ i k ∙ ap (at W′) (zero-add i) ∙ w .inside i (omega arith) (omega (arith, k)));
       rest = drop-ext (d + t + 1) W W′ (w .same-length) (λ i l. w .after i (omega (arith, l)));
     }
   where
@@ -162,7 +214,7 @@ descending-all {p} {W} {d} {f} {t} {W′} a b w =
 
     sized : size ≡ d + t + 1
     sized =
-        omega (arith, length-part 0 (d + 1) W (omega (arith, a, b)), length-part f (t + 1) W (omega (arith, b)))
+        omega (arith, length-part 0 (d + 1) W (omega (arith, h .below, h .room)), length-part f (t + 1) W (omega (arith, h .room)))
 
 -- a leading part that holds F and f, lent to the product
 pub multiplied-lent : {p : ℕ} {W : List ℕ} {d f t : ℕ} (m : ℕ) {Y : List ℕ} → d + t < f → f + t < m → m ≤ length W → length Y ≡ m

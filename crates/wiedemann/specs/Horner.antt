@@ -1,34 +1,47 @@
 -- Horner's rule for the polynomial of a matrix.
 --     stepAt           its element i
 --     step p A c x v   element i is c × x[i] plus the product of row i with v: Horner's step, and the product if c is 0
---     step-product     step p A 0 x v ≡ product p A v
+--     row-bounds, row-reduced      a row by the bounds that a loop over rows carries: they are in order, and its sum, reduced
+--     step-product     step p A 0 x v ≡ product p A v; step-made: what such a step leaves
 --     sum-head, sum-scale, sum-swap, sum-mod-ext      laws of sums
 --     power-zero, power-suc      the clauses of power
 --     combination      element j of g(A)v before it is reduced
 --     table-step, table-apply, at-product, at-apply      step, product and apply by their elements
 --     apply-one        a(A)v for one coefficient a
 --     apply-cons       (a + z·g)(A)v is a step with a from g(A)v
---     horner-begins, horner-goes-on      the rule as a loop runs it
+--     horner-begins, horner-goes-on      the rule as a loop runs it: from the last coefficient, and by one step more
 --     vector-table, vector-step, vector-product, vector-apply      what is reduced has elements below p
 use mathlib.Core.Path.{_≡_, refl, sym, ap, ap₂, _∙_}
 use mathlib.Core.List.{List, [], _∷_}
-use Prim.Native.Nat.{ℕ, zero, suc, _+_, _*_, _-_, _%_, _<_}
+use Prim.Native.Nat.{ℕ, zero, suc, _+_, _*_, _-_, _%_, _≤_, _<_}
 use native.Mathlib.Nat.{zero-add, add-zero, zero-mul, mul-zero, mul-add, mul-left-comm, mod-lt, add-mod-mod}
 use native.Mathlib.Omega.{arith}
 use lib.ListN.{length, drop}
 use lib.Seq.{drop-cons, drop-length}
-use Rattle.meaning.specs.List.{at, sum, table}
+use Rattle.meaning.specs.List.{at, sum, sumFrom, table}
 use Rattle.meaning.specs.Field.{times}
 use Rattle.meaning.specs.Matrix.{Matrix, size, product, power, apply}
 use Rattle.laws.specs.List.{sum-zero, sum-suc, sum-ext, sum-zeros, sum-add, sum-mod, length-table, getD-table, table-ext}
 use Rattle.residue.specs.Numbers.{mul-mod-mod}
-use Rattle.checks.specs.Valid.{Valid, Vector, rowProduct}
+use Rattle.checks.specs.Valid.{Valid, Vector, term, rowProduct}
+use Rattle.wiedemann.specs.declared.sums.Total.{Total}
+use Rattle.wiedemann.specs.Sums.{number}
 
 abbrev pub stepAt : ℕ → Matrix → ℕ → List ℕ → List ℕ → ℕ → ℕ
 stepAt p A c x v i = (c * at x i + rowProduct A v i) % p
 
 unfoldable pub step : ℕ → Matrix → ℕ → List ℕ → List ℕ → List ℕ
 step p A c x v = table (size A) (stepAt p A c x v)
+
+module _ (A : Matrix) (i from to : ℕ) (here : from ≡ at (A .starts) i) (next : to ≡ at (A .starts) (i + 1)) where
+  pub row-bounds : {p : ℕ} → Valid p A → i < size A → (from ≤ to) × (to ≤ length (A .columns))
+  row-bounds h l = (omega (arith, here, next, h .rise i l), omega (arith, next, h .within i l))
+
+  pub row-reduced : (p start s x : ℕ) (v w : List ℕ) (r : Total) → start ≡ s → v ≡ w
+      → number r ≡ start + sumFrom from to (term (A .columns) (A .values) v) → x ≡ number r % p → x ≡ (s + rowProduct A w i) % p
+  row-reduced p start s x v w r e q summed reduced =
+      reduced ∙ ap (λ y. y % p) summed ∙ ap₂ (λ y l. (y + sumFrom from to (term (A .columns) (A .values) l)) % p) e q
+      ∙ ap₂ (λ a b. (s + sumFrom a b (term (A .columns) (A .values) w)) % p) here next
 
 pub table-step : (p : ℕ) (A : Matrix) (c : ℕ) (x v : List ℕ) → step p A c x v ≡ table (size A) (stepAt p A c x v)
 unfolding step
@@ -40,6 +53,9 @@ step-product p A x v =
     table-ext (size A) (stepAt p A 0 x v)
     (λ i. rowProduct A v i % p)
     (λ i l. ap (λ y. y % p) (ap (λ y. y + rowProduct A v i) (zero-mul (at x i)) ∙ zero-add (rowProduct A v i)))
+
+pub step-made : (p q : ℕ) → q ≡ p → (A : Matrix) (x v w : List ℕ) → w ≡ step q A 0 x v → w ≡ product p A v
+step-made p q e A x v w made = made ∙ ap (λ m. step m A 0 x v) e ∙ step-product p A x v
 
 -- ---- sums
 
@@ -156,10 +172,10 @@ apply-one p A a v =
 
 -- ---- the rule as a loop runs it: from the last coefficient to the first
 
-pub horner-begins : (p : ℕ) (A : Matrix) (g v : List ℕ) → length v ≡ size A → 0 < length g
-    → table (length v) (λ j. times p (at g (length g - 1)) (at v j)) ≡ apply p A (drop (length g - 1) g) v
-horner-begins p A g v e l =
-    ap (λ n. table n (λ j. times p (at g last) (at v j))) e ∙ sym (apply-one p A (at g last) v)
+pub horner-begins : (p : ℕ) (A : Matrix) (g v w : List ℕ) → length v ≡ size A → 0 < length g
+    → w ≡ table (length v) (λ j. times p (at g (length g - 1)) (at v j)) → w ≡ apply p A (drop (length g - 1) g) v
+horner-begins p A g v w e l made =
+    made ∙ ap (λ n. table n (λ j. times p (at g last) (at v j))) e ∙ sym (apply-one p A (at g last) v)
     ∙ ap (λ h. apply p A h v)
     (sym (drop-cons g last 0 (omega (arith, l)) ∙ ap (λ k. at g last ∷ drop k g) whole ∙ ap (λ h. at g last ∷ h) (drop-length g)))
   where
@@ -169,11 +185,12 @@ horner-begins p A g v e l =
     whole : suc (length g - 1) ≡ length g
     whole = omega (arith, l)
 
-pub horner-goes-on : (p : ℕ) (A : Matrix) → Valid p A → (g v : List ℕ) (i : ℕ) → 0 < i → i < length g
-    → step p A (at g (i - 1)) v (apply p A (drop i g) v) ≡ apply p A (drop (i - 1) g) v
-horner-goes-on p A h g v i l k =
+pub horner-goes-on : (p : ℕ) (A : Matrix) → Valid p A → (g v : List ℕ) (i : ℕ) (w w′ : List ℕ) → 0 < i → i < length g
+    → w ≡ apply p A (drop i g) v → w′ ≡ step p A (at g (i - 1)) v w → w′ ≡ apply p A (drop (i - 1) g) v
+horner-goes-on p A h g v i w w′ l k held made =
     let next : i ≡ suc (i - 1) = omega (arith, l) in
-    ap (λ m. step p A (at g (i - 1)) v (apply p A (drop m g) v)) next
+    made ∙ ap (step p A (at g (i - 1)) v) held
+    ∙ ap (λ m. step p A (at g (i - 1)) v (apply p A (drop m g) v)) next
     ∙ sym (apply-cons p A h (at g (i - 1)) (drop (suc (i - 1)) g) v) ∙ ap (λ m. apply p A m v) (sym (drop-cons g (i - 1) 0 (omega (arith, k))))
 
 -- ---- their elements

@@ -1,5 +1,7 @@
 -- what the contracts cite
+pub mod Modulus
 pub mod Sums
+pub mod Convolution
 pub mod Written
 pub mod Region
 pub mod Horner
@@ -11,6 +13,4 @@ pub mod Lent
 pub mod Projection
 pub mod Factor
 pub mod Turns
-pub mod Solver
-pub mod Verdict
-pub mod Taken
+pub mod Pass

@@ -6,21 +6,23 @@
 --     sum-one          a sum of which one term is not 0
 --     dot-words        a dot product with words, each taken modulo p: one reduction is enough
 --     dot-unit         a dot product with a unit vector: an element
---     projection-words, projection-unit      "the R vectors, then the unit vectors 1 to n"
+--     dot-nothing      a dot product with no vector: 0
+--     projection-past  behind the words: an element, or 0 past the end
 use mathlib.Core.Path.{_≡_, refl, sym, ap, ap₂, _∙_}
 use mathlib.Core.Logic.{_≢_, _⊎_, inl, inr}
 use mathlib.Core.Bool.{cond}
 use mathlib.Core.List.{List, []}
-use Prim.Native.Nat.{ℕ, zero, suc, _+_, _*_, _/_, _%_, _≤_, _<_}
-use native.Mathlib.Nat.{zero-add, add-zero, zero-mul, one-mul, mod-eq-of-lt, eq-or-lt-of-le, le-of-suc-le-suc, sub-zero}
+use Prim.Native.Nat.{ℕ, zero, suc, _+_, _-_, _*_, _/_, _%_, _≤_, _<_}
+use native.Mathlib.Nat.{zero-add, add-zero, zero-mod, zero-mul, one-mul, mod-eq-of-lt, eq-or-lt-of-le, le-of-suc-le-suc, sub-zero}
+use native.Mathlib.Decide.{decLt}
 use native.Mathlib.Omega.{arith}
 use lib.Dec.{eqb}
-use lib.ListN.{length, getD, List·getD-append}
-use lib.Seq.{getD-append-add}
+use lib.ListN.{length, getD, List·getD-eq-default}
 use borrow.Author.Tests.{eq-eqb, ne-eqb}
 use Rattle.meaning.specs.List.{at, sum, sumFrom, table}
-use Rattle.meaning.specs.Solver.{vectors, units, projections, dot}
-use Rattle.laws.specs.List.{sum-suc, sum-ext, sum-zeros, length-table, getD-table}
+use Rattle.meaning.specs.Solver.{vectorCount, projections, dot}
+use Rattle.laws.specs.List.{sum-suc, sum-ext, sum-zeros, getD-table}
+use Rattle.laws.specs.Solver.{vectorCount-div, length-projections, projection-unit}
 use Rattle.residue.specs.Numbers.{mod-mul-mod}
 use Rattle.wiedemann.specs.Horner.{sum-mod-ext}
 
@@ -73,15 +75,26 @@ dot-unit p v j l h =
     others i k ne =
         ap (λ x. x * at v i) (getD-table (length v) (λ m. cond (eqb m j) 1 0) i 0 k ∙ ap (λ t. cond t 1 0) (ne-eqb i j ne)) ∙ zero-mul (at v i)
 
-module _ (p n : ℕ) (words : List ℕ) where
-  pub projection-words : (j : ℕ) → j < length words / n → getD (projections p n words) j [] ≡ table n (λ i. at words (j * n + i) % p)
-  unfolding projections vectors
-  projection-words j l =
-      List·getD-append (vectors p n words) (units n) [] j (omega (arith, l, length-table (length words / n) (λ k. table n (λ i. at words (k * n + i) % p))))
-      ∙ getD-table (length words / n) (λ k. table n (λ i. at words (k * n + i) % p)) j [] l
+pub dot-nothing : (p : ℕ) (v : List ℕ) → dot p [] v ≡ 0
+unfolding dot
+dot-nothing p v = ap (λ x. x % p) (sum-zeros (length v) (λ i. at [] i * at v i) (λ i l. zero-mul (at v i))) ∙ zero-mod p
 
-  pub projection-unit : (k : ℕ) → k < n → getD (projections p n words) (length words / n + k) [] ≡ table n (λ i. cond (eqb i k) 1 0)
-  unfolding projections vectors units
-  projection-unit k l =
-      ap (λ m. getD (projections p n words) (m + k) []) (sym (length-table (length words / n) (λ j. table n (λ i. at words (j * n + i) % p))))
-      ∙ getD-append-add (vectors p n words) (units n) k [] ∙ getD-table n (λ j. table n (λ i. cond (eqb i j) 1 0)) k [] l
+-- behind the words: an element, or 0 past the end
+pub projection-past : (p : ℕ) (words v : List ℕ) (j R : ℕ) → R ≡ length words / length v → R ≤ j → ((i : ℕ) → i < length v → at v i < p)
+    → dot p (getD (projections p (length v) words) j []) v ≡ at v (j - R)
+projection-past p words v j R e l below = go (decLt (j - R) (length v))
+  where
+    count : R ≡ vectorCount (length v) words
+    count = e ∙ sym (vectorCount-div (length v) words)
+
+    place : j ≡ vectorCount (length v) words + (j - R)
+    place = omega (arith, l, count)
+
+    go : Dec (j - R < length v) → dot p (getD (projections p (length v) words) j []) v ≡ at v (j - R)
+    go (yes k) =
+        ap (λ u. dot p u v) (ap (λ m. getD (projections p (length v) words) m []) place ∙ projection-unit p (length v) words (j - R) k)
+        ∙ dot-unit p v (j - R) k (below (j - R) k)
+    go (no k) =
+        ap (λ u. dot p u v)
+        (List·getD-eq-default (projections p (length v) words) [] (omega (arith, k, place, length-projections p (length v) words)))
+        ∙ dot-nothing p v ∙ sym (List·getD-eq-default v 0 (omega (arith, k)))

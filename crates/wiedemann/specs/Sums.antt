@@ -5,11 +5,11 @@
 --     high-fits, fold-fits      each step of that fits a word
 --     sumFrom-empty, sumFrom-suc, sumFrom-next      sums over a range: nothing, and one more at its end
 --     sumFrom-split    a range as two
---     sumFrom-one, sumFrom-two, sumFrom-four        a few terms, as the code adds them
+--     sumFrom-one, sumFrom-two, sumFrom-four, two-added, four-added        a few terms, as the code adds them
 --     sumFrom-ext      terms that agree within the range
 --     residues-fit, word-fits, words-fit            how large a product of two residues, of a 32-bit word and a residue, of two 32-bit words is
---     Summed           the invariant of every loop that sums into a total: summed-none where it begins, summed-more for a turn,
---                      summed-both for two such loops after each other
+--     Summed           the invariant of every loop that sums into a total: summed-none where it begins, summed-more for a turn, summed-one for a
+--                      turn with one term, summed-both for two such loops after each other
 use mathlib.Core.Path.{_≡_, sym, ap, ap₂, _∙_}
 use Prim.Native.Nat.{ℕ, zero, suc, _+_, _*_, _-_, _%_, _≤_, _<_}
 use native.Mathlib.Nat.{add-mod-mod, zero-add, add-zero, add-assoc, add-suc, sub-self, add-sub-of-le, mul-le-mul, suc-mul, zero-mul, one-mul}
@@ -87,6 +87,12 @@ module _ (a : ℕ) (f : ℕ → ℕ) where
   pub sumFrom-four : sumFrom a (a + 4) f ≡ f a + f (a + 1) + f (a + 2) + f (a + 3)
   sumFrom-four = more 3 (f a + f (a + 1) + f (a + 2)) (more 2 (f a + f (a + 1)) sumFrom-two)
 
+  pub two-added : (x y : ℕ) → x ≡ f a → y ≡ f (a + 1) → x + y ≡ sumFrom a (a + 2) f
+  two-added x y p q = ap₂ _+_ p q ∙ sym sumFrom-two
+
+  pub four-added : (x y z w : ℕ) → x ≡ f a → y ≡ f (a + 1) → z ≡ f (a + 2) → w ≡ f (a + 3) → x + y + z + w ≡ sumFrom a (a + 4) f
+  four-added x y z w p q r s = ap₂ _+_ (ap₂ _+_ (ap₂ _+_ p q) r) s ∙ sym sumFrom-four
+
 pub sumFrom-ext : (a b : ℕ) (f g : ℕ → ℕ) → ((k : ℕ) → a ≤ k → k < b → f k ≡ g k) → sumFrom a b f ≡ sumFrom a b g
 sumFrom-ext a b f g h = sum-ext (b - a) (λ j. f (a + j)) (λ j. g (a + j)) (λ j l. h (a + j) (omega arith) (omega arith))
 
@@ -124,6 +130,10 @@ summed-more t s r a b c f x l k h e m =
           ∙ ap (λ y. number t + y) (sym (sumFrom-split a b c f l (omega (arith, k))));
       carries = omega (arith, m .1, h .carries, k);
     }
+
+pub summed-one : (t s r : Total) (a b : ℕ) (f : ℕ → ℕ) (x : ℕ) → a ≤ b → Summed t s a b f → x ≡ f b → (number r ≡ number s + x) × (r .high ≤ s .high + 1)
+    → Summed t r a (b + 1) f
+summed-one t s r a b f x l h e m = summed-more t s r a b (b + 1) f x l (omega arith) h (e ∙ sym (sumFrom-one b f)) m
 
 pub summed-both : (t s r : Total) (a b c : ℕ) (f : ℕ → ℕ) → a ≤ b → b ≤ c → Summed t s a b f → Summed s r b c f → Summed t r a c f
 summed-both t s r a b c f l k h m =

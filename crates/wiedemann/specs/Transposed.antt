@@ -7,14 +7,15 @@
 --     scattered-none, scattered-more      no entry, and one entry more
 --     vector-scattered, vector-gathered      what is reduced is below p
 --     gathered         the transposed product of the first i rows
---     gathered-none, gathered-more, gathered-all      no row, one row more, all of them
-use mathlib.Core.Path.{_≡_, refl, sym, ap, _∙_}
+--     gathered-none, gathered-next, gathered-all      no row, one row more, all of them
+use mathlib.Core.Path.{_≡_, refl, sym, ap, ap₂, _∙_}
 use mathlib.Core.Logic.{_≢_}
 use mathlib.Core.Bool.{cond}
 use mathlib.Core.List.{List}
-use Prim.Native.Nat.{ℕ, suc, _+_, _*_, _-_, _%_, _≤_, _<_}
+use Prim.Native.Nat.{ℕ, suc, _+_, _*_, _%_, _≤_, _<_}
 use native.Mathlib.Nat.{add-zero, mod-lt, mod-eq-of-lt, mod-add-mod, add-mod-mod, mul-comm, add-assoc, zero-mod}
 use native.Mathlib.Decide.{ℕ-discrete}
+use native.Mathlib.Numerals.{add-one}
 use native.Mathlib.Omega.{arith}
 use lib.Dec.{eqb}
 use lib.ListN.{length, set, length-set}
@@ -114,7 +115,7 @@ gathered-none p A v =
     table-ext (size A) (λ j. 0) (λ j. columnSum A v 0 j % p)
     (λ j l. sym (ap (λ x. x % p) (sum-zero (λ t. rowSum A t (hit (A .columns) (A .values) (at v t) j))) ∙ zero-mod p))
 
-pub gathered-more : (p : ℕ) (A : Matrix) (v : List ℕ) (i : ℕ)
+gathered-more : (p : ℕ) (A : Matrix) (v : List ℕ) (i : ℕ)
     → scattered p (at v i) (at (A .starts) i) (at (A .starts) (i + 1)) (A .columns) (A .values) (gathered p A v i) ≡ gathered p A v (suc i)
 unfolding scattered
 gathered-more p A v i =
@@ -131,6 +132,14 @@ gathered-more p A v i =
 
     row : ℕ → ℕ
     row j = sumFrom (at (A .starts) i) (at (A .starts) (i + 1)) (hit (A .columns) (A .values) (at v i) j)
+
+-- by the bounds that a loop over rows carries
+pub gathered-next : (p : ℕ) (A : Matrix) (v : List ℕ) (i from to : ℕ) (w w′ : List ℕ) → from ≡ at (A .starts) i → to ≡ at (A .starts) (i + 1)
+    → w ≡ gathered p A v i → w′ ≡ scattered p (at v i) from to (A .columns) (A .values) w → w′ ≡ gathered p A v (i + 1)
+gathered-next p A v i from to w w′ here next held made =
+    made ∙ ap₂ (λ a e. scattered p (at v i) a e (A .columns) (A .values) w) here next
+    ∙ ap (scattered p (at v i) (at (A .starts) i) (at (A .starts) (i + 1)) (A .columns) (A .values)) held ∙ gathered-more p A v i
+    ∙ ap (gathered p A v) (sym (add-one i))
 
 pub vector-gathered : (p : ℕ) (A : Matrix) (v : List ℕ) (i : ℕ) → 0 < p → Vector p (size A) (gathered p A v i)
 vector-gathered p A v i l = vector-table p (size A) (columnSum A v i) l

@@ -37,7 +37,7 @@ use Rattle.wiedemann.specs.Written.{Written}
 use Rattle.wiedemann.specs.Region.{part, Apart, Regions, length-part, at-part, part-ext, written-part}
 use Rattle.wiedemann.specs.Region as region
 use Rattle.wiedemann.specs.Horner.{step, stepAt, table-step, step-product, power-zero, power-suc, apply-one, apply-cons, vector-table, vector-product}
-use Rattle.wiedemann.specs.Recurrence.{Found}
+use Rattle.wiedemann.specs.Recurrence.{HoldsGenerator}
 use Rattle.wiedemann.specs.Lent.{part-at, part-cons, lent, length-lent, take-lent, inner-lent, same-take, same-drop, written-take, written-drop, take-padded}
 
 pub data Seat (n a : ℕ) : Type 0 where
@@ -294,7 +294,7 @@ monic-leading p d f e =
     eqb-true (at f d) 1 (and-right (eqb (length f) (d + 1) && every (λ a. ltb a p) f) (eqb (at f d) 1) e)
 
 pub generated : (p : ℕ) (W : List ℕ) (from count m : ℕ) (Y : List ℕ) (t : ℕ) → isModulus p ≡ true → m ≡ 4 * count + 8 → from + m ≤ length W
-    → length Y ≡ m → Found p count (part from m W) Y t → Generated p W from count (lent W from m Y) t
+    → length Y ≡ m → HoldsGenerator p count (part from m W) Y t → Generated p W from count (lent W from m Y) t
 unfolding degree
 generated p W from count m Y t modulus e l same found =
     record {

@@ -3,11 +3,10 @@
 --     written-none             nothing written
 --     written-more             one place more
 --     written-all              all of them, where a count has come to its end
---     Turned W a L W′          W′ is W but for the L + 1 places from a on, which are in reverse order
 use mathlib.Core.Path.{_≡_, refl, sym, ap, _∙_, subst}
 use mathlib.Core.Logic.{_⊎_, inl, inr}
 use mathlib.Core.List.{List}
-use Prim.Native.Nat.{ℕ, _+_, _-_, _≤_, _<_}
+use Prim.Native.Nat.{ℕ, _+_, _≤_, _<_}
 use native.Mathlib.Nat.{eq-or-lt-of-le}
 use native.Mathlib.Omega.{arith}
 use lib.ListN.{length, set, length-set}
@@ -41,9 +40,3 @@ written-more {W} {W′} {a} {n} {f} v w l e =
 
 pub written-all : {W W′ : List ℕ} {a n m : ℕ} {f : ℕ → ℕ} → n ≡ m → Written W a n f W′ → Written W a m f W′
 written-all {W} {W′} {a} {n} {m} {f} e w = subst (λ k. Written W a k f W′) e w
-
-pub record Turned (W : List ℕ) (a L : ℕ) (W′ : List ℕ) : Type 0 where
-  pub same-length : length W′ ≡ length W
-  pub inside : (k : ℕ) → k ≤ L → at W′ (a + k) ≡ at W (a + (L - k))
-  pub before : (k : ℕ) → k < a → at W′ k ≡ at W k
-  pub after : (k : ℕ) → a + L < k → at W′ k ≡ at W k

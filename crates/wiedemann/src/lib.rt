@@ -1,10 +1,11 @@
-// Sparse matrices modulo a prime: their products and polynomials, shortest recurrences, the solver and the checks of offered answers.
+// Sparse matrices modulo a prime: their products and polynomials, shortest recurrences, one pass of a run, and the checks of offered answers.
+mod convolution;
 pub mod matrix;
+mod modulus;
+mod multiplier;
 pub mod offered;
-mod pass;
+pub mod pass;
 mod projection;
 pub mod recurrence;
-mod scale;
-mod slice;
-pub mod solver;
+pub mod slice;
 mod sums;

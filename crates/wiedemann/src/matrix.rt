@@ -1,26 +1,24 @@
 // Sparse matrices: the product of a row, and what is made of it.
 ghost use mathlib.Core.Path.{_≡_};
 ghost use mathlib.Core.Logic.{_≢_};
-ghost use Prim.Native.Nat.{ℕ, _+_, _-_, _/_, _%_, _≤_, _<_};
-ghost use lib.ListN.{length};
+ghost use Prim.Native.Nat.{ℕ, _+_, _-_, _%_, _≤_, _<_};
+ghost use lib.ListN.{length, drop};
 ghost use Rattle.meaning.specs.List.{at, sumFrom, table};
 ghost use Rattle.meaning.specs.Field.{times};
-ghost use Rattle.wiedemann.specs.Sums.{Summed};
+ghost use Rattle.wiedemann.specs.Modulus.{Modular};
+ghost use Rattle.wiedemann.specs.Sums.{number, Summed};
 ghost use Rattle.meaning.specs.Matrix.{matrix, product, apply, transposed};
 ghost use Rattle.meaning.specs.Calls.{productRefusal, productAfter, applyRefusal, applyAfter};
-ghost use Rattle.checks.specs.Valid.{Entries, term, Valid, Vector, rowProduct};
+ghost use Rattle.checks.specs.Valid.{Entries, term, Valid, Vector};
 ghost use Rattle.wiedemann.specs.Horner.{step, stepAt};
 ghost use Rattle.wiedemann.specs.Written.{Written};
 ghost use Rattle.wiedemann.specs.Region.{part, Regions};
 ghost use Rattle.wiedemann.specs.Transposed.{scattered};
 ghost use Rattle.wiedemann.specs.Answers.{Writes};
-use crate::scale::added;
-use crate::scale::quotient;
-use crate::scale::scaled;
+use crate::modulus::Modulus;
+use crate::multiplier::Multiplier;
 use crate::slice::clear;
-use crate::slice::transfer;
 use crate::sums::Total;
-use crate::sums::reciprocal;
 use crate::sums::times;
 use checks::apply_refusal;
 use checks::product_refusal;
@@ -79,36 +77,31 @@ fn ones(total: Total, from: usize, to: usize, columns: &[u32], values: &[u32], v
     sum
 }
 
-// start plus the product of row i with v, modulo p: element i of Av if start is 0. One reduction for a row.
+// start plus the products of the entries from `from` up to but not including `to`, not reduced. So small that LLVM inlines it into a loop over rows.
 pub(crate) fn row(
-    p: u32,
-    reciprocal: u64,
     start: u64,
-    i: usize,
-    starts: &[u32],
+    from: usize,
+    to: usize,
     columns: &[u32],
     values: &[u32],
     v: &[u32],
-) -> u32
-    requires { ⌜ Valid p (matrix (now starts) (now columns) (now values)) ⌝ }
-    requires { ⌜ (reciprocal ≡ 18446744073709551615 / p) × (i < length (now starts) - 1) × Vector p (length (now starts) - 1) (now v) ⌝ }
-    ensures { λ r. ⌜ r ≡ (start + rowProduct (matrix (now (starts .entry)) (now (columns .entry)) (now (values .entry))) (now (v .entry)) i) % p ⌝ }
+) -> Total
+    requires { ⌜ Entries (now columns) (now values) (now v) × (from ≤ to) × (to ≤ length (now columns)) ⌝ }
+    ensures { λ r. ⌜ (number r ≡ start + sumFrom from to (term (now (columns .entry)) (now (values .entry)) (now (v .entry))))
+        × (r .high < 4294967296) ⌝ }
 {
-    let from = wide(starts[i]);
-    let to = wide(starts[i + 1]);
     let middle = to - (to - from) % 4;
     let total = Total {
         low: start,
         high: 0,
     };
     let most = fours(total, from, middle, columns, values, v);
-    ones(most, middle, to, columns, values, v).residue(p, reciprocal)
+    ones(most, middle, to, columns, values, v)
 }
 
-// Horner's step: c × x plus the product with v, into out. It is the product if c is 0.
+// Horner's step: c × x plus the product with v, into out. It is the product if c is 0. A row's end is the next row's start.
 pub(crate) fn step(
-    p: u32,
-    reciprocal: u64,
+    m: Modulus,
     c: u32,
     x: &[u32],
     starts: &[u32],
@@ -117,51 +110,26 @@ pub(crate) fn step(
     v: &[u32],
     out: &mut [u32],
 )
-    requires { ⌜ Valid p (matrix (now starts) (now columns) (now values)) ⌝ }
-    requires { ⌜ (reciprocal ≡ 18446744073709551615 / p) × (length (now out) ≡ length (now starts) - 1) × (length (now x) ≡ length (now starts) - 1) × Vector p (length (now starts) - 1) (now v) ⌝ }
-    ensures { λ r. ⌜ now (out .exit) ≡ step p (matrix (now (starts .entry)) (now (columns .entry)) (now (values .entry))) c (now (x .entry)) (now (v .entry)) ⌝ }
+    requires { ⌜ Valid (m .p) (matrix (now starts) (now columns) (now values)) ⌝ }
+    requires { ⌜ Modular m × (length (now out) ≡ length (now starts) - 1) × (length (now x) ≡ length (now starts) - 1)
+        × Vector (m .p) (length (now starts) - 1) (now v) ⌝ }
+    ensures { λ r. ⌜ now (out .exit)
+        ≡ step (m .p) (matrix (now (starts .entry)) (now (columns .entry)) (now (values .entry))) c (now (x .entry)) (now (v .entry)) ⌝ }
 {
     let rows = starts.len() - 1;
+    let mut from = wide(starts[0]);
     let mut i = 0;
     while i < rows {
-        out[i] = row(p, reciprocal, times(c, x[i]), i, starts, columns, values, v);
+        let to = wide(starts[i + 1]);
+        out[i] = row(times(c, x[i]), from, to, columns, values, v).residue(m);
+        from = to;
         i += 1;
     }
 }
 
-// The row with the part of `work` from `source` on.
-fn row_within(
-    p: u32,
-    reciprocal: u64,
-    start: u64,
-    i: usize,
-    starts: &[u32],
-    columns: &[u32],
-    values: &[u32],
-    work: &[u32],
-    source: usize,
-) -> u32
-    requires { ⌜ Valid p (matrix (now starts) (now columns) (now values)) ⌝ }
-    requires { ⌜ (reciprocal ≡ 18446744073709551615 / p) × (i < length (now starts) - 1) × (source + (length (now starts) - 1) ≤ length (now work)) × Vector p (length (now starts) - 1) (part source (length (now starts) - 1) (now work)) ⌝ }
-    ensures { λ r. ⌜ r ≡ (start + rowProduct (matrix (now (starts .entry)) (now (columns .entry)) (now (values .entry))) (part source (length (now (starts .entry)) - 1) (now (work .entry))) i) % p ⌝ }
-{
-    let end = source + (starts.len() - 1);
-    row(
-        p,
-        reciprocal,
-        start,
-        i,
-        starts,
-        columns,
-        values,
-        &work[source..end],
-    )
-}
-
 // Horner's step within one slice: c × the part from `origin` on plus the product with the part from `source` on, into the part from `target` on.
 pub(crate) fn step_within(
-    p: u32,
-    reciprocal: u64,
+    m: Modulus,
     c: u32,
     starts: &[u32],
     columns: &[u32],
@@ -171,25 +139,22 @@ pub(crate) fn step_within(
     source: usize,
     target: usize,
 )
-    requires { ⌜ Valid p (matrix (now starts) (now columns) (now values)) ⌝ }
-    requires { ⌜ (reciprocal ≡ 18446744073709551615 / p) × Regions p (length (now starts) - 1) origin source target (now work) ⌝ }
-    ensures { λ r. ⌜ Written (now (work .entry)) target (length (now (starts .entry)) - 1) (stepAt p (matrix (now (starts .entry)) (now (columns .entry)) (now (values .entry))) c (part origin (length (now (starts .entry)) - 1) (now (work .entry))) (part source (length (now (starts .entry)) - 1) (now (work .entry)))) (now (work .exit)) ⌝ }
+    requires { ⌜ Valid (m .p) (matrix (now starts) (now columns) (now values)) ⌝ }
+    requires { ⌜ Modular m × Regions (m .p) (length (now starts) - 1) origin source target (now work) ⌝ }
+    ensures { λ r. ⌜ Written (now (work .entry)) target (length (now (starts .entry)) - 1)
+        (stepAt (m .p) (matrix (now (starts .entry)) (now (columns .entry)) (now (values .entry))) c
+        (part origin (length (now (starts .entry)) - 1) (now (work .entry))) (part source (length (now (starts .entry)) - 1) (now (work .entry))))
+        (now (work .exit)) ⌝ }
 {
     let n = starts.len() - 1;
+    let end = source + n;
+    let mut from = wide(starts[0]);
     let mut i = 0;
     while i < n {
+        let to = wide(starts[i + 1]);
         let start = times(c, work[origin + i]);
-        work[target + i] = row_within(
-            p,
-            reciprocal,
-            start,
-            i,
-            starts,
-            columns,
-            values,
-            work,
-            source,
-        );
+        work[target + i] = row(start, from, to, columns, values, &work[source..end]).residue(m);
+        from = to;
         i += 1;
     }
 }
@@ -199,69 +164,45 @@ fn multiple(p: u32, c: u32, v: &[u32], out: &mut [u32])
     requires { ⌜ (c < p) × (p ≤ 2147483647) × (length (now out) ≡ length (now v)) ⌝ }
     ensures { λ r. ⌜ now (out .exit) ≡ table (length (now (v .entry))) (λ i. times p c (at (now (v .entry)) i)) ⌝ }
 {
-    let w = quotient(p, c);
+    let multiplier = Multiplier::of(p, c);
     let mut i = 0;
     while i < v.len() {
-        out[i] = scaled(p, c, w, v[i]);
+        out[i] = multiplier.times(p, v[i]);
         i += 1;
     }
 }
 
-// The step from the front of work.
-fn step_from(
-    p: u32,
-    reciprocal: u64,
-    c: u32,
-    x: &[u32],
+// Where Horner's rule begins: out holds what the last coefficient makes of v, or the last two, so that an even number of steps is left. The answer is
+// how many.
+fn lead(
+    m: Modulus,
     starts: &[u32],
     columns: &[u32],
     values: &[u32],
-    work: &[u32],
-    out: &mut [u32],
-)
-    requires { ⌜ Valid p (matrix (now starts) (now columns) (now values)) ⌝ }
-    requires { ⌜ (reciprocal ≡ 18446744073709551615 / p) × (length (now out) ≡ length (now starts) - 1) × (length (now x) ≡ length (now starts) - 1) × (length (now out) ≤ length (now work)) × Vector p (length (now starts) - 1) (part 0 (length (now starts) - 1) (now work)) ⌝ }
-    ensures { λ r. ⌜ now (out .exit) ≡ step p (matrix (now (starts .entry)) (now (columns .entry)) (now (values .entry))) c (now (x .entry)) (part 0 (length (now (starts .entry)) - 1) (now (work .entry))) ⌝ }
-{
-    let z: usize = 0;
-    let n = out.len();
-    step(
-        p,
-        reciprocal,
-        c,
-        x,
-        starts,
-        columns,
-        values,
-        &work[z..n],
-        out,
-    );
-}
-
-// out becomes c × x plus the product with out.
-fn turn(
-    p: u32,
-    reciprocal: u64,
-    c: u32,
-    x: &[u32],
-    starts: &[u32],
-    columns: &[u32],
-    values: &[u32],
+    g: &[u32],
+    v: &[u32],
     out: &mut [u32],
     work: &mut [u32],
-)
-    requires { ⌜ Valid p (matrix (now starts) (now columns) (now values)) ⌝ }
-    requires { ⌜ (reciprocal ≡ 18446744073709551615 / p) × (length (now x) ≡ length (now starts) - 1) × (length (now out) ≤ length (now work)) × Vector p (length (now starts) - 1) (now out) ⌝ }
-    ensures { λ r. ⌜ now (out .exit) ≡ step p (matrix (now (starts .entry)) (now (columns .entry)) (now (values .entry))) c (now (x .entry)) (now (out .entry)) ⌝ }
+) -> usize
+    requires { ⌜ Valid (m .p) (matrix (now starts) (now columns) (now values)) ⌝ }
+    requires { ⌜ Modular m × (length (now out) ≡ length (now starts) - 1) × (length (now work) ≡ length (now starts) - 1)
+        × Vector (m .p) (length (now starts) - 1) (now v) × (0 < length (now g)) × Vector (m .p) (length (now g)) (now g) ⌝ }
+    ensures { λ i. ⌜ (i < length (now (g .entry))) × (i % 2 ≡ 0) × (now (out .exit)
+        ≡ apply (m .p) (matrix (now (starts .entry)) (now (columns .entry)) (now (values .entry))) (drop i (now (g .entry))) (now (v .entry))) ⌝ }
 {
-    transfer(out, 0, work, 0, out.len());
-    step_from(p, reciprocal, c, x, starts, columns, values, work, out);
+    let i = g.len() - 1;
+    if i % 2 == 0 {
+        multiple(m.p, g[i], v, out);
+        return i;
+    }
+    multiple(m.p, g[i], v, work);
+    step(m, g[i - 1], v, starts, columns, values, work, out);
+    i - 1
 }
 
-// g(A)v into out by Horner's rule: k − 1 products for k coefficients.
+// g(A)v into out by Horner's rule: k − 1 products for k coefficients, by turns into work and into out. Nothing is copied.
 pub(crate) fn horner(
-    p: u32,
-    reciprocal: u64,
+    m: Modulus,
     starts: &[u32],
     columns: &[u32],
     values: &[u32],
@@ -270,29 +211,33 @@ pub(crate) fn horner(
     out: &mut [u32],
     work: &mut [u32],
 )
-    requires { ⌜ Valid p (matrix (now starts) (now columns) (now values)) ⌝ }
-    requires { ⌜ (reciprocal ≡ 18446744073709551615 / p) × (length (now out) ≡ length (now starts) - 1) × (length (now out) ≤ length (now work)) × Vector p (length (now starts) - 1) (now v) × (0 < length (now g)) × Vector p (length (now g)) (now g) ⌝ }
-    ensures { λ r. ⌜ now (out .exit) ≡ apply p (matrix (now (starts .entry)) (now (columns .entry)) (now (values .entry))) (now (g .entry)) (now (v .entry)) ⌝ }
+    requires { ⌜ Valid (m .p) (matrix (now starts) (now columns) (now values)) ⌝ }
+    requires { ⌜ Modular m × (length (now out) ≡ length (now starts) - 1) × (length (now work) ≡ length (now starts) - 1)
+        × Vector (m .p) (length (now starts) - 1) (now v) × (0 < length (now g)) × Vector (m .p) (length (now g)) (now g) ⌝ }
+    ensures { λ r. ⌜ now (out .exit)
+        ≡ apply (m .p) (matrix (now (starts .entry)) (now (columns .entry)) (now (values .entry))) (now (g .entry)) (now (v .entry)) ⌝ }
 {
-    let mut i = g.len() - 1;
-    multiple(p, g[i], v, out);
+    let mut i = lead(m, starts, columns, values, g, v, out, work);
     while 0 < i {
         i -= 1;
-        turn(p, reciprocal, g[i], v, starts, columns, values, out, work);
+        step(m, g[i], v, starts, columns, values, out, work);
+        i -= 1;
+        step(m, g[i], v, starts, columns, values, work, out);
     }
 }
 
-// c × the value of each entry added to out at its column: the product with one element of a row, all of whose entries share c's quotient.
+// c × the value of each entry added to out at its column: what a row adds to the transposed product. Its entries share one multiplier.
 fn scatter(p: u32, c: u32, from: usize, to: usize, columns: &[u32], values: &[u32], out: &mut [u32])
-    requires { ⌜ (c < p) × (p ≤ 2147483647) × (from ≤ to) × (to ≤ length (now columns)) × (length (now columns) ≡ length (now values)) × Vector p (length (now out)) (now out) ⌝ }
+    requires { ⌜ (c < p) × (p ≤ 2147483647) × (from ≤ to) × (to ≤ length (now columns))
+        × (length (now columns) ≡ length (now values)) × Vector p (length (now out)) (now out) ⌝ }
     requires { ⌜ ((k : ℕ) → k < length (now columns) → at (now columns) k < length (now out)) ⌝ }
     ensures { λ r. ⌜ now (out .exit) ≡ scattered p c from to (now (columns .entry)) (now (values .entry)) (now (out .entry)) ⌝ }
 {
-    let w = quotient(p, c);
+    let multiplier = Multiplier::of(p, c);
     let mut k = from;
     while k < to {
         let j = wide(columns[k]);
-        out[j] = added(p, c, w, values[k], out[j]);
+        out[j] = multiplier.added(p, values[k], out[j]);
         k += 1;
     }
 }
@@ -311,17 +256,12 @@ pub(crate) fn transposed_into(
     ensures { λ r. ⌜ now (out .exit) ≡ transposed p (matrix (now (starts .entry)) (now (columns .entry)) (now (values .entry))) (now (v .entry)) ⌝ }
 {
     clear(out, 0, v.len());
+    let mut from = wide(starts[0]);
     let mut i = 0;
     while i < v.len() {
-        scatter(
-            p,
-            v[i],
-            wide(starts[i]),
-            wide(starts[i + 1]),
-            columns,
-            values,
-            out,
-        );
+        let to = wide(starts[i + 1]);
+        scatter(p, v[i], from, to, columns, values, out);
+        from = to;
         i += 1;
     }
 }
@@ -342,15 +282,17 @@ pub fn product(
     v: &[u32],
     out: &mut [u32],
 ) -> Writing
-    ensures { λ r. ⌜ Writes r (productRefusal (field .p) (matrix (now (starts .entry)) (now (columns .entry)) (now (values .entry))) (now (v .entry)) (now (out .entry))) ⌝ }
-    ensures { λ r. ⌜ now (out .exit) ≡ productAfter product (field .p) (matrix (now (starts .entry)) (now (columns .entry)) (now (values .entry))) (now (v .entry)) (now (out .entry)) ⌝ }
+    ensures { λ r. ⌜ Writes r
+        (productRefusal (field .p) (matrix (now (starts .entry)) (now (columns .entry)) (now (values .entry))) (now (v .entry)) (now (out .entry))) ⌝ }
+    ensures { λ r. ⌜ now (out .exit)
+        ≡ productAfter product (field .p) (matrix (now (starts .entry)) (now (columns .entry)) (now (values .entry))) (now (v .entry)) (now (out .entry)) ⌝ }
 {
     let p = field.p;
     let number = product_refusal(p, starts, columns, values, v, out);
     if number != 0 {
         return Writing::Refused(number);
     }
-    step(p, reciprocal(p), 0, v, starts, columns, values, v, out);
+    step(Modulus::of(p), 0, v, starts, columns, values, v, out);
     Writing::Done
 }
 
@@ -363,8 +305,10 @@ pub fn transposed(
     v: &[u32],
     out: &mut [u32],
 ) -> Writing
-    ensures { λ r. ⌜ Writes r (productRefusal (field .p) (matrix (now (starts .entry)) (now (columns .entry)) (now (values .entry))) (now (v .entry)) (now (out .entry))) ⌝ }
-    ensures { λ r. ⌜ now (out .exit) ≡ productAfter transposed (field .p) (matrix (now (starts .entry)) (now (columns .entry)) (now (values .entry))) (now (v .entry)) (now (out .entry)) ⌝ }
+    ensures { λ r. ⌜ Writes r
+        (productRefusal (field .p) (matrix (now (starts .entry)) (now (columns .entry)) (now (values .entry))) (now (v .entry)) (now (out .entry))) ⌝ }
+    ensures { λ r. ⌜ now (out .exit)
+        ≡ productAfter transposed (field .p) (matrix (now (starts .entry)) (now (columns .entry)) (now (values .entry))) (now (v .entry)) (now (out .entry)) ⌝ }
 {
     let p = field.p;
     let number = product_refusal(p, starts, columns, values, v, out);
@@ -386,15 +330,29 @@ pub fn apply(
     out: &mut [u32],
     work: &mut [u32],
 ) -> Writing
-    ensures { λ r. ⌜ Writes r (applyRefusal (field .p) (matrix (now (starts .entry)) (now (columns .entry)) (now (values .entry))) (now (g .entry)) (now (v .entry)) (now (out .entry)) (now (work .entry))) ⌝ }
-    ensures { λ r. ⌜ now (out .exit) ≡ applyAfter (field .p) (matrix (now (starts .entry)) (now (columns .entry)) (now (values .entry))) (now (g .entry)) (now (v .entry)) (now (out .entry)) (now (work .entry)) ⌝ }
-    ensures { λ r. ⌜ (applyRefusal (field .p) (matrix (now (starts .entry)) (now (columns .entry)) (now (values .entry))) (now (g .entry)) (now (v .entry)) (now (out .entry)) (now (work .entry)) ≢ 0 → now (work .exit) ≡ now (work .entry)) ⌝ }
+    ensures { λ r. ⌜ Writes r (applyRefusal (field .p) (matrix (now (starts .entry)) (now (columns .entry)) (now (values .entry)))
+        (now (g .entry)) (now (v .entry)) (now (out .entry)) (now (work .entry))) ⌝ }
+    ensures { λ r. ⌜ now (out .exit) ≡ applyAfter (field .p) (matrix (now (starts .entry)) (now (columns .entry)) (now (values .entry)))
+        (now (g .entry)) (now (v .entry)) (now (out .entry)) (now (work .entry)) ⌝ }
+    ensures { λ r. ⌜ (applyRefusal (field .p) (matrix (now (starts .entry)) (now (columns .entry)) (now (values .entry)))
+        (now (g .entry)) (now (v .entry)) (now (out .entry)) (now (work .entry)) ≢ 0 → now (work .exit) ≡ now (work .entry)) ⌝ }
 {
     let p = field.p;
     let number = apply_refusal(p, starts, columns, values, g, v, out, work);
     if number != 0 {
         return Writing::Refused(number);
     }
-    horner(p, reciprocal(p), starts, columns, values, g, v, out, work);
+    let front: usize = 0;
+    let n = v.len();
+    horner(
+        Modulus::of(p),
+        starts,
+        columns,
+        values,
+        g,
+        v,
+        out,
+        &mut work[front..n],
+    );
     Writing::Done
 }

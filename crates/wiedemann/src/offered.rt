@@ -1,75 +1,60 @@
 // Two checks of a vector that anyone offers: does A take x to b, and is w not zero and taken to zero. Neither needs the solver.
 use crate::matrix::row;
+use crate::modulus::Modulus;
+use crate::slice::element;
 use crate::slice::is_zero;
-use crate::sums::reciprocal;
 use checks::system_refusal;
 use checks::takes_refusal;
+use checks::wide;
 use field::Field;
 ghost use mathlib.Core.Path.{_≡_};
-ghost use Prim.Native.Nat.{_-_, _/_, _<_};
+ghost use Prim.Native.Nat.{_-_, _<_};
 ghost use lib.Dec.{eqb};
 ghost use lib.ListN.{length};
 ghost use Rattle.meaning.specs.List.{at, all, isZero};
 ghost use Rattle.meaning.specs.Matrix.{matrix, product};
 ghost use Rattle.meaning.specs.Calls.{takesRefusal, takesAnswer, isNullRefusal, isNullAnswer};
 ghost use Rattle.checks.specs.Valid.{Valid, Vector};
-ghost use Rattle.wiedemann.specs.Answers.{Says};
+ghost use Rattle.wiedemann.specs.Modulus.{Modular};
+ghost use Rattle.wiedemann.specs.Answers.{Decides};
 
 // What a check of an offered vector answers.
-pub enum Verdict {
+pub enum Offered {
     Yes,
     No,
     // The number of the first check that turned the input down.
     Refused(u32),
 }
 
-// Element i of b, 0 past its end.
-fn element(b: &[u32], i: usize) -> u32
-    ensures { λ r. ⌜ r ≡ at (now (b .entry)) i ⌝ }
-{
-    if i < b.len() { b[i] } else { 0 }
-}
-
 // Every element of Ax is that of b, which has zeros after its end.
-fn agrees(
-    p: u32,
-    reciprocal: u64,
-    starts: &[u32],
-    columns: &[u32],
-    values: &[u32],
-    x: &[u32],
-    b: &[u32],
-) -> bool
-    requires { ⌜ Valid p (matrix (now starts) (now columns) (now values)) ⌝ }
-    requires { ⌜ (reciprocal ≡ 18446744073709551615 / p) × Vector p (length (now starts) - 1) (now x) ⌝ }
-    ensures { λ r. ⌜ r ≡ all (length (now (starts .entry)) - 1) (λ i. eqb (at (product p (matrix (now (starts .entry)) (now (columns .entry)) (now (values .entry))) (now (x .entry))) i) (at (now (b .entry)) i)) ⌝ }
+fn agrees(m: Modulus, starts: &[u32], columns: &[u32], values: &[u32], x: &[u32], b: &[u32]) -> bool
+    requires { ⌜ Valid (m .p) (matrix (now starts) (now columns) (now values)) ⌝ }
+    requires { ⌜ Modular m × Vector (m .p) (length (now starts) - 1) (now x) ⌝ }
+    ensures { λ r. ⌜ r ≡ all (length (now (starts .entry)) - 1)
+        (λ i. eqb (at (product (m .p) (matrix (now (starts .entry)) (now (columns .entry)) (now (values .entry))) (now (x .entry))) i) (at (now (b .entry)) i)) ⌝ }
 {
     let n = starts.len() - 1;
+    let mut from = wide(starts[0]);
     let mut i = 0;
     while i < n {
-        if row(p, reciprocal, 0, i, starts, columns, values, x) != element(b, i) {
+        let to = wide(starts[i + 1]);
+        if row(0, from, to, columns, values, x).residue(m) != element(b, i) {
             return false;
         }
+        from = to;
         i += 1;
     }
     true
 }
 
 // A takes w to zero.
-fn vanishes(
-    p: u32,
-    reciprocal: u64,
-    starts: &[u32],
-    columns: &[u32],
-    values: &[u32],
-    w: &[u32],
-) -> bool
-    requires { ⌜ Valid p (matrix (now starts) (now columns) (now values)) ⌝ }
-    requires { ⌜ (reciprocal ≡ 18446744073709551615 / p) × Vector p (length (now starts) - 1) (now w) ⌝ }
-    ensures { λ r. ⌜ r ≡ isZero (product p (matrix (now (starts .entry)) (now (columns .entry)) (now (values .entry))) (now (w .entry))) ⌝ }
+fn vanishes(m: Modulus, starts: &[u32], columns: &[u32], values: &[u32], w: &[u32]) -> bool
+    requires { ⌜ Valid (m .p) (matrix (now starts) (now columns) (now values)) ⌝ }
+    requires { ⌜ Modular m × Vector (m .p) (length (now starts) - 1) (now w) ⌝ }
+    ensures { λ r. ⌜ r ≡ isZero (product (m .p) (matrix (now (starts .entry)) (now (columns .entry)) (now (values .entry))) (now (w .entry))) ⌝ }
 {
     let n = w.len();
-    agrees(p, reciprocal, starts, columns, values, w, &w[n..])
+    agrees(m, starts, columns, values, w, &w[n..])
 }
 
 // Whether Ax = b.
@@ -80,36 +65,40 @@ pub fn takes(
     values: &[u32],
     x: &[u32],
     b: &[u32],
-) -> Verdict
-    ensures { λ r. ⌜ Says r (takesRefusal (field .p) (matrix (now (starts .entry)) (now (columns .entry)) (now (values .entry))) (now (x .entry)) (now (b .entry))) (takesAnswer (field .p) (matrix (now (starts .entry)) (now (columns .entry)) (now (values .entry))) (now (x .entry)) (now (b .entry))) ⌝ }
+) -> Offered
+    ensures { λ r. ⌜ Decides r
+        (takesRefusal (field .p) (matrix (now (starts .entry)) (now (columns .entry)) (now (values .entry))) (now (x .entry)) (now (b .entry)))
+        (takesAnswer (field .p) (matrix (now (starts .entry)) (now (columns .entry)) (now (values .entry))) (now (x .entry)) (now (b .entry))) ⌝ }
 {
     let p = field.p;
     let number = takes_refusal(p, starts, columns, values, x, b);
     if number != 0 {
-        return Verdict::Refused(number);
+        return Offered::Refused(number);
     }
-    if agrees(p, reciprocal(p), starts, columns, values, x, b) {
-        Verdict::Yes
+    if agrees(Modulus::of(p), starts, columns, values, x, b) {
+        Offered::Yes
     } else {
-        Verdict::No
+        Offered::No
     }
 }
 
 // Whether w is not zero and A takes it to zero.
-pub fn is_null(field: Field, starts: &[u32], columns: &[u32], values: &[u32], w: &[u32]) -> Verdict
-    ensures { λ r. ⌜ Says r (isNullRefusal (field .p) (matrix (now (starts .entry)) (now (columns .entry)) (now (values .entry))) (now (w .entry))) (isNullAnswer (field .p) (matrix (now (starts .entry)) (now (columns .entry)) (now (values .entry))) (now (w .entry))) ⌝ }
+pub fn is_null(field: Field, starts: &[u32], columns: &[u32], values: &[u32], w: &[u32]) -> Offered
+    ensures { λ r. ⌜ Decides r
+        (isNullRefusal (field .p) (matrix (now (starts .entry)) (now (columns .entry)) (now (values .entry))) (now (w .entry)))
+        (isNullAnswer (field .p) (matrix (now (starts .entry)) (now (columns .entry)) (now (values .entry))) (now (w .entry))) ⌝ }
 {
     let p = field.p;
     let number = system_refusal(p, starts, columns, values, w);
     if number != 0 {
-        return Verdict::Refused(number);
+        return Offered::Refused(number);
     }
     if is_zero(w) {
-        return Verdict::No;
+        return Offered::No;
     }
-    if vanishes(p, reciprocal(p), starts, columns, values, w) {
-        Verdict::Yes
+    if vanishes(Modulus::of(p), starts, columns, values, w) {
+        Offered::Yes
     } else {
-        Verdict::No
+        Offered::No
     }
 }

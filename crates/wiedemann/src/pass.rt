@@ -1,26 +1,34 @@
-// What a pass does, in a slice whose first three regions of n places hold r and, by turns, its iterates.
+// A pass of a run, in the run's work slice: F at the front, 2n + 1 places; r and two regions for its iterates Aⁱr, n places each; the recurrence's
+// part, 8 × left + 8 places; the rest is free. What needs no F runs in the `area` from r on.
 ghost use mathlib.Core.Path.{_≡_};
 ghost use mathlib.Core.Bool.{true};
 ghost use mathlib.Core.List.{[]};
-ghost use Prim.Native.Nat.{_+_, _-_, _*_, _/_, _≤_, _<_};
+ghost use Prim.Native.Nat.{_+_, _-_, _*_, _≤_, _<_};
 ghost use lib.ListN.{length, getD, set};
 ghost use Rattle.meaning.specs.Field.{isModulus};
 ghost use Rattle.meaning.specs.Matrix.{matrix};
 ghost use Rattle.meaning.specs.Solver.{projections, dot};
-ghost use Rattle.wiedemann.specs.Sums.{Summed};
+ghost use Rattle.wiedemann.specs.Modulus.{Modular};
 ghost use Rattle.checks.specs.Valid.{Valid, Vector};
 ghost use Rattle.wiedemann.specs.Region.{part};
 ghost use Rattle.wiedemann.specs.Projection.{Words};
-ghost use Rattle.wiedemann.specs.Turns.{Seat, Other, Turning, Advanced, Sequenced, Leading, Applying, Applied, Generated, Shortened};
-ghost use Rattle.wiedemann.specs.Factor.{cross, productAt, Multiplied, nothing};
+ghost use Rattle.wiedemann.specs.Turns.{Seat, Other, Turning, Advanced, Sequenced, Leading, Applied, Generated, Shortened};
+ghost use Rattle.wiedemann.specs.Factor.{Factors, productAt, Multiplied};
+ghost use Rattle.meaning.specs.Refusal.{first};
+ghost use Rattle.wiedemann.specs.Pass.{residualAt, stateChecks, Passes};
+use crate::convolution::crossed;
 use crate::matrix::step_within;
+use crate::modulus::Modulus;
+use crate::projection::Projection;
 use crate::projection::projected;
 use crate::recurrence::shortest;
 use crate::slice::copy;
-use crate::sums::Total;
-use crate::sums::times;
+use checks::are_elements;
+use checks::matrix_refusal;
+use checks::words_taken;
+use field::Field;
 
-// The region that is to be written next: the second after the first and the third, the third after the second.
+// The region of the next iterate: the second after the first and the third, the third after the second.
 fn other(n: usize, from: usize) -> usize
     requires { ⌜ Seat n from × (n ≤ 4096) ⌝ }
     ensures { λ to. ⌜ Other n from to ⌝ }
@@ -28,10 +36,9 @@ fn other(n: usize, from: usize) -> usize
     if from == n { 2 * n } else { n }
 }
 
-// c × r plus the product with the vector at `from`, into the next region; the answer is where that begins.
+// Horner's step: c × r plus A times the iterate at `from`, into the next region; the answer is where that begins.
 fn advance(
-    p: u32,
-    reciprocal: u64,
+    m: Modulus,
     c: u32,
     starts: &[u32],
     columns: &[u32],
@@ -39,223 +46,247 @@ fn advance(
     area: &mut [u32],
     from: usize,
 ) -> usize
-    requires { ⌜ Valid p (matrix (now starts) (now columns) (now values)) ⌝ }
-    requires { ⌜ (reciprocal ≡ 18446744073709551615 / p) × Turning p (length (now starts) - 1) from (now area) ⌝ }
-    ensures { λ to. ⌜ Advanced p (matrix (now (starts .entry)) (now (columns .entry)) (now (values .entry))) c (now (area .entry)) from (now (area .exit)) to ⌝ }
+    requires { ⌜ Valid (m .p) (matrix (now starts) (now columns) (now values)) ⌝ }
+    requires { ⌜ Modular m × Turning (m .p) (length (now starts) - 1) from (now area) ⌝ }
+    ensures { λ to. ⌜ Advanced (m .p) (matrix (now (starts .entry)) (now (columns .entry)) (now (values .entry))) c
+        (now (area .entry)) from (now (area .exit)) to ⌝ }
 {
     let n = starts.len() - 1;
     let to = other(n, from);
     let r: usize = 0;
-    step_within(p, reciprocal, c, starts, columns, values, area, r, from, to);
+    step_within(m, c, starts, columns, values, area, r, from, to);
     to
 }
 
-// What projection j makes of the vector at `from`.
-fn seen(
-    p: u32,
-    reciprocal: u64,
+// A term of the sequence: the projection's dot product with the iterate at `from`, into `place`.
+fn term(
+    m: Modulus,
     words: &[u32],
-    vectors: usize,
-    j: usize,
-    n: usize,
-    area: &[u32],
-    from: usize,
-) -> u32
-    requires { ⌜ (reciprocal ≡ 18446744073709551615 / p) × (0 < p) × (p ≤ 2147483647) × (j < vectors + n) × (n ≤ 4096) ⌝ }
-    requires { ⌜ Words n vectors (now words) × (from + n ≤ length (now area)) × Vector p n (part from n (now area)) ⌝ }
-    ensures { λ r. ⌜ r ≡ dot p (getD (projections p n (now (words .entry))) j []) (part from n (now (area .entry))) ⌝ }
-{
-    let end = from + n;
-    projected(p, reciprocal, words, vectors, j, &area[from..end])
-}
-
-// It becomes a term.
-fn note(
-    p: u32,
-    reciprocal: u64,
-    words: &[u32],
-    vectors: usize,
-    j: usize,
+    u: Projection,
     n: usize,
     area: &mut [u32],
     from: usize,
     place: usize,
 )
-    requires { ⌜ (reciprocal ≡ 18446744073709551615 / p) × (0 < p) × (p ≤ 2147483647) × (j < vectors + n) × (n ≤ 4096) ⌝ }
-    requires { ⌜ Words n vectors (now words) × (from + n ≤ length (now area)) × (place < length (now area)) × Vector p n (part from n (now area)) ⌝ }
-    ensures { λ _. ⌜ now (area .exit) ≡ set (now (area .entry)) place (dot p (getD (projections p n (now (words .entry))) j []) (part from n (now (area .entry)))) ⌝ }
+    requires { ⌜ Modular m × (n ≤ 4096) ⌝ }
+    requires { ⌜ Words n (u .vectors) (now words) × (from + n ≤ length (now area)) × (place < length (now area))
+        × Vector (m .p) n (part from n (now area)) ⌝ }
+    ensures { λ _. ⌜ now (area .exit) ≡ set (now (area .entry)) place
+        (dot (m .p) (getD (projections (m .p) n (now (words .entry))) (u .index) []) (part from n (now (area .entry)))) ⌝ }
 {
-    area[place] = seen(p, reciprocal, words, vectors, j, n, area, from);
+    let end = from + n;
+    area[place] = projected(m, words, u, &area[from..end]);
 }
 
-// The 2 × left terms u·r, u·Ar, u·A²r, .. after the three regions: 2 × left − 1 products.
-fn sequence(
-    p: u32,
-    reciprocal: u64,
+// The 2 × left terms u·r, u·Ar, u·A²r, .. where the recurrence begins: 2 × left − 1 products.
+fn terms(
+    m: Modulus,
     starts: &[u32],
     columns: &[u32],
     values: &[u32],
     words: &[u32],
-    vectors: usize,
-    j: usize,
+    u: Projection,
     area: &mut [u32],
     left: usize,
 )
-    requires { ⌜ Valid p (matrix (now starts) (now columns) (now values)) ⌝ }
-    requires { ⌜ (reciprocal ≡ 18446744073709551615 / p) × (j < vectors + (length (now starts) - 1)) × (0 < left) × (left ≤ 4096) × Words (length (now starts) - 1) vectors (now words) ⌝ }
-    requires { ⌜ (3 * (length (now starts) - 1) + 2 * left ≤ length (now area)) × Vector p (length (now starts) - 1) (part 0 (length (now starts) - 1) (now area)) ⌝ }
-    ensures { λ _. ⌜ Sequenced p (matrix (now (starts .entry)) (now (columns .entry)) (now (values .entry))) left (getD (projections p (length (now (starts .entry)) - 1) (now (words .entry))) j []) (now (area .entry)) (now (area .exit)) ⌝ }
+    requires { ⌜ Valid (m .p) (matrix (now starts) (now columns) (now values)) ⌝ }
+    requires { ⌜ Modular m × (0 < left) × (left ≤ 4096) × Words (length (now starts) - 1) (u .vectors) (now words) ⌝ }
+    requires { ⌜ (3 * (length (now starts) - 1) + 2 * left ≤ length (now area))
+        × Vector (m .p) (length (now starts) - 1) (part 0 (length (now starts) - 1) (now area)) ⌝ }
+    ensures { λ _. ⌜ Sequenced (m .p) (matrix (now (starts .entry)) (now (columns .entry)) (now (values .entry))) left
+        (getD (projections (m .p) (length (now (starts .entry)) - 1) (now (words .entry))) (u .index) [])
+        (now (area .entry)) (now (area .exit)) ⌝ }
 {
     let n = starts.len() - 1;
     let mut from = 0;
     let mut i = 0;
-    note(p, reciprocal, words, vectors, j, n, area, from, 3 * n);
+    term(m, words, u, n, area, from, 3 * n);
     while i + 1 < 2 * left {
-        from = advance(p, reciprocal, 0, starts, columns, values, area, from);
+        from = advance(m, 0, starts, columns, values, area, from);
         i += 1;
-        note(p, reciprocal, words, vectors, j, n, area, from, 3 * n + i);
+        term(m, words, u, n, area, from, 3 * n + i);
     }
 }
 
-// The shortest recurrence of the `count` terms from `from` on. Its part of the slice is lent to the recurrence's core, which begins afresh.
-fn generate(p: u32, area: &mut [u32], from: usize, count: usize) -> usize
-    requires { ⌜ (isModulus p ≡ true) × (count ≤ 8192) × (from ≤ 65536) × (from + (4 * count + 8) ≤ length (now area)) × Vector p count (part from count (now area)) ⌝ }
-    ensures { λ t. ⌜ Generated p (now (area .entry)) from count (now (area .exit)) t ⌝ }
+// The degree of the shortest recurrence of the `count` terms from `from` on; its generator stands behind them.
+fn recurrence_of_terms(m: Modulus, area: &mut [u32], from: usize, count: usize) -> usize
+    requires { ⌜ (isModulus (m .p) ≡ true) × Modular m × (count ≤ 8192) × (from ≤ 65536) ⌝ }
+    requires { ⌜ (from + (4 * count + 8) ≤ length (now area)) × Vector (m .p) count (part from count (now area)) ⌝ }
+    ensures { λ t. ⌜ Generated (m .p) (now (area .entry)) from count (now (area .exit)) t ⌝ }
 {
     let end = from + (4 * count + 8);
-    shortest(p, count, &mut area[from..end])
+    shortest(m, count, &mut area[from..end])
 }
 
-// f(A)r by Horner's rule, for the f of degree t at `f`: t products. The answer is the region that holds it.
-fn horner(
-    p: u32,
-    reciprocal: u64,
+// r becomes f(A)r by Horner's rule, for the monic f of degree t at `f`: t products.
+fn apply_within(
+    m: Modulus,
     starts: &[u32],
     columns: &[u32],
     values: &[u32],
     area: &mut [u32],
     f: usize,
     t: usize,
-) -> usize
-    requires { ⌜ Valid p (matrix (now starts) (now columns) (now values)) ⌝ }
-    requires { ⌜ (reciprocal ≡ 18446744073709551615 / p) × Leading p (length (now starts) - 1) (now area) f t ⌝ }
-    ensures { λ from. ⌜ Applying p (matrix (now (starts .entry)) (now (columns .entry)) (now (values .entry))) (now (area .entry)) f t 0 from (now (area .exit)) ⌝ }
+)
+    requires { ⌜ Valid (m .p) (matrix (now starts) (now columns) (now values)) ⌝ }
+    requires { ⌜ Modular m × Leading (m .p) (length (now starts) - 1) (now area) f t ⌝ }
+    ensures { λ _. ⌜ Applied (m .p) (matrix (now (starts .entry)) (now (columns .entry)) (now (values .entry)))
+        (now (area .entry)) f t (now (area .exit)) ⌝ }
 {
     let mut from = 0;
     let mut i = t;
     while 0 < i {
         i -= 1;
-        from = advance(
-            p,
-            reciprocal,
-            area[f + i],
-            starts,
-            columns,
-            values,
-            area,
-            from,
-        );
+        let c = area[f + i];
+        from = advance(m, c, starts, columns, values, area, from);
     }
-    from
-}
-
-// r becomes f(A)r.
-pub(crate) fn applied(
-    p: u32,
-    reciprocal: u64,
-    starts: &[u32],
-    columns: &[u32],
-    values: &[u32],
-    area: &mut [u32],
-    f: usize,
-    t: usize,
-)
-    requires { ⌜ Valid p (matrix (now starts) (now columns) (now values)) ⌝ }
-    requires { ⌜ (reciprocal ≡ 18446744073709551615 / p) × Leading p (length (now starts) - 1) (now area) f t ⌝ }
-    ensures { λ _. ⌜ Applied p (matrix (now (starts .entry)) (now (columns .entry)) (now (values .entry))) (now (area .entry)) f t (now (area .exit)) ⌝ }
-{
-    let from = horner(p, reciprocal, starts, columns, values, area, f, t);
     let r: usize = 0;
     copy(area, from, r, starts.len() - 1);
 }
 
-// The terms with projection j, their shortest recurrence f, and f(A)r in r's place; the answer is f's degree, and f stands behind the terms.
-pub(crate) fn shorten(
-    p: u32,
-    reciprocal: u64,
+// The terms with the projection, their generator f, and f(A)r in r's place; the answer is f's degree, and f stands behind the terms.
+fn take_factor(
+    m: Modulus,
     starts: &[u32],
     columns: &[u32],
     values: &[u32],
     words: &[u32],
-    vectors: usize,
-    j: usize,
+    u: Projection,
     area: &mut [u32],
     left: usize,
 ) -> usize
-    requires { ⌜ Valid p (matrix (now starts) (now columns) (now values)) × (isModulus p ≡ true) ⌝ }
-    requires { ⌜ (reciprocal ≡ 18446744073709551615 / p) × (j < vectors + (length (now starts) - 1)) × (0 < left) × (left ≤ 4096) × Words (length (now starts) - 1) vectors (now words) ⌝ }
-    requires { ⌜ (3 * (length (now starts) - 1) + (8 * left + 8) ≤ length (now area)) × Vector p (length (now starts) - 1) (part 0 (length (now starts) - 1) (now area)) ⌝ }
-    ensures { λ t. ⌜ Shortened p (matrix (now (starts .entry)) (now (columns .entry)) (now (values .entry))) left (getD (projections p (length (now (starts .entry)) - 1) (now (words .entry))) j []) (now (area .entry)) (now (area .exit)) t ⌝ }
+    requires { ⌜ Valid (m .p) (matrix (now starts) (now columns) (now values)) × (isModulus (m .p) ≡ true) ⌝ }
+    requires { ⌜ Modular m × (0 < left) × (left ≤ 4096) × Words (length (now starts) - 1) (u .vectors) (now words) ⌝ }
+    requires { ⌜ (3 * (length (now starts) - 1) + (8 * left + 8) ≤ length (now area))
+        × Vector (m .p) (length (now starts) - 1) (part 0 (length (now starts) - 1) (now area)) ⌝ }
+    ensures { λ t. ⌜ Shortened (m .p) (matrix (now (starts .entry)) (now (columns .entry)) (now (values .entry))) left
+        (getD (projections (m .p) (length (now (starts .entry)) - 1) (now (words .entry))) (u .index) [])
+        (now (area .entry)) (now (area .exit)) t ⌝ }
 {
     let n = starts.len() - 1;
-    sequence(
-        p,
-        reciprocal,
-        starts,
-        columns,
-        values,
-        words,
-        vectors,
-        j,
-        area,
-        left,
-    );
-    let t = generate(p, area, 3 * n, 2 * left);
-    applied(
-        p,
-        reciprocal,
-        starts,
-        columns,
-        values,
-        area,
-        3 * n + (2 * left + 2),
-        t,
-    );
+    terms(m, starts, columns, values, words, u, area, left);
+    let t = recurrence_of_terms(m, area, 3 * n, 2 * left);
+    apply_within(m, starts, columns, values, area, 3 * n + (2 * left + 2), t);
     t
 }
 
-// The sum of F[i] × f[k − i] from `from` up to but not including `to`: F stands at the front, f at `f`.
-fn crossed(work: &[u32], f: usize, k: usize, from: usize, to: usize) -> Total
-    requires { ⌜ (from ≤ to) × (to ≤ k + 1) × (k ≤ 8192) × (k < f) × (f + (k - from) < length (now work)) ⌝ }
-    ensures { λ r. ⌜ Summed nothing r from to (cross (now (work .entry)) f k) ⌝ }
-{
-    let mut total = Total { low: 0, high: 0 };
-    let mut i = from;
-    while i < to {
-        total = total.add(times(work[i], work[f + (k - i)]));
-        i += 1;
-    }
-    total
-}
-
-// Coefficient k of the product of F, of degree d, and f, of degree t: the sum over the places where both have a coefficient.
-fn coefficient(p: u32, reciprocal: u64, work: &[u32], d: usize, f: usize, t: usize, k: usize) -> u32
-    requires { ⌜ (reciprocal ≡ 18446744073709551615 / p) × (0 < p) × (d + t ≤ 8191) × (d + t < f) × (f + t < length (now work)) × (k ≤ d + t) ⌝ }
-    ensures { λ r. ⌜ r ≡ productAt p (now (work .entry)) d f t k ⌝ }
+// Coefficient k of the product of F, of degree d, and f, of degree t at `f`: the sum over the places where both have a coefficient.
+fn coefficient(m: Modulus, work: &[u32], d: usize, f: usize, t: usize, k: usize) -> u32
+    requires { ⌜ Modular m × Factors (m .p) (now work) d f t × (k ≤ d + t) ⌝ }
+    ensures { λ r. ⌜ r ≡ productAt (m .p) (now (work .entry)) d f t k ⌝ }
 {
     let from = if k < t { 0 } else { k - t };
     let to = if k < d { k + 1 } else { d + 1 };
-    crossed(work, f, k, from, to).residue(p, reciprocal)
+    let front: usize = 0;
+    crossed(work, front, f + k, from, to).residue(m)
 }
 
 // F becomes F × f, from the highest coefficient down: those that are still read stand below.
-pub(crate) fn multiply(p: u32, reciprocal: u64, work: &mut [u32], d: usize, f: usize, t: usize)
-    requires { ⌜ (reciprocal ≡ 18446744073709551615 / p) × (0 < p) × (d + t ≤ 8191) × (d + t < f) × (f + t < length (now work)) ⌝ }
-    ensures { λ _. ⌜ Multiplied p (now (work .entry)) d f t (now (work .exit)) ⌝ }
+fn multiply(m: Modulus, work: &mut [u32], d: usize, f: usize, t: usize)
+    requires { ⌜ Modular m × Factors (m .p) (now work) d f t ⌝ }
+    ensures { λ _. ⌜ Multiplied (m .p) (now (work .entry)) d f t (now (work .exit)) ⌝ }
 {
     let mut k = d + t + 1;
     while 0 < k {
         k -= 1;
-        work[k] = coefficient(p, reciprocal, work, d, f, t, k);
+        work[k] = coefficient(m, work, d, f, t, k);
     }
+}
+
+// ---- the call
+
+// A pass: left, its degree t, its applications.
+pub struct Pass {
+    pub left: usize,
+    pub degree: usize,
+    pub applications: u64,
+}
+
+// What a pass answers.
+pub enum Passed {
+    Made(Pass),
+    // The number of the first check that turned the input down.
+    Refused(u32),
+}
+
+// Where r begins: behind the places that F may take.
+pub fn residual_at(n: u32) -> usize
+    ensures { λ r. ⌜ r ≡ residualAt n ⌝ }
+{
+    2 * (n as usize) + 1
+}
+
+// 8, 10, 11 and 9 of a run's state: D is below n, the words, the work slice, and F and r, which can be read then.
+fn state_refusal(p: u32, n: usize, d: usize, words: &[u32], work: &[u32]) -> u32
+    requires { ⌜ n ≤ 4096 ⌝ }
+    ensures { λ r. ⌜ r ≡ first (stateChecks p n d (now (words .entry)) (now (work .entry))) ⌝ }
+{
+    if n <= d {
+        return 8;
+    }
+    if !words_taken(n, words) {
+        return 10;
+    }
+    if work.len() < 16 * n + 16 {
+        return 11;
+    }
+    let front: usize = 0;
+    let end = d + 1;
+    let from = residual_at(n as u32);
+    let to = from + n;
+    if !(are_elements(p, &work[front..end]) & are_elements(p, &work[from..to])) {
+        return 9;
+    }
+    0
+}
+
+// A pass with projection j of the run whose r and F, of degree d, stand in the work slice: r becomes f(A)r, F becomes F × f. It asks nothing of how
+// the run came there, and refuses what is no such state.
+pub fn make_pass(
+    field: Field,
+    starts: &[u32],
+    columns: &[u32],
+    values: &[u32],
+    words: &[u32],
+    j: usize,
+    d: usize,
+    work: &mut [u32],
+) -> Passed
+    ensures { λ r. ⌜ Passes (field .p) (matrix (now (starts .entry)) (now (columns .entry)) (now (values .entry)))
+        (now (words .entry)) j d (now (work .entry)) r (now (work .exit)) ⌝ }
+{
+    let p = field.p;
+    let number = matrix_refusal(p, starts, columns, values);
+    if number != 0 {
+        return Passed::Refused(number);
+    }
+    let n = starts.len() - 1;
+    let state = state_refusal(p, n, d, words, work);
+    if state != 0 {
+        return Passed::Refused(state);
+    }
+    let left = n - d;
+    let first = residual_at(n as u32);
+    let m = Modulus::of(p);
+    let vectors = words.len() / n;
+    let t = take_factor(
+        m,
+        starts,
+        columns,
+        values,
+        words,
+        Projection { vectors, index: j },
+        &mut work[first..],
+        left,
+    );
+    let front: usize = 0;
+    let f = first + (3 * n + (2 * left + 2));
+    let end = f + t + 1;
+    multiply(m, &mut work[front..end], d, f, t);
+    let applications = 2 * left - 1 + t;
+    Passed::Made(Pass {
+        left,
+        degree: t,
+        applications: applications as u64,
+    })
 }

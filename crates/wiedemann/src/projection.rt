@@ -1,15 +1,24 @@
 // What a projection makes of a vector: its dot product with some of the random words, or one of its elements.
 ghost use mathlib.Core.Path.{_≡_};
-ghost use Prim.Native.Nat.{_+_, _-_, _*_, _/_, _%_, _≤_, _<_};
+ghost use Prim.Native.Nat.{_+_, _-_, _*_, _%_, _≤_, _<_};
 ghost use lib.ListN.{length, getD};
 ghost use mathlib.Core.List.{[]};
 ghost use Rattle.meaning.specs.List.{at, sumFrom, table};
 ghost use Rattle.meaning.specs.Solver.{dot, projections};
 ghost use Rattle.checks.specs.Valid.{Vector};
+ghost use Rattle.wiedemann.specs.Modulus.{Modular};
 ghost use Rattle.wiedemann.specs.Sums.{Summed};
 ghost use Rattle.wiedemann.specs.Projection.{wordTerm, Raw, Words};
+use crate::modulus::Modulus;
+use crate::slice::element;
 use crate::sums::Total;
 use crate::sums::times;
+
+// A projection of a run, by its place among all of them: the first `vectors` are made of the random words, the others are the unit vectors.
+pub(crate) struct Projection {
+    pub(crate) vectors: usize,
+    pub(crate) index: usize,
+}
 
 // Word i times element i.
 fn product(i: usize, words: &[u32], v: &[u32]) -> u64
@@ -54,33 +63,27 @@ fn last(total: Total, from: usize, words: &[u32], v: &[u32]) -> Total
 }
 
 // The dot product of the first words, each taken modulo p, with v.
-fn dot(p: u32, reciprocal: u64, words: &[u32], v: &[u32]) -> u32
-    requires { ⌜ Raw (now words) (now v) × (0 < p) × (reciprocal ≡ 18446744073709551615 / p) ⌝ }
-    ensures { λ r. ⌜ r ≡ dot p (table (length (now (v .entry))) (λ i. at (now (words .entry)) i % p)) (now (v .entry)) ⌝ }
+fn dot(m: Modulus, words: &[u32], v: &[u32]) -> u32
+    requires { ⌜ Raw (now words) (now v) × Modular m ⌝ }
+    ensures { λ r. ⌜ r ≡ dot (m .p) (table (length (now (v .entry))) (λ i. at (now (words .entry)) i % m .p)) (now (v .entry)) ⌝ }
 {
     let n = v.len();
     let middle = n - n % 2;
     let most = twos(Total { low: 0, high: 0 }, middle, words, v);
-    last(most, middle, words, v).residue(p, reciprocal)
+    last(most, middle, words, v).residue(m)
 }
 
-// What projection j makes of v: the first `vectors` projections are the words, the others the unit vectors.
-pub(crate) fn projected(
-    p: u32,
-    reciprocal: u64,
-    words: &[u32],
-    vectors: usize,
-    j: usize,
-    v: &[u32],
-) -> u32
-    requires { ⌜ (reciprocal ≡ 18446744073709551615 / p) × (0 < p) × (p ≤ 2147483647) × (j < vectors + length (now v)) ⌝ }
-    requires { ⌜ Words (length (now v)) vectors (now words) × Vector p (length (now v)) (now v) × (length (now v) ≤ 4096) ⌝ }
-    ensures { λ r. ⌜ r ≡ dot p (getD (projections p (length (now (v .entry))) (now (words .entry))) j []) (now (v .entry)) ⌝ }
+// What a projection makes of v: 0 past the last one.
+pub(crate) fn projected(m: Modulus, words: &[u32], u: Projection, v: &[u32]) -> u32
+    requires { ⌜ Modular m × Words (length (now v)) (u .vectors) (now words) × Vector (m .p) (length (now v)) (now v) × (length (now v) ≤ 4096) ⌝ }
+    ensures { λ r. ⌜ r ≡ dot (m .p) (getD (projections (m .p) (length (now (v .entry))) (now (words .entry))) (u .index) []) (now (v .entry)) ⌝ }
 {
+    let j = u.index;
+    let vectors = u.vectors;
     if j < vectors {
         let from = j * v.len();
-        dot(p, reciprocal, &words[from..], v)
+        dot(m, &words[from..], v)
     } else {
-        v[j - vectors]
+        element(v, j - vectors)
     }
 }

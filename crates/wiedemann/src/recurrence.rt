@@ -3,22 +3,22 @@
 //
 // The contracts cite the crate meaning (Recurrence: the steps and what is shortest; Calls: what a call refuses, answers and leaves) and
 // specs/Recurrence.antt (what regions and register hold).
-use crate::scale;
+use crate::convolution::crossed;
+use crate::modulus::Modulus;
+use crate::multiplier::Multiplier;
 use crate::slice::clear;
 use crate::slice::copy;
 use crate::slice::transfer;
-use crate::sums;
-use crate::sums::Total;
 use checks::recurrence_refusal;
 use field::Field;
 ghost use mathlib.Core.Path.{_≡_};
-ghost use Prim.Native.Nat.{ℕ, _+_, _-_, _*_, _/_, _%_, _≤_, _<_};
+ghost use Prim.Native.Nat.{ℕ, _+_, _≤_, _<_};
 ghost use lib.ListN.{length};
-ghost use Rattle.meaning.specs.List.{at, sum, sumFrom};
+ghost use Rattle.meaning.specs.List.{at};
 ghost use Rattle.meaning.specs.Field.{minus, times};
-ghost use Rattle.wiedemann.specs.Sums.{Summed};
-ghost use Rattle.wiedemann.specs.Written.{Written, Turned};
-ghost use Rattle.wiedemann.specs.Recurrence.{Pairs, paired, nothing, Ready, Place, Turn, Stepped, Found, Recurred, spare, movedOn, grown};
+ghost use Rattle.wiedemann.specs.Modulus.{Modular};
+ghost use Rattle.wiedemann.specs.Written.{Written};
+ghost use Rattle.wiedemann.specs.Recurrence.{Ready, BeforeStep, AfterSteps, HoldsGenerator, Recurred, Reversed, shifted, lengthened};
 
 // What the steps keep beside the regions.
 pub(crate) struct Register {
@@ -31,21 +31,23 @@ pub(crate) struct Register {
     pub(crate) t: usize,
     pub(crate) held: usize,
     pub(crate) shift: usize,
+    // the region that t leaves free
+    pub(crate) spare: usize,
 }
 
 // ---- parts of the slice
 
 // q − factor·t in q's place: `size` coefficients of q from `q` on, and of t from `t` on.
-fn subtract(p: u32, factor: u32, work: &mut [u32], q: usize, t: usize, size: usize)
-    requires { ⌜ (factor < p) × (p ≤ 2147483647) × (q + size ≤ t) × (t + size ≤ length (now work)) ⌝ }
-    requires { ⌜ ((i : ℕ) → i < size → at (now work) (q + i) < p) ⌝ }
+fn subtract(m: Modulus, factor: u32, work: &mut [u32], q: usize, t: usize, size: usize)
+    requires { ⌜ (factor < m .p) × Modular m × (q + size ≤ t) × (t + size ≤ length (now work)) ⌝ }
+    requires { ⌜ ((i : ℕ) → i < size → at (now work) (q + i) < m .p) ⌝ }
     ensures { λ _. ⌜ Written (now (work .entry)) q size
-        (λ i. minus p (at (now (work .entry)) (q + i)) (times p factor (at (now (work .entry)) (t + i)))) (now (work .exit)) ⌝ }
+        (λ i. minus (m .p) (at (now (work .entry)) (q + i)) (times (m .p) factor (at (now (work .entry)) (t + i)))) (now (work .exit)) ⌝ }
 {
-    let w = scale::quotient(p, factor);
+    let k = Multiplier::of(m.p, factor);
     let mut i = 0;
     while i < size {
-        work[q + i] = scale::difference(p, work[q + i], scale::scaled(p, factor, w, work[t + i]));
+        work[q + i] = m.difference(work[q + i], k.times(m.p, work[t + i]));
         i += 1;
     }
 }
@@ -53,7 +55,7 @@ fn subtract(p: u32, factor: u32, work: &mut [u32], q: usize, t: usize, size: usi
 // The `length` + 1 places from `from` on, in reverse order.
 fn reverse(work: &mut [u32], from: usize, length: usize)
     requires { ⌜ from + length < lib.ListN.length (now work) ⌝ }
-    ensures { λ _. ⌜ Turned (now (work .entry)) from length (now (work .exit)) ⌝ }
+    ensures { λ _. ⌜ Reversed (now (work .entry)) from length (now (work .exit)) ⌝ }
 {
     let mut i = 0;
     let mut j = length;
@@ -66,80 +68,12 @@ fn reverse(work: &mut [u32], from: usize, length: usize)
     }
 }
 
-// ---- the discrepancy
-
-// q[i] × s[last − i]: q stands at `q`, s at the front.
-fn pair(work: &[u32], q: usize, last: usize, i: usize) -> u64
-    requires { ⌜ Pairs (now work) q last × (i ≤ last) ⌝ }
-    ensures { λ r. ⌜ (r ≡ paired (now (work .entry)) q last i) × (r ≤ 4611686009837453316) ⌝ }
-{
-    sums::times(work[q + i], work[last - i])
-}
-
-// Four of them fit a word.
-fn four(work: &[u32], q: usize, last: usize, i: usize) -> u64
-    requires { ⌜ Pairs (now work) q last × (i + 3 ≤ last) ⌝ }
-    ensures { λ r. ⌜ r ≡ sumFrom i (i + 4) (paired (now (work .entry)) q last) ⌝ }
-{
-    pair(work, q, last, i)
-        + pair(work, q, last, i + 1)
-        + pair(work, q, last, i + 2)
-        + pair(work, q, last, i + 3)
-}
-
-// The sum of a whole number of groups of four.
-fn fours(work: &[u32], q: usize, last: usize, to: usize) -> Total
-    requires { ⌜ Pairs (now work) q last × (to ≤ last + 1) × (to % 4 ≡ 0) ⌝ }
-    ensures { λ r. ⌜ Summed nothing r 0 to (paired (now (work .entry)) q last) ⌝ }
-{
-    let mut total = Total { low: 0, high: 0 };
-    let mut i = 0;
-    while i < to {
-        total = total.add(four(work, q, last, i));
-        i += 4;
-    }
-    total
-}
-
-// A sum and the last few.
-fn ones(total: Total, work: &[u32], q: usize, last: usize, from: usize, to: usize) -> Total
-    requires { ⌜ Pairs (now work) q last × (from ≤ to) × (to ≤ last + 1) × (total .high ≤ from) ⌝ }
-    ensures { λ r. ⌜ Summed total r from to (paired (now (work .entry)) q last) ⌝ }
-{
-    let mut sum = total;
-    let mut i = from;
-    while i < to {
-        sum = sum.add(pair(work, q, last, i));
-        i += 1;
-    }
-    sum
-}
-
-// The sum of q[i] × s[last − i] over i = 0 to `length`, modulo p.
-fn discrepancy(p: u32, reciprocal: u64, work: &[u32], q: usize, last: usize, length: usize) -> u32
-    requires { ⌜ Pairs (now work) q last × (length ≤ last) × (0 < p) × (reciprocal ≡ 18446744073709551615 / p) ⌝ }
-    ensures { λ d. ⌜ d ≡ sum (length + 1) (paired (now (work .entry)) q last) % p ⌝ }
-{
-    let to = length + 1;
-    let middle = to - to % 4;
-    let most = fours(work, q, last, middle);
-    ones(most, work, q, last, middle, to).residue(p, reciprocal)
-}
-
-// a × b modulo p.
-fn product(p: u32, a: u32, b: u32) -> u32
-    requires { ⌜ 0 < p ⌝ }
-    ensures { λ r. ⌜ r ≡ times p a b ⌝ }
-{
-    (sums::times(a, b) % (p as u64)) as u32
-}
-
 // ---- the steps
 
 // t becomes z·t.
-fn moved(c: Register) -> Register
+fn shifted(c: Register) -> Register
     requires { ⌜ c .shift < 16384 ⌝ }
-    ensures { λ next. ⌜ next ≡ movedOn c ⌝ }
+    ensures { λ next. ⌜ next ≡ shifted c ⌝ }
 {
     Register {
         length: c.length,
@@ -148,106 +82,78 @@ fn moved(c: Register) -> Register
         t: c.t,
         held: c.held,
         shift: c.shift + 1,
+        spare: c.spare,
     }
 }
 
-// t becomes the q that was kept, L becomes r − L, e becomes d.
-fn lengthened(p: u32, count: usize, r: usize, d: u32, c: Register) -> Register
-    requires { ⌜ (c .length ≤ r) × (r ≤ 8192) × (count ≤ 8192) × (c .t ≤ 5 * (count + 2)) ⌝ }
-    ensures { λ next. ⌜ next ≡ grown p count r d c ⌝ }
+// t becomes the copy of q, L becomes r − L, e becomes d.
+fn lengthened(p: u32, r: usize, d: u32, c: Register) -> Register
+    requires { ⌜ (c .length ≤ r) × (r ≤ 8192) ⌝ }
+    ensures { λ next. ⌜ next ≡ lengthened p r d c ⌝ }
 {
     Register {
         length: r - c.length,
         e: d,
         inverse: field::inverse_modulo(p, d),
-        t: 5 * (count + 2) - c.t,
+        t: c.spare,
         held: c.length + 1,
         shift: 1,
+        spare: c.t,
     }
-}
-
-// A copy of q in the region that t leaves free, before the update takes it.
-fn keep(count: usize, work: &mut [u32], c: Register)
-    requires { ⌜ (count ≤ 8192) × (4 * count + 8 ≤ length (now work)) × (c .length < count + 2) × Place count (c .t) ⌝ }
-    ensures { λ _. ⌜ Written (now (work .entry)) (spare count c) (c .length + 1) (λ i. at (now (work .entry)) (count + 2 + i)) (now (work .exit)) ⌝ }
-{
-    copy(work, count + 2, 5 * (count + 2) - c.t, c.length + 1);
-}
-
-// q − (d/e)·z·t in q's place.
-fn update(p: u32, count: usize, work: &mut [u32], d: u32, c: Register)
-    requires { ⌜ (1 < p) × (p ≤ 2147483647) × (count ≤ 8192) × (4 * count + 8 ≤ length (now work)) ⌝ }
-    requires { ⌜ (c .shift + c .held ≤ count + 2) × Place count (c .t) ⌝ }
-    requires { ⌜ ((i : ℕ) → i < count + 2 → at (now work) (count + 2 + i) < p) ⌝ }
-    ensures { λ _. ⌜ Written (now (work .entry)) (count + 2 + c .shift) (c .held)
-        (λ i. minus p (at (now (work .entry)) (count + 2 + c .shift + i)) (times p (times p d (c .inverse)) (at (now (work .entry)) (c .t + i))))
-        (now (work .exit)) ⌝ }
-{
-    subtract(
-        p,
-        product(p, d, c.inverse),
-        work,
-        count + 2 + c.shift,
-        c.t,
-        c.held,
-    );
 }
 
 // q = 1, t = 0, L = 0, e = 1, whatever the regions held.
 pub(crate) fn start(p: u32, count: usize, work: &mut [u32]) -> Register
     requires { ⌜ Ready p count (now work) ⌝ }
-    ensures { λ c. ⌜ Stepped p count 0 (now (work .entry)) (now (work .exit)) c ⌝ }
+    ensures { λ c. ⌜ AfterSteps p count 0 (now (work .entry)) (now (work .exit)) c ⌝ }
 {
-    let size = count + 2;
-    clear(work, size, size);
-    work[size] = 1;
+    let q = count + 2;
+    clear(work, q, q);
+    work[q] = 1;
     Register {
         length: 0,
         e: 1,
         inverse: 1,
-        t: 2 * size,
+        t: 2 * q,
         held: 0,
         shift: 1,
+        spare: 3 * q,
     }
 }
 
 // What is done for r: the discrepancy, the update, the length.
-pub(crate) fn step(
-    p: u32,
-    reciprocal: u64,
-    count: usize,
-    work: &mut [u32],
-    r: usize,
-    c: Register,
-) -> Register
-    requires { ⌜ Turn p count r (now work) c × (reciprocal ≡ 18446744073709551615 / p) ⌝ }
-    ensures { λ next. ⌜ Stepped p count r (now (work .entry)) (now (work .exit)) next ⌝ }
+pub(crate) fn step(m: Modulus, count: usize, work: &mut [u32], r: usize, c: Register) -> Register
+    requires { ⌜ BeforeStep (m .p) count r (now work) c × Modular m ⌝ }
+    ensures { λ next. ⌜ AfterSteps (m .p) count r (now (work .entry)) (now (work .exit)) next ⌝ }
 {
-    let d = discrepancy(p, reciprocal, work, count + 2, r - 1, c.length);
+    let q = count + 2;
+    let d = crossed(work, q, r - 1, 0, c.length + 1).residue(m);
     if d == 0 {
-        return moved(c);
+        return shifted(c);
     }
-    if 2 * c.length < r {
-        keep(count, work, c);
-        update(p, count, work, d, c);
-        lengthened(p, count, r, d, c)
+    // q − (d/e)·z·t in q's place. Where t is to become q, q is copied before.
+    let longer = 2 * c.length < r;
+    if longer {
+        copy(work, q, c.spare, c.length + 1);
+    }
+    subtract(m, m.product(d, c.inverse), work, q + c.shift, c.t, c.held);
+    if longer {
+        lengthened(m.p, r, d, c)
     } else {
-        update(p, count, work, d, c);
-        moved(c)
+        shifted(c)
     }
 }
 
 // The shortest recurrence of the `count` terms at the front of `work`: its degree L, and f in the second region, zeros after it.
-pub(crate) fn shortest(p: u32, count: usize, work: &mut [u32]) -> usize
-    requires { ⌜ Ready p count (now work) ⌝ }
-    ensures { λ L. ⌜ Found p count (now (work .entry)) (now (work .exit)) L ⌝ }
+pub(crate) fn shortest(m: Modulus, count: usize, work: &mut [u32]) -> usize
+    requires { ⌜ Ready (m .p) count (now work) × Modular m ⌝ }
+    ensures { λ L. ⌜ HoldsGenerator (m .p) count (now (work .entry)) (now (work .exit)) L ⌝ }
 {
-    let reciprocal = sums::reciprocal(p);
-    let mut c = start(p, count, work);
+    let mut c = start(m.p, count, work);
     let mut r = 0;
     while r < count {
         r += 1;
-        c = step(p, reciprocal, count, work, r, c);
+        c = step(m, count, work, r, c);
     }
     reverse(work, count + 2, c.length);
     c.length
@@ -274,7 +180,7 @@ pub fn recurrence(field: Field, s: &[u32], polynomial: &mut [u32], work: &mut [u
     }
     let count = s.len();
     transfer(s, 0, work, 0, count);
-    let degree = shortest(p, count, work);
+    let degree = shortest(Modulus::of(p), count, work);
     transfer(work, count + 2, polynomial, 0, count + 1);
     Answer::Degree(degree)
 }

@@ -1,10 +1,17 @@
-// Places of slices: cleared, copied, and whether all are zero.
+// Places of slices: read, cleared, copied, and whether all are zero.
 ghost use mathlib.Core.Path.{_≡_};
 ghost use mathlib.Core.Logic.{_⊎_};
 ghost use Prim.Native.Nat.{_+_, _≤_};
 ghost use lib.ListN.{length};
 ghost use Rattle.meaning.specs.List.{at, isZero};
 ghost use Rattle.wiedemann.specs.Written.{Written};
+
+// Element i of v, 0 past its end.
+pub fn element(v: &[u32], i: usize) -> u32
+    ensures { λ r. ⌜ r ≡ at (now (v .entry)) i ⌝ }
+{
+    if i < v.len() { v[i] } else { 0 }
+}
 
 // Zeros in `size` places from `from` on.
 pub(crate) fn clear(work: &mut [u32], from: usize, size: usize)
@@ -43,7 +50,7 @@ pub(crate) fn transfer(source: &[u32], from: usize, target: &mut [u32], to: usiz
 }
 
 // Whether each element is 0.
-pub(crate) fn is_zero(v: &[u32]) -> bool
+pub fn is_zero(v: &[u32]) -> bool
     ensures { λ r. ⌜ r ≡ isZero (now (v .entry)) ⌝ }
 {
     let mut i = 0;

@@ -1,15 +1,16 @@
-// Sums of products of residues with one reduction at the end, and neither a division nor an unpredictable branch for a product: the sum stands in two words,
-// and the carry of the lower one goes into the higher.
+// Sums of products of residues with one reduction at the end, and neither a division nor an unpredictable branch for a product: the sum stands in two
+// words, and the carry of the lower one goes into the higher.
 //
 //     let mut total = Total { low: start, high: 0 };
-//     total = total.add(x);                     // for each word x: up to four products of residues, or two of a residue with any 32-bit word
-//     total.residue(p, reciprocal(p))           // reciprocal: once for a modulus
-use crate::scale::folded;
+//     total = total.add(x);         // for each word x: up to four products of residues, or two of a residue with any 32-bit word
+//     total.residue(m)
+use crate::modulus::Modulus;
 ghost use mathlib.Core.Path.{_≡_};
-ghost use Prim.Native.Nat.{_+_, _*_, _/_, _%_, _≤_, _<_};
+ghost use Prim.Native.Nat.{_+_, _*_, _%_, _≤_, _<_};
+ghost use Rattle.wiedemann.specs.Modulus.{Modular};
 ghost use Rattle.wiedemann.specs.Sums.{number};
 
-const MAX: u64 = 18446744073709551615;
+pub(crate) const MAX: u64 = 18446744073709551615;
 
 // The number low + high × 2⁶⁴.
 pub(crate) struct Total {
@@ -43,35 +44,6 @@ fn carry(low: u64, a: u64, b: u64) -> u64
     if low < b { 1 } else { 0 }
 }
 
-// The upper word of a product, from the products of the halves.
-fn upper(a: u64, b: u64) -> u64
-    ensures { λ r. ⌜ r ≡ a * b / 18446744073709551616 ⌝ }
-{
-    let front = a / 4294967296;
-    let back = a % 4294967296;
-    let first = b / 4294967296;
-    let last = b % 4294967296;
-    let middle = front * last + back * last / 4294967296;
-    let rest = back * first + middle % 4294967296;
-    front * first + middle / 4294967296 + rest / 4294967296
-}
-
-// What remainders modulo p are taken by: the quotient of 2⁶⁴ − 1.
-pub(crate) fn reciprocal(p: u32) -> u64
-    requires { ⌜ 0 < p ⌝ }
-    ensures { λ r. ⌜ r ≡ 18446744073709551615 / p ⌝ }
-{
-    MAX / (p as u64)
-}
-
-// x modulo p without a division, after Barrett: the quotient that the reciprocal gives is right or one too small.
-fn remainder(p: u32, reciprocal: u64, x: u64) -> u32
-    requires { ⌜ (0 < p) × (reciprocal ≡ 18446744073709551615 / p) ⌝ }
-    ensures { λ r. ⌜ r ≡ x % p ⌝ }
-{
-    folded(p, x - upper(reciprocal, x) * (p as u64))
-}
-
 impl Total {
     pub(crate) fn add(self, x: u64) -> Self
         requires { ⌜ self .high < 18446744073709551615 ⌝ }
@@ -84,14 +56,13 @@ impl Total {
         }
     }
 
-    // One in the higher word counts for 2⁶⁴, which is `weight` modulo p.
-    pub(crate) fn residue(self, p: u32, reciprocal: u64) -> u32
-        requires { ⌜ (0 < p) × (reciprocal ≡ 18446744073709551615 / p) × (self .high < 4294967296) ⌝ }
-        ensures { λ r. ⌜ r ≡ number self % p ⌝ }
+    // One in the higher word counts for 2⁶⁴, which is the weight modulo p.
+    pub(crate) fn residue(self, m: Modulus) -> u32
+        requires { ⌜ Modular m × (self .high < 4294967296) ⌝ }
+        ensures { λ r. ⌜ r ≡ number self % m .p ⌝ }
     {
-        let weight = MAX - reciprocal * (p as u64) + 1;
-        let high = self.high * weight;
+        let high = self.high * m.weight;
         let low = plus(self.low, high);
-        remainder(p, reciprocal, low + carry(low, self.low, high) * weight)
+        m.remainder(low + carry(low, self.low, high) * m.weight)
     }
 }

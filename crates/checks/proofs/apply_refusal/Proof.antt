@@ -1,158 +1,75 @@
-use mathlib.Core.Path.{_≡_, sym, _∙_}
-use Prim.Native.Nat.{_-_, _*_}
+use mathlib.Core.Path.{_∙_}
 use native.Mathlib.Omega.{arith}
-use lib.ListN.{length}
-use denote.Ref.{now}
-use borrow.Author.Tests.{eq-eqb, ne-eqb, le-leb, lt-leb, not-true, not-false}
-use Rattle.meaning.specs.Matrix.{matrix}
-use Rattle.meaning.specs.Refusal.{first, matrixChecks}
 use Rattle.meaning.specs.Calls.{applyRefusal}
-use Rattle.checks.specs.Valid.{Valid}
-use Rattle.checks.specs.Matrix.{applyChecks, applyRefusal-parts, matrix-valid}
-use Rattle.laws.specs.Refusal.{numbered-matrix, first-append-none, first-append-some}
+use Rattle.laws.specs.Bool.{not-both}
+use Rattle.laws.specs.Refusal.{numbered-matrix, first-stops, first-past, first-nil, leading-refused, leading-passed}
+use Rattle.checks.specs.Matrix.{matrix-sized}
 use borrow.Author.Needs.{needs}
 use Rattle.checks.proofs.apply_refusal.Statement.{statement}
 use Rattle.checks.proofs.apply_refusal.Tie as tie
-
-valid : (c : tie.Else1) → Valid (c .before .before .before .before .before .before .before .before .before .args .p) (matrix (now (c .before .before .before .before .before .before .before .before .before .args .starts)) (now (c .before .before .before .before .before .before .before .before .before .args .columns)) (now (c .before .before .before .before .before .before .before .before .before .args .values)))
-valid c = matrix-valid (c .before .before .before .before .before .before .before .before .before .args .p) (matrix (now (c .before .before .before .before .before .before .before .before .before .args .starts)) (now (c .before .before .before .before .before .before .before .before .before .args .columns)) (now (c .before .before .before .before .before .before .before .before .before .args .values))) (sym (c .before .matrix-refusal .ensures) ∙ c .if1 .left)
-
--- past the matrix's checks
-past : (c : tie.Else1)
-    → let at = c .before .before .before .before .before .before .before .before .before .args in
-    let A = (matrix (now (c .before .before .before .before .before .before .before .before .before .args .starts)) (now (c .before .before .before .before .before .before .before .before .before .args .columns)) (now (c .before .before .before .before .before .before .before .before .before .args .values))) in
-    applyRefusal (at .p) A (now (at .g)) (now (at .v)) (now (at .out)) (now (at .work))
-    ≡ first (applyChecks (at .p) A (now (at .g)) (now (at .v)) (now (at .out)) (now (at .work)))
-past c =
-    let at = c .before .before .before .before .before .before .before .before .before .args in
-    let A = (matrix (now (c .before .before .before .before .before .before .before .before .before .args .starts)) (now (c .before .before .before .before .before .before .before .before .before .args .columns)) (now (c .before .before .before .before .before .before .before .before .before .args .values))) in
-    applyRefusal-parts (at .p) A (now (at .g)) (now (at .v)) (now (at .out)) (now (at .work))
-    ∙ first-append-none (matrixChecks (at .p) A) (applyChecks (at .p) A (now (at .g)) (now (at .v)) (now (at .out)) (now (at .work)))
-    (numbered-matrix (at .p) A) (sym (c .before .matrix-refusal .ensures) ∙ c .if1 .left)
 
 matrix-refusal-requires : tie.Need-matrix-refusal-requires
 matrix-refusal-requires c κs = search needs
 
 returns : tie.Need-returns
-returns c =
-    let at = c .before .before .before .before .before .before .before .before .before .args in
-    let A = (matrix (now (c .before .before .before .before .before .before .before .before .before .args .starts)) (now (c .before .before .before .before .before .before .before .before .before .args .columns)) (now (c .before .before .before .before .before .before .before .before .before .args .values))) in
-    let number = c .before .matrix-refusal .ensures in
-    number
-    ∙ sym
-    (applyRefusal-parts (at .p) A (now (at .g)) (now (at .v)) (now (at .out)) (now (at .work))
-    ∙ first-append-some (matrixChecks (at .p) A) (applyChecks (at .p) A (now (at .g)) (now (at .v)) (now (at .out)) (now (at .work)))
-    (λ e. c .if1 .taken (number ∙ e)))
+unfolding applyRefusal
+returns c = leading-refused _ _ (numbered-matrix _ _) (c .before .matrix-refusal .ensures) (c .if1 .taken)
 
 sub-n : tie.Need-sub-n
-sub-n c = omega (arith, valid c .one-more)
+sub-n c = omega (arith, matrix-sized _ _ (c .before .matrix-refusal .ensures) (c .if1 .left) .0)
 
-polynomial-taken-requires : tie.Need-polynomial-taken-requires
-polynomial-taken-requires c κs = valid c .sized
+add-if2 : tie.Need-add-if2
+add-if2 c = search needs
 
 returns-2 : tie.Need-returns-2
-unfolding first
+unfolding applyRefusal
 returns-2 c =
-    let at = c .before .before .before .before .before .before .before .before .before .before .before .args in
-    let n = length (now (at .starts)) - 1 in
-    sym
-    (past (c .before .before)
-    ∙ rw (sym (c .before .polynomial-taken .ensures) ∙ not-true (c .before .polynomial-taken .result) (c .if2 .taken)))
-
-returns-3 : tie.Need-returns-3
-unfolding first
-returns-3 c =
-    let at = c .before .before .before .before .before .before .before .before .before .before .before .before .args in
-    let n = length (now (at .starts)) - 1 in
-    sym
-    (past (c .before .before .before)
-    ∙ rw (
-      sym (c .before .before .polynomial-taken .ensures) ∙ not-false (c .before .before .polynomial-taken .result) (c .before .if2 .left),
-      ne-eqb (length (now (at .v))) n (c .if3 .taken),
-    ))
+    let matrix = c .before in
+    leading-passed _ _ (numbered-matrix _ _) (matrix .before .matrix-refusal .ensures) (matrix .if1 .left)
+    (first-stops 8 _ _ (c .if2 .taken))
 
 are-elements-requires : tie.Need-are-elements-requires
 are-elements-requires c κs = search needs
 
-returns-4 : tie.Need-returns-4
-unfolding first
-returns-4 c =
-    let at = c .before .before .before .before .before .before .before .before .before .before .before .before .before .before .args in
-    let n = length (now (at .starts)) - 1 in
-    sym
-    (past (c .before .before .before .before .before)
-    ∙ rw (
-      sym (c .before .before .before .before .polynomial-taken .ensures) ∙ not-false (c .before .before .before .before .polynomial-taken .result) (c .before .before .before .if2 .left),
-      eq-eqb (length (now (at .v))) n (c .before .before .if3 .left),
-      sym (c .before .are-elements .ensures) ∙ not-true (c .before .are-elements .result) (c .if4 .taken),
-    ))
-
 are-elements-requires-2 : tie.Need-are-elements-requires-2
 are-elements-requires-2 c κs = search needs
 
+returns-3 : tie.Need-returns-3
+unfolding applyRefusal
+returns-3 c =
+    let v = c .before in
+    let g = v .before in
+    let lengths = g .before in
+    let matrix = lengths .before in
+    leading-passed _ _ (numbered-matrix _ _) (matrix .before .matrix-refusal .ensures) (matrix .if1 .left)
+    (first-past 8 _ _ (lengths .if2 .left) ∙ first-stops 9 _ _ (not-both (g .are-elements .ensures) (v .are-elements2 .ensures) (c .if3 .taken)))
+
+mul-if4 : tie.Need-mul-if4
+mul-if4 c = search needs
+
+returns-4 : tie.Need-returns-4
+unfolding applyRefusal
+returns-4 c =
+    let below = c .before in
+    let v = below .before in
+    let g = v .before in
+    let lengths = g .before in
+    let matrix = lengths .before in
+    leading-passed _ _ (numbered-matrix _ _) (matrix .before .matrix-refusal .ensures) (matrix .if1 .left)
+    (first-past 8 _ _ (lengths .if2 .left) ∙ first-past 9 _ _ (not-both (g .are-elements .ensures) (v .are-elements2 .ensures) (below .if3 .left))
+    ∙ first-stops 11 _ _ (c .if4 .taken))
+
 returns-5 : tie.Need-returns-5
-unfolding first
+unfolding applyRefusal
 returns-5 c =
-    let at = c .before .before .before .before .before .before .before .before .before .before .before .before .before .before .before .before .args in
-    let n = length (now (at .starts)) - 1 in
-    sym
-    (past (c .before .before .before .before .before .before .before)
-    ∙ rw (
-      sym (c .before .before .before .before .before .before .polynomial-taken .ensures) ∙ not-false (c .before .before .before .before .before .before .polynomial-taken .result) (c .before .before .before .before .before .if2 .left),
-      eq-eqb (length (now (at .v))) n (c .before .before .before .before .if3 .left),
-      sym (c .before .before .before .are-elements .ensures) ∙ not-false (c .before .before .before .are-elements .result) (c .before .before .if4 .left),
-      sym (c .before .are-elements2 .ensures) ∙ not-true (c .before .are-elements2 .result) (c .if5 .taken),
-    ))
-
-returns-6 : tie.Need-returns-6
-unfolding first
-returns-6 c =
-    let at = c .before .before .before .before .before .before .before .before .before .before .before .before .before .before .before .before .before .args in
-    let n = length (now (at .starts)) - 1 in
-    sym
-    (past (c .before .before .before .before .before .before .before .before)
-    ∙ rw (
-      sym (c .before .before .before .before .before .before .before .polynomial-taken .ensures) ∙ not-false (c .before .before .before .before .before .before .before .polynomial-taken .result) (c .before .before .before .before .before .before .if2 .left),
-      eq-eqb (length (now (at .v))) n (c .before .before .before .before .before .if3 .left),
-      sym (c .before .before .before .before .are-elements .ensures) ∙ not-false (c .before .before .before .before .are-elements .result) (c .before .before .before .if4 .left),
-      sym (c .before .before .are-elements2 .ensures) ∙ not-false (c .before .before .are-elements2 .result) (c .before .if5 .left),
-      ne-eqb (length (now (at .out))) n (c .if6 .taken),
-    ))
-
-mul-if7 : tie.Need-mul-if7
-mul-if7 c = search needs
-
-returns-7 : tie.Need-returns-7
-unfolding first
-returns-7 c =
-    let at = c .before .before .before .before .before .before .before .before .before .before .before .before .before .before .before .before .before .before .args in
-    let n = length (now (at .starts)) - 1 in
-    sym
-    (past (c .before .before .before .before .before .before .before .before .before)
-    ∙ rw (
-      sym (c .before .before .before .before .before .before .before .before .polynomial-taken .ensures) ∙ not-false (c .before .before .before .before .before .before .before .before .polynomial-taken .result) (c .before .before .before .before .before .before .before .if2 .left),
-      eq-eqb (length (now (at .v))) n (c .before .before .before .before .before .before .if3 .left),
-      sym (c .before .before .before .before .before .are-elements .ensures) ∙ not-false (c .before .before .before .before .before .are-elements .result) (c .before .before .before .before .if4 .left),
-      sym (c .before .before .before .are-elements2 .ensures) ∙ not-false (c .before .before .before .are-elements2 .result) (c .before .before .if5 .left),
-      eq-eqb (length (now (at .out))) n (c .before .if6 .left),
-      lt-leb (2 * n) (length (now (at .work))) (c .if7 .taken),
-    ))
-
-returns-8 : tie.Need-returns-8
-unfolding first
-returns-8 c =
-    let at = c .before .before .before .before .before .before .before .before .before .before .before .before .before .before .before .before .before .before .args in
-    let n = length (now (at .starts)) - 1 in
-    sym
-    (past (c .before .before .before .before .before .before .before .before .before)
-    ∙ rw (
-      sym (c .before .before .before .before .before .before .before .before .polynomial-taken .ensures) ∙ not-false (c .before .before .before .before .before .before .before .before .polynomial-taken .result) (c .before .before .before .before .before .before .before .if2 .left),
-      eq-eqb (length (now (at .v))) n (c .before .before .before .before .before .before .if3 .left),
-      sym (c .before .before .before .before .before .are-elements .ensures) ∙ not-false (c .before .before .before .before .before .are-elements .result) (c .before .before .before .before .if4 .left),
-      sym (c .before .before .before .are-elements2 .ensures) ∙ not-false (c .before .before .before .are-elements2 .result) (c .before .before .if5 .left),
-      eq-eqb (length (now (at .out))) n (c .before .if6 .left),
-      le-leb (2 * n) (length (now (at .work))) (c .if7 .left),
-    ))
+    let below = c .before in
+    let v = below .before in
+    let g = v .before in
+    let lengths = g .before in
+    let matrix = lengths .before in
+    leading-passed _ _ (numbered-matrix _ _) (matrix .before .matrix-refusal .ensures) (matrix .if1 .left)
+    (first-past 8 _ _ (lengths .if2 .left) ∙ first-past 9 _ _ (not-both (g .are-elements .ensures) (v .are-elements2 .ensures) (below .if3 .left))
+    ∙ first-past 11 _ _ (c .if4 .left) ∙ first-nil)
 
 pub apply-refusal-spec : {M : Type 1} → statement M
 apply-refusal-spec =
@@ -161,14 +78,11 @@ apply-refusal-spec =
     matrix-refusal-requires
     returns
     sub-n
-    polynomial-taken-requires
+    add-if2
     returns-2
-    returns-3
     are-elements-requires
-    returns-4
     are-elements-requires-2
-    returns-5
-    returns-6
-    mul-if7
-    returns-7
-    returns-8)
+    returns-3
+    mul-if4
+    returns-4
+    returns-5)

@@ -1,4 +1,4 @@
--- `matrix_test::below` meets its contract: a remainder is below its divisor. Assumes nothing.
+-- `matrix_test::below` meets its contract: a remainder is below its divisor.
 use Prim.Native.Nat.{_<_}
 use native.Mathlib.Nat.{mod-lt}
 use native.Mathlib.Omega.{arith}

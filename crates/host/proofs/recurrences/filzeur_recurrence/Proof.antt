@@ -4,7 +4,7 @@ use Prim.Native.Nat.{_+_, _≤_}
 use lib.ListN.{take}
 use Rattle.meaning.specs.Recurrence.{IsShortest}
 use Rattle.meaning.specs.Calls.{recurrenceRefusal, recurrenceAnswer}
-use Rattle.wiedemann.specs.Recurrence.{Gives}
+use Rattle.wiedemann.specs.Recurrence.{GivesDegree}
 use Rattle.host.specs.declared.recurrences.Degree.{Degree}
 use Rattle.host.proofs.Laid.{degree-answered}
 use Rattle.host.proofs.Small.{degree-small}
@@ -21,7 +21,7 @@ numbers-of-requires c κs L r =
     let at = c .before .before .before .before .before .before .before .before .before .before .args in
     let number = recurrenceRefusal (at .p) (now (at .s)) (now (at .polynomial)) (now (at .work)) in
     let answer = recurrenceAnswer (at .p) (now (at .s)) (now (at .polynomial)) (now (at .work)) in
-    let e = subst (λ a. Gives a number answer) r (c .before .before .before .before .recurrence .ensures .gives) in
+    let e = subst (λ a. GivesDegree a number answer) r (c .before .before .before .before .recurrence .ensures .gives) in
     subst (λ k. k ≤ 8192) (e .1) (degree-small (at .p) (now (at .s)) (now (at .polynomial)) (now (at .work)) (e .0))
 
 same-length : tie.Need-same-length

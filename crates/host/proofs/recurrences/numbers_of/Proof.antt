@@ -1,7 +1,7 @@
 -- `host::recurrences::numbers_of` meets its contract. Assumes nothing.
 use mathlib.Core.Path.{sym, ap₂, subst}
 use native.Mathlib.Omega.{arith}
-use Rattle.wiedemann.specs.Recurrence.{Gives}
+use Rattle.wiedemann.specs.Recurrence.{GivesDegree}
 use Rattle.host.specs.Answers.{degreeOf}
 use borrow.Author.Needs.{needs}
 use Rattle.host.proofs.recurrences.numbers_of.Statement.{statement}
@@ -18,12 +18,12 @@ enum-known-answer-2 c = search needs
 
 returns : tie.Need-returns
 returns c number L g =
-    let e = subst (λ a. Gives a number L) (c .before .answer .given .1) g in
+    let e = subst (λ a. GivesDegree a number L) (c .before .answer .given .1) g in
     ap₂ degreeOf (sym (e .0)) (sym (e .1))
 
 returns-2 : tie.Need-returns-2
 returns-2 c number L g =
-    let e = subst (λ a. Gives a number L) (c .before .answer2 .given .1) g in
+    let e = subst (λ a. GivesDegree a number L) (c .before .answer2 .given .1) g in
     ap₂ degreeOf (sym (e .0)) (sym (e .2))
 
 pub numbers-of-spec : {M : Type 1} → statement M

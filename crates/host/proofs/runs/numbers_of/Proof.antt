@@ -1,7 +1,7 @@
 -- `host::runs::numbers_of` meets its contract. Assumes nothing.
 use mathlib.Core.Path.{subst, _∙_}
 use Rattle.meaning.specs.Solver.{solved, singular}
-use Rattle.wiedemann.specs.Verdict.{Says}
+use Rattle.solver.specs.Verdict.{Says}
 use Rattle.host.proofs.Laid.{verdict-counted, verdict-refused}
 use borrow.Author.Needs.{needs}
 use Rattle.host.proofs.runs.numbers_of.Statement.{statement}

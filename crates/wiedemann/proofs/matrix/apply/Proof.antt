@@ -1,25 +1,29 @@
-use mathlib.Core.Path.{_≡_, refl, sym, _∙_}
+use mathlib.Core.Path.{_≡_, refl, sym, ap, _∙_, subst}
+use Prim.Native.Nat.{_-_}
+use native.Mathlib.Nat.{sub-zero}
 use native.Mathlib.Omega.{arith}
+use lib.ListN.{length}
 use denote.Ref.{now}
 use Rattle.meaning.specs.Matrix.{matrix, apply}
 use Rattle.meaning.specs.Calls.{applyRefusal}
 use Rattle.checks.specs.Matrix.{Applicable, apply-accepted}
-use Rattle.laws.specs.Refusal.{unlessRefused-none, unlessRefused-some}
+use Rattle.wiedemann.specs.Answers.{writes-refused, writes-done}
+use Rattle.wiedemann.specs.Region.{length-part}
 use borrow.Author.Needs.{needs}
 use Rattle.wiedemann.proofs.matrix.apply.Statement.{statement}
 use Rattle.wiedemann.proofs.matrix.apply.Tie as tie
 
 none : (c : tie.Else1)
     → let at = c .before .before .before .before .before .before .before .before .before .before .before .args in
-    applyRefusal (at .field .p) (matrix (now (c .before .before .before .before .before .before .before .before .before .before .before .args .starts)) (now (c .before .before .before .before .before .before .before .before .before .before .before .args .columns)) (now (c .before .before .before .before .before .before .before .before .before .before .before .args .values))) (now (at .g)) (now (at .v)) (now (at .out)) (now (at .work)) ≡ 0
+    applyRefusal (at .field .p) (matrix (now (at .starts)) (now (at .columns)) (now (at .values))) (now (at .g)) (now (at .v)) (now (at .out)) (now (at .work)) ≡ 0
 none c = sym (c .before .apply-refusal .ensures) ∙ c .if1 .left
 
 accepted : (c : tie.Else1)
     → let at = c .before .before .before .before .before .before .before .before .before .before .before .args in
-    Applicable (at .field .p) (matrix (now (c .before .before .before .before .before .before .before .before .before .before .before .args .starts)) (now (c .before .before .before .before .before .before .before .before .before .before .before .args .columns)) (now (c .before .before .before .before .before .before .before .before .before .before .before .args .values))) (now (at .g)) (now (at .v)) (now (at .out)) (now (at .work))
+    Applicable (at .field .p) (matrix (now (at .starts)) (now (at .columns)) (now (at .values))) (now (at .g)) (now (at .v)) (now (at .out)) (now (at .work))
 accepted c =
     let at = c .before .before .before .before .before .before .before .before .before .before .before .args in
-    apply-accepted (at .field .p) (matrix (now (c .before .before .before .before .before .before .before .before .before .before .before .args .starts)) (now (c .before .before .before .before .before .before .before .before .before .before .before .args .columns)) (now (c .before .before .before .before .before .before .before .before .before .before .before .args .values))) (now (at .g)) (now (at .v)) (now (at .out)) (now (at .work)) (none c)
+    apply-accepted (at .field .p) (matrix (now (at .starts)) (now (at .columns)) (now (at .values))) (now (at .g)) (now (at .v)) (now (at .out)) (now (at .work)) (none c)
 
 apply-refusal-requires : tie.Need-apply-refusal-requires
 apply-refusal-requires c κs = search needs
@@ -33,23 +37,36 @@ same-length-2 c = search needs
 returns : tie.Need-returns
 returns c =
     let at = c .before .before .before .before .before .before .before .before .before .before .before .args in
-    let A = (matrix (now (c .before .before .before .before .before .before .before .before .before .before .before .args .starts)) (now (c .before .before .before .before .before .before .before .before .before .before .before .args .columns)) (now (c .before .before .before .before .before .before .before .before .before .before .before .args .values))) in
-    let number = c .before .apply-refusal .ensures in (
-      (sym number, c .if1 .taken),
-      (
-        sym
-            (unlessRefused-some (applyRefusal (at .field .p) A (now (at .g)) (now (at .v)) (now (at .out)) (now (at .work))) (apply (at .field .p) A (now (at .g)) (now (at .v))) (now (at .out)) (λ e. c .if1 .taken (number ∙ e))),
-        λ q. refl,
-      ),
-    )
+    let A = matrix (now (at .starts)) (now (at .columns)) (now (at .values)) in
+    let number = c .before .apply-refusal in
+    let said = writes-refused (number .result) (applyRefusal (at .field .p) A (now (at .g)) (now (at .v)) (now (at .out)) (now (at .work)))
+    (apply (at .field .p) A (now (at .g)) (now (at .v))) (now (at .out)) (number .ensures) (c .if1 .taken) in
+    (said .0, (said .1, λ q. refl))
 
-reciprocal-requires : tie.Need-reciprocal-requires
-reciprocal-requires c κs = accepted c .valid .positive
+of-requires : tie.Need-of-requires
+of-requires c κs = (accepted c .valid .positive, accepted c .valid .small)
+
+mul-horner : tie.Need-mul-horner
+mul-horner c = search needs
+
+sub-horner : tie.Need-sub-horner
+sub-horner c = search needs
+
+part-horner-start : tie.Need-part-horner-start
+part-horner-start c = search needs
+
+part-horner-end : tie.Need-part-horner-end
+part-horner-end c = let known = accepted (c .before .before) in omega (arith, known .vector .places, known .room)
 
 horner-requires : tie.Need-horner-requires
 horner-requires c κs =
-    let known = accepted (c .before .before .before) in
-    (known .valid, (c .before .before .reciprocal .ensures, known .places, omega (arith, known .places, known .room), known .vector, known .some, known .coefficients))
+    let at = c .before .before .before .before .before .before .before .before .before .before .before .before .before .before .args in
+    let m = c .before .before .of in
+    let n = length (now (at .v)) in
+    let known =
+    subst (λ p. Applicable p (matrix (now (at .starts)) (now (at .columns)) (now (at .values))) (now (at .g)) (now (at .v)) (now (at .out)) (now (at .work))) (sym (m .ensures .0)) (accepted (c .before .before .before)) in
+    let lent = length-part 0 (n - 0) (now (at .work)) (omega (arith, known .vector .places, known .room)) ∙ sub-zero n ∙ known .vector .places in
+    (known .valid, (m .ensures .1, known .places, lent, known .vector, known .some, known .coefficients))
 
 same-length-3 : tie.Need-same-length-3
 same-length-3 c = search needs
@@ -60,16 +77,13 @@ same-length-4 c = search needs
 returns-2 : tie.Need-returns-2
 returns-2 c =
     let at = c .before .before .before .before .before .before .before .before .before .before .before .before .before .before .before .before .before .before .before .args in
-    let A = (matrix (now (c .before .before .before .before .before .before .before .before .before .before .before .before .before .before .before .before .before .before .before .args .starts)) (now (c .before .before .before .before .before .before .before .before .before .before .before .before .before .before .before .before .before .before .before .args .columns)) (now (c .before .before .before .before .before .before .before .before .before .before .before .before .before .before .before .before .before .before .before .args .values))) in
-    let zero = none (c .before .before .before .before .before .before .before .before) in (
-      zero,
-      (
-        c .before .before .before .before .horner .ensures
-            ∙ sym
-            (unlessRefused-none (applyRefusal (at .field .p) A (now (at .g)) (now (at .v)) (now (at .out)) (now (at .work))) (apply (at .field .p) A (now (at .g)) (now (at .v))) (now (at .out)) zero),
-        λ q. absurd (q zero),
-      ),
-    )
+    let A = matrix (now (at .starts)) (now (at .columns)) (now (at .values)) in
+    let zero = none (c .before .before .before .before .before .before .before .before) in
+    let made = c .before .before .before .before .horner in
+    let said =
+    writes-done (applyRefusal (at .field .p) A (now (at .g)) (now (at .v)) (now (at .out)) (now (at .work))) (apply (at .field .p) A (now (at .g)) (now (at .v)))
+    (now (at .out)) (made .last .1 .1 .1 .1 .1 .1 .0) zero (made .ensures ∙ ap (λ p. apply p A (now (at .g)) (now (at .v))) (c .before .before .before .before .before .before .before .of .ensures .0)) in
+    (said .0, (said .1, λ q. absurd (q zero)))
 
 pub apply-spec : {M : Type 1} → statement M
 apply-spec =
@@ -79,7 +93,11 @@ apply-spec =
     same-length
     same-length-2
     returns
-    reciprocal-requires
+    of-requires
+    mul-horner
+    sub-horner
+    part-horner-start
+    part-horner-end
     horner-requires
     same-length-3
     same-length-4

@@ -4,7 +4,6 @@ use native.Mathlib.Omega.{arith}
 use denote.Ref.{now}
 use Rattle.wiedemann.specs.Sums.{Summed, summed-none, summed-more}
 use Rattle.checks.specs.Valid.{term}
-use borrow.Author.Needs.{needs}
 use Rattle.wiedemann.proofs.matrix.fours.Statement.{statement}
 use Rattle.wiedemann.proofs.matrix.fours.Tie as tie
 
@@ -26,7 +25,9 @@ loop-holds c =
     )
 
 four-requires : tie.Need-four-requires Inv-loop μ-loop
-four-requires c κs = search needs
+four-requires c κs =
+    let pre = c .before .before .before .before .before .pre in
+    (pre .0, omega (arith, c .loop-test .taken, c .before .loop .inv .2, pre .1 .1))
 
 add-requires : tie.Need-add-requires Inv-loop μ-loop
 add-requires c κs =

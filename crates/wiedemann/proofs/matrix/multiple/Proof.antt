@@ -1,3 +1,4 @@
+use mathlib.Core.Path.{ap, _∙_}
 use Prim.Native.Nat.{_-_, _≤_}
 use native.Mathlib.Omega.{arith}
 use lib.ListN.{length, getD}
@@ -10,27 +11,27 @@ use Rattle.wiedemann.proofs.matrix.multiple.Statement.{statement}
 use Rattle.wiedemann.proofs.matrix.multiple.Tie as tie
 
 abbrev Inv-loop : tie.InvT-loop
-Inv-loop p c v out₀ w i₀ out i = (i ≤ length v) × Written out₀ 0 i (λ k. times p c (getD v k 0)) out
+Inv-loop p c v out₀ multiplier i₀ out i = (i ≤ length v) × Written out₀ 0 i (λ k. times p c (getD v k 0)) out
 
 abbrev μ-loop : tie.MeasureT-loop
-μ-loop p c v out₀ w i₀ out i = length v - i
+μ-loop p c v out₀ multiplier i₀ out i = length v - i
 
-quotient-requires : tie.Need-quotient-requires Inv-loop μ-loop
-quotient-requires c κs = search needs
+of-requires : tie.Need-of-requires Inv-loop μ-loop
+of-requires c κs = search needs
 
 loop-holds : tie.Need-loop-holds Inv-loop μ-loop
 loop-holds c =
     let at = c .before .before .before .args in
     (omega arith, written-none (now (at .out)) 0 (λ k. times (at .p) (at .c) (getD (now (at .v)) k 0)))
 
-mul-scaled : tie.Need-mul-scaled Inv-loop μ-loop
-mul-scaled c = search needs
+mul-times : tie.Need-mul-times Inv-loop μ-loop
+mul-times c = search needs
 
-shared-slice-read-scaled : tie.Need-shared-slice-read-scaled Inv-loop μ-loop
-shared-slice-read-scaled c = search needs
+shared-slice-read-times : tie.Need-shared-slice-read-times Inv-loop μ-loop
+shared-slice-read-times c = search needs
 
-scaled-requires : tie.Need-scaled-requires Inv-loop μ-loop
-scaled-requires c κs = search needs
+times-requires : tie.Need-times-requires Inv-loop μ-loop
+times-requires c κs = c .before .before .before .of .ensures .1
 
 mul-out : tie.Need-mul-out Inv-loop μ-loop
 mul-out c = search needs
@@ -46,9 +47,14 @@ loop-less c = omega (arith, c .before .before .loop-test .taken)
 
 loop-again : tie.Need-loop-again Inv-loop μ-loop
 loop-again c =
+    let start = c .before .before .before .before .before .before .before in
+    let at = start .args in
     let test = c .before .before .loop-test .taken in
-    let loop = c .before .before .before .loop in
-    (omega (arith, test), written-next (c .scaled .result) (loop .inv .1) (omega (arith, test, c .before .before .before .before .before .before .before .pre .2)) (c .scaled .ensures))
+    let loop = c .before .before .before .loop in (
+      omega (arith, test),
+      written-next (c .times .result) (loop .inv .1) (omega (arith, test, start .pre .2))
+          (c .times .ensures ∙ ap (λ k. times (at .p) k (getD (now (at .v)) (loop .i) 0)) (c .before .before .before .before .of .ensures .0)),
+    )
 
 same-length : tie.Need-same-length Inv-loop μ-loop
 same-length c = c .before .loop .inv .1 .same-length
@@ -67,11 +73,11 @@ multiple-spec =
     (tie.spec
     Inv-loop
     μ-loop
-    quotient-requires
+    of-requires
     loop-holds
-    mul-scaled
-    shared-slice-read-scaled
-    scaled-requires
+    mul-times
+    shared-slice-read-times
+    times-requires
     mul-out
     slice-write-out
     add-i

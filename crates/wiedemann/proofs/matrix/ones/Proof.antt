@@ -1,10 +1,9 @@
-use mathlib.Core.Path.{_≡_, sym, _∙_}
-use Prim.Native.Nat.{_+_, _-_, _≤_}
+use mathlib.Core.Path.{_≡_}
+use Prim.Native.Nat.{_-_, _≤_}
 use native.Mathlib.Omega.{arith}
 use denote.Ref.{now}
-use Rattle.wiedemann.specs.Sums.{sumFrom-one, Summed, summed-none, summed-more}
+use Rattle.wiedemann.specs.Sums.{Summed, summed-none, summed-one}
 use Rattle.checks.specs.Valid.{term}
-use borrow.Author.Needs.{needs}
 use Rattle.wiedemann.proofs.matrix.ones.Statement.{statement}
 use Rattle.wiedemann.proofs.matrix.ones.Tie as tie
 
@@ -25,7 +24,7 @@ loop-holds c =
     )
 
 entry-requires : tie.Need-entry-requires Inv-loop μ-loop
-entry-requires c κs = search needs
+entry-requires c κs = let pre = c .before .before .before .before .before .pre in (pre .0, omega (arith, c .loop-test .taken, pre .1 .1))
 
 add-requires : tie.Need-add-requires Inv-loop μ-loop
 add-requires c κs =
@@ -47,12 +46,11 @@ loop-again c =
     let at = start .args in
     let loop = c .before .before .before .loop in
     let test = c .before .before .loop-test .taken in
-    let k = loop .k in
     let f = term (now (at .columns)) (now (at .values)) (now (at .v)) in (
       omega (arith, loop .inv .0),
       omega (arith, test),
-      summed-more (at .total) (loop .sum) (c .add .result) (at .from) k (k + 1) f (c .before .entry .result)
-          (loop .inv .0) (omega arith) (loop .inv .2) (c .before .entry .ensures .0 ∙ sym (sumFrom-one k f)) (c .add .ensures),
+      summed-one (at .total) (loop .sum) (c .add .result) (at .from) (loop .k) f (c .before .entry .result) (loop .inv .0) (loop .inv .2)
+          (c .before .entry .ensures .0) (c .add .ensures),
     )
 
 returns : tie.Need-returns Inv-loop μ-loop

@@ -1,4 +1,4 @@
--- `wiedemann::matrix::scatter` meets its contract: the loop's invariant: out has the entries passed added at their columns. Assumes nothing.
+-- `wiedemann::matrix::scatter` meets its contract: the loop's invariant: out has the entries passed added at their columns.
 use mathlib.Core.Path.{_≡_, refl, sym, ap, ap₂, _∙_, subst}
 use Prim.Native.Nat.{_-_, _≤_, _<_}
 use native.Mathlib.Omega.{arith}
@@ -12,11 +12,11 @@ use Rattle.wiedemann.proofs.matrix.scatter.Statement.{statement}
 use Rattle.wiedemann.proofs.matrix.scatter.Tie as tie
 
 abbrev Inv-loop : tie.InvT-loop
-Inv-loop p c from to columns values out₀ w k₀ out k =
+Inv-loop p c from to columns values out₀ multiplier k₀ out k =
     (from ≤ k) × (k ≤ to) × (out ≡ scattered p c from k columns values out₀)
 
 abbrev μ-loop : tie.MeasureT-loop
-μ-loop p c from to columns values out₀ w k₀ out k = to - k
+μ-loop p c from to columns values out₀ multiplier k₀ out k = to - k
 
 vector : (c : tie.At-loop Inv-loop μ-loop) → Vector (c .before .before .before .before .before .args .p) (length (now (c .before .before .before .before .before .args .out))) (c .loop .out)
 vector c =
@@ -32,8 +32,8 @@ inside c =
     omega
     (arith, c .wide .ensures .0, start .pre .1 (c .before .before .before .loop .k) (omega (arith, c .before .before .loop-test .taken, start .pre .0 .3)), vector (c .before .before .before) .places)
 
-quotient-requires : tie.Need-quotient-requires Inv-loop μ-loop
-quotient-requires c κs = search needs
+of-requires : tie.Need-of-requires Inv-loop μ-loop
+of-requires c κs = search needs
 
 loop-holds : tie.Need-loop-holds Inv-loop μ-loop
 loop-holds c =
@@ -67,11 +67,8 @@ slice-read-added c = inside (c .before .before)
 
 added-requires : tie.Need-added-requires Inv-loop μ-loop
 added-requires c κs =
-    let pre = c .before .before .before .before .before .before .before .before .before .before .pre .0 in
     let before = vector (c .before .before .before .before .before) in (
-      pre .0,
-      pre .1,
-      c .before .before .before .before .before .before .quotient .ensures,
+      c .before .before .before .before .before .before .of .ensures .1,
       before .below (c .before .before .wide .result) (omega (arith, before .places, inside (c .before .before))),
     )
 
@@ -102,7 +99,8 @@ loop-again c =
       omega (arith, loop .inv .0),
       omega (arith, test),
       ap₂ (λ i y. set (loop .out) i y) j
-          (c .added .ensures ∙ ap₂ (λ l i. plus (at .p) (getD l i 0) (times (at .p) (at .c) (getD values k 0))) (loop .inv .2) j)
+          (c .added .ensures ∙ ap (λ m. plus (at .p) (getD (loop .out) (c .before .before .before .wide .result) 0) (times (at .p) m (getD values k 0))) (c .before .before .before .before .before .before .before .of .ensures .0)
+          ∙ ap₂ (λ l i. plus (at .p) (getD l i 0) (times (at .p) (at .c) (getD values k 0))) (loop .inv .2) j)
           ∙ ap (λ l. set l (getD columns k 0) (plus (at .p) (getD so-far (getD columns k 0) 0) (times (at .p) (at .c) (getD values k 0)))) (loop .inv .2)
           ∙ scattered-more (at .p) (at .c) columns values (at .from) k out (loop .inv .0) (start .pre .1 k (omega (arith, test, start .pre .0 .3))),
     )
@@ -123,7 +121,7 @@ scatter-spec =
     (tie.spec
     Inv-loop
     μ-loop
-    quotient-requires
+    of-requires
     loop-holds
     mul-wide
     shared-slice-read-wide

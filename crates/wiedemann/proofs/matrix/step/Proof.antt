@@ -1,91 +1,118 @@
--- `wiedemann::matrix::step` meets its contract: the loop's invariant is Written: the rows passed are written. Assumes nothing.
-use mathlib.Core.Path.{_≡_, sym, ap, _∙_}
-use Prim.Native.Nat.{_+_, _-_, _%_, _≤_, _<_}
+use mathlib.Core.Path.{_≡_, refl, sym, _∙_}
+use Prim.Native.Nat.{_*_, _-_, _≤_}
 use native.Mathlib.Omega.{arith}
-use lib.ListN.{length}
+use lib.ListN.{length, getD}
 use denote.Ref.{now}
 use Rattle.meaning.specs.Matrix.{matrix}
-use Rattle.checks.specs.Valid.{rowProduct}
+use Rattle.checks.specs.Valid.{valid-entries}
 use Rattle.wiedemann.specs.Written.{Written, written-none, written-all}
 use Rattle.wiedemann.specs.Region.{written-next, written-table}
-use Rattle.wiedemann.specs.Horner.{stepAt, table-step}
+use Rattle.wiedemann.specs.Horner.{stepAt, table-step, row-bounds, row-reduced}
 use borrow.Author.Needs.{needs}
 use Rattle.wiedemann.proofs.matrix.step.Statement.{statement}
 use Rattle.wiedemann.proofs.matrix.step.Tie as tie
 
 abbrev Inv-loop : tie.InvT-loop
-Inv-loop p reciprocal c x starts columns values v out₀ rows i₀ out i =
-    (i ≤ length out₀) × Written out₀ 0 i (stepAt p (matrix starts columns values) c x v) out
+Inv-loop m c x starts columns values v out₀ rows from₀ i₀ out from i =
+    (i ≤ rows) × (from ≡ getD starts i 0) × Written out₀ 0 i (stepAt (m .p) (matrix starts columns values) c x v) out
 
 abbrev μ-loop : tie.MeasureT-loop
-μ-loop p reciprocal c x starts columns values v out₀ rows i₀ out i = length out₀ - i
+μ-loop m c x starts columns values v out₀ rows from₀ i₀ out from i = rows - i
 
 sub-rows : tie.Need-sub-rows Inv-loop μ-loop
 sub-rows c = omega (arith, c .before .before .before .before .before .before .pre .0 .one-more)
 
+shared-slice-read-wide : tie.Need-shared-slice-read-wide Inv-loop μ-loop
+shared-slice-read-wide c = omega (arith, c .before .before .before .before .before .before .before .pre .0 .one-more)
+
+wide-requires : tie.Need-wide-requires Inv-loop μ-loop
+wide-requires c κs = search needs
+
 loop-holds : tie.Need-loop-holds Inv-loop μ-loop
 loop-holds c =
-    let at = c .before .before .before .before .before .before .args in (
+    let at = c .before .before .before .before .before .before .before .before .args in (
       omega arith,
-      written-none (now (at .out)) 0
-          (stepAt (at .p) (matrix (now (at .starts)) (now (at .columns)) (now (at .values))) (at .c) (now (at .x)) (now (at .v))),
+      c .wide .ensures .0,
+      written-none (now (at .out)) 0 (stepAt (at .m .p) (matrix (now (at .starts)) (now (at .columns)) (now (at .values))) (at .c) (now (at .x)) (now (at .v))),
     )
 
-bound : (c : tie.In-loop Inv-loop μ-loop) → c .before .loop .i < length (now (c .before .before .before .before .before .before .before .before .args .starts)) - 1
-bound c = omega (arith, c .loop-test .taken, c .before .loop .inv .0, c .before .before .before .before .before .before .before .before .pre .1 .1)
+add-wide : tie.Need-add-wide Inv-loop μ-loop
+add-wide c = omega (arith, c .loop-test .taken, c .before .before .before .before .before .before .before .before .before .before .pre .0 .sized)
+
+mul-wide : tie.Need-mul-wide Inv-loop μ-loop
+mul-wide c = omega (arith, c .loop-test .taken, c .before .before .before .before .before .before .before .before .before .before .pre .0 .sized)
+
+shared-slice-read-wide-2 : tie.Need-shared-slice-read-wide-2 Inv-loop μ-loop
+shared-slice-read-wide-2 c = omega (arith, c .before .loop-test .taken, c .before .before .before .before .before .before .before .before .before .before .before .pre .0 .one-more)
+
+wide-requires-2 : tie.Need-wide-requires-2 Inv-loop μ-loop
+wide-requires-2 c κs = search needs
 
 mul-times : tie.Need-mul-times Inv-loop μ-loop
-mul-times c = omega (arith, bound c, c .before .before .before .before .before .before .before .before .pre .0 .sized)
+mul-times c = omega (arith, c .before .before .loop-test .taken, c .before .before .before .before .before .before .before .before .before .before .before .before .pre .0 .sized)
 
 shared-slice-read-times : tie.Need-shared-slice-read-times Inv-loop μ-loop
-shared-slice-read-times c = omega (arith, bound (c .before), c .before .before .before .before .before .before .before .before .before .pre .1 .2)
+shared-slice-read-times c = omega (arith, c .before .before .before .loop-test .taken, c .before .before .before .before .before .before .before .before .before .before .before .before .before .pre .1 .2)
 
 times-requires : tie.Need-times-requires Inv-loop μ-loop
 times-requires c κs = search needs
 
 row-requires : tie.Need-row-requires Inv-loop μ-loop
 row-requires c κs =
-    let pre = c .before .before .before .before .before .before .before .before .before .before .pre in
-    (pre .0, (pre .1 .0, bound (c .before .before), pre .1 .3))
+    let start = c .before .before .before .before .before .before .before .before .before .before .before .before .before .before in
+    let at = start .args in
+    let A = matrix (now (at .starts)) (now (at .columns)) (now (at .values)) in
+    let loop = c .before .before .before .before .before .loop in
+    let to = c .before .before .wide2 in
+    let bounds = row-bounds A (loop .i) (loop .from) (to .result) (loop .inv .1) (to .ensures .0) (start .pre .0) (c .before .before .before .before .loop-test .taken) in
+    (valid-entries (at .m .p) A (now (at .v)) (start .pre .0) (start .pre .1 .3), bounds .0, bounds .1)
+
+residue-requires : tie.Need-residue-requires Inv-loop μ-loop
+residue-requires c κs = (c .before .before .before .before .before .before .before .before .before .before .before .before .before .before .before .pre .1 .0, c .row .ensures .1)
 
 mul-out : tie.Need-mul-out Inv-loop μ-loop
-mul-out c = omega (arith, bound (c .before .before .before), c .before .before .before .before .before .before .before .before .before .before .before .pre .0 .sized)
+mul-out c = omega (arith, c .before .before .before .before .before .before .loop-test .taken, c .before .before .before .before .before .before .before .before .before .before .before .before .before .before .before .before .pre .0 .sized)
 
 slice-write-out : tie.Need-slice-write-out Inv-loop μ-loop
-slice-write-out c = omega (arith, bound (c .before .before .before), c .before .before .before .before .before .before .before .before .before .before .before .pre .1 .1, c .before .before .before .before .loop .inv .1 .same-length)
+slice-write-out c = omega (arith, c .before .before .before .before .before .before .loop-test .taken, c .before .before .before .before .before .before .before .before .before .before .before .before .before .before .before .before .pre .1 .1, c .before .before .before .before .before .before .before .loop .inv .2 .same-length)
 
 add-i : tie.Need-add-i Inv-loop μ-loop
-add-i c = omega (arith, bound (c .before .before .before), c .before .before .before .before .before .before .before .before .before .before .before .pre .0 .sized)
+add-i c = omega (arith, c .before .before .before .before .before .before .loop-test .taken, c .before .before .before .before .before .before .before .before .before .before .before .before .before .before .before .before .pre .0 .sized)
 
 loop-less : tie.Need-loop-less Inv-loop μ-loop
-loop-less c = omega (arith, bound (c .before .before .before), c .before .before .before .before .before .before .before .before .before .before .before .pre .1 .1)
+loop-less c = omega (arith, c .before .before .before .before .before .before .loop-test .taken)
 
 loop-again : tie.Need-loop-again Inv-loop μ-loop
 loop-again c =
-    let start = c .before .before .before .before .before .before .before .before .before .before .before in
+    let start = c .before .before .before .before .before .before .before .before .before .before .before .before .before .before .before .before in
     let at = start .args in
-    let loop = c .before .before .before .before .loop in
-    let i = loop .i in
-    let inside : i < length (now (at .out)) = omega (arith, bound (c .before .before .before), start .pre .1 .1) in (
-      omega (arith, inside),
-      written-next (c .row .result) (loop .inv .1) inside
-          (c .row .ensures
-          ∙ ap (λ y. (y + rowProduct (matrix (now (at .starts)) (now (at .columns)) (now (at .values))) (now (at .v)) i) % at .p) (c .before .times .ensures)),
+    let A = matrix (now (at .starts)) (now (at .columns)) (now (at .values)) in
+    let loop = c .before .before .before .before .before .before .before .loop in
+    let test = c .before .before .before .before .before .before .loop-test .taken in
+    let to = c .before .before .before .before .wide2 in
+    let begun = c .before .before .times in
+    let sum = c .before .row in (
+      omega (arith, test),
+      to .ensures .0,
+      written-next (c .residue .result) (loop .inv .2) (omega (arith, test, start .pre .1 .1))
+          (row-reduced A (loop .i) (loop .from) (to .result) (loop .inv .1) (to .ensures .0) (at .m .p) (begun .result)
+          (at .c * getD (now (at .x)) (loop .i) 0) (c .residue .result) (now (at .v)) (now (at .v)) (sum .result) (begun .ensures) refl
+          (sum .ensures .0) (c .residue .ensures)),
     )
 
 same-length : tie.Need-same-length Inv-loop μ-loop
-same-length c = c .before .loop .inv .1 .same-length
+same-length c = c .before .loop .inv .2 .same-length
 
 returns : tie.Need-returns Inv-loop μ-loop
 returns c =
-    let start = c .before .before .before .before .before .before .before .before in
+    let start = c .before .before .before .before .before .before .before .before .before .before in
     let at = start .args in
     let loop = c .before .loop in
     let A = matrix (now (at .starts)) (now (at .columns)) (now (at .values)) in
-    let end : loop .i ≡ length (now (at .starts)) - 1 = omega (arith, loop .inv .0, c .loop-test .left, loop .inv .1 .same-length, start .pre .1 .1) in
-    written-table (now (at .out)) (length (now (at .starts)) - 1) (stepAt (at .p) A (at .c) (now (at .x)) (now (at .v))) (loop .out)
-    (start .pre .1 .1) (written-all end (loop .inv .1))
-    ∙ sym (table-step (at .p) A (at .c) (now (at .x)) (now (at .v)))
+    let end : loop .i ≡ length (now (at .starts)) - 1 = omega (arith, loop .inv .0, c .loop-test .left) in
+    written-table (now (at .out)) (length (now (at .starts)) - 1) (stepAt (at .m .p) A (at .c) (now (at .x)) (now (at .v))) (loop .out)
+    (start .pre .1 .1) (written-all end (loop .inv .2))
+    ∙ sym (table-step (at .m .p) A (at .c) (now (at .x)) (now (at .v)))
 
 pub step-spec : {M : Type 1} → statement M
 step-spec =
@@ -94,11 +121,18 @@ step-spec =
     Inv-loop
     μ-loop
     sub-rows
+    shared-slice-read-wide
+    wide-requires
     loop-holds
+    add-wide
+    mul-wide
+    shared-slice-read-wide-2
+    wide-requires-2
     mul-times
     shared-slice-read-times
     times-requires
     row-requires
+    residue-requires
     mul-out
     slice-write-out
     add-i

@@ -5,17 +5,22 @@ use Prim.Native.Nat.{_-_}
 use Rattle.meaning.specs.Matrix.{matrix, transposed}
 use Rattle.meaning.specs.Calls.{productRefusal}
 use Rattle.checks.specs.Matrix.{Accepted, product-accepted}
-use Rattle.laws.specs.Refusal.{unlessRefused-none, unlessRefused-some}
+use Rattle.wiedemann.specs.Answers.{writes-refused, writes-done}
 use borrow.Author.Needs.{needs}
 use Rattle.wiedemann.proofs.matrix.transposed.Statement.{statement}
 use Rattle.wiedemann.proofs.matrix.transposed.Tie as tie
 
-none : (c : tie.Else1) → productRefusal (c .before .before .before .before .before .before .before .before .args .field .p) (matrix (now (c .before .before .before .before .before .before .before .before .args .starts)) (now (c .before .before .before .before .before .before .before .before .args .columns)) (now (c .before .before .before .before .before .before .before .before .args .values))) (now (c .before .before .before .before .before .before .before .before .args .v)) (now (c .before .before .before .before .before .before .before .before .args .out)) ≡ 0
+none : (c : tie.Else1)
+    → let at = c .before .before .before .before .before .before .before .before .args in
+    productRefusal (at .field .p) (matrix (now (at .starts)) (now (at .columns)) (now (at .values))) (now (at .v)) (now (at .out)) ≡ 0
 none c = sym (c .before .product-refusal .ensures) ∙ c .if1 .left
 
 accepted : (c : tie.Else1)
-    → Accepted (c .before .before .before .before .before .before .before .before .args .field .p) (matrix (now (c .before .before .before .before .before .before .before .before .args .starts)) (now (c .before .before .before .before .before .before .before .before .args .columns)) (now (c .before .before .before .before .before .before .before .before .args .values))) (now (c .before .before .before .before .before .before .before .before .args .v)) × (length (now (c .before .before .before .before .before .before .before .before .args .out)) ≡ length (now (c .before .before .before .before .before .before .before .before .args .starts)) - 1)
-accepted c = product-accepted (c .before .before .before .before .before .before .before .before .args .field .p) (matrix (now (c .before .before .before .before .before .before .before .before .args .starts)) (now (c .before .before .before .before .before .before .before .before .args .columns)) (now (c .before .before .before .before .before .before .before .before .args .values))) (now (c .before .before .before .before .before .before .before .before .args .v)) (now (c .before .before .before .before .before .before .before .before .args .out)) (none c)
+    → let at = c .before .before .before .before .before .before .before .before .args in
+    Accepted (at .field .p) (matrix (now (at .starts)) (now (at .columns)) (now (at .values))) (now (at .v)) × (length (now (at .out)) ≡ length (now (at .starts)) - 1)
+accepted c =
+    let at = c .before .before .before .before .before .before .before .before .args in
+    product-accepted (at .field .p) (matrix (now (at .starts)) (now (at .columns)) (now (at .values))) (now (at .v)) (now (at .out)) (none c)
 
 product-refusal-requires : tie.Need-product-refusal-requires
 product-refusal-requires c κs = search needs
@@ -26,12 +31,10 @@ same-length c = search needs
 returns : tie.Need-returns
 returns c =
     let at = c .before .before .before .before .before .before .before .before .args in
-    let A = (matrix (now (c .before .before .before .before .before .before .before .before .args .starts)) (now (c .before .before .before .before .before .before .before .before .args .columns)) (now (c .before .before .before .before .before .before .before .before .args .values))) in
-    let number = c .before .product-refusal .ensures in (
-      (sym number, c .if1 .taken),
-      sym
-          (unlessRefused-some (productRefusal (at .field .p) A (now (at .v)) (now (at .out))) (transposed (at .field .p) A (now (at .v))) (now (at .out)) (λ e. c .if1 .taken (number ∙ e))),
-    )
+    let A = matrix (now (at .starts)) (now (at .columns)) (now (at .values)) in
+    let number = c .before .product-refusal in
+    writes-refused (number .result) (productRefusal (at .field .p) A (now (at .v)) (now (at .out))) (transposed (at .field .p) A (now (at .v)))
+    (now (at .out)) (number .ensures) (c .if1 .taken)
 
 transposed-into-requires : tie.Need-transposed-into-requires
 transposed-into-requires c κs =
@@ -44,13 +47,10 @@ same-length-2 c = search needs
 returns-2 : tie.Need-returns-2
 returns-2 c =
     let at = c .before .before .before .before .before .before .before .before .before .before .before .before .args in
-    let A = (matrix (now (c .before .before .before .before .before .before .before .before .before .before .before .before .args .starts)) (now (c .before .before .before .before .before .before .before .before .before .before .before .before .args .columns)) (now (c .before .before .before .before .before .before .before .before .before .before .before .before .args .values))) in
-    let zero = none (c .before .before .before .before) in (
-      zero,
-      c .before .before .transposed-into .ensures
-          ∙ sym
-          (unlessRefused-none (productRefusal (at .field .p) A (now (at .v)) (now (at .out))) (transposed (at .field .p) A (now (at .v))) (now (at .out)) zero),
-    )
+    let A = matrix (now (at .starts)) (now (at .columns)) (now (at .values)) in
+    let made = c .before .before .transposed-into in
+    writes-done (productRefusal (at .field .p) A (now (at .v)) (now (at .out))) (transposed (at .field .p) A (now (at .v))) (now (at .out))
+    (made .last .1 .1 .1 .1 .1 .0) (none (c .before .before .before .before)) (made .ensures)
 
 pub transposed-spec : {M : Type 1} → statement M
 transposed-spec =

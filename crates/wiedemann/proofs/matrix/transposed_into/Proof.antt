@@ -1,6 +1,5 @@
-use mathlib.Core.Path.{_≡_, refl, sym, ap, ap₂, _∙_, subst}
-use Prim.Native.Nat.{_+_, _-_, _≤_, _<_}
-use native.Mathlib.Numerals.{add-one}
+use mathlib.Core.Path.{_≡_, refl, sym, ap, _∙_, subst}
+use Prim.Native.Nat.{_-_, _≤_, _<_}
 use native.Mathlib.Omega.{arith}
 use lib.ListN.{length, getD}
 use denote.Ref.{now}
@@ -8,83 +7,85 @@ use Rattle.meaning.specs.List.{zeros}
 use Rattle.meaning.specs.Matrix.{matrix}
 use Rattle.checks.specs.Valid.{Vector}
 use Rattle.wiedemann.specs.Region.{written-table}
-use Rattle.wiedemann.specs.Transposed.{scattered, gathered, gathered-none, gathered-more, gathered-all, vector-gathered}
+use Rattle.wiedemann.specs.Horner.{row-bounds}
+use Rattle.wiedemann.specs.Transposed.{gathered, gathered-none, gathered-next, gathered-all, vector-gathered}
 use borrow.Author.Needs.{needs}
 use Rattle.wiedemann.proofs.matrix.transposed_into.Statement.{statement}
 use Rattle.wiedemann.proofs.matrix.transposed_into.Tie as tie
 
 abbrev Inv-loop : tie.InvT-loop
-Inv-loop p starts columns values v out₀ i₀ out i =
-    (i ≤ length v) × (out ≡ gathered p (matrix starts columns values) v i)
+Inv-loop p starts columns values v out₀ from₀ i₀ out from i =
+    (i ≤ length v) × (from ≡ getD starts i 0) × (out ≡ gathered p (matrix starts columns values) v i)
 
 abbrev μ-loop : tie.MeasureT-loop
-μ-loop p starts columns values v out₀ i₀ out i = length v - i
+μ-loop p starts columns values v out₀ from₀ i₀ out from i = length v - i
 
-vector : (c : tie.At-loop Inv-loop μ-loop) → Vector (c .before .before .before .before .before .before .before .before .before .before .args .p) (length (now (c .before .before .before .before .before .before .before .before .before .before .args .starts)) - 1) (c .loop .out)
+vector : (c : tie.At-loop Inv-loop μ-loop)
+    → let at = c .before .before .before .before .before .before .before .before .before .before .before .before .args in
+    Vector (at .p) (length (now (at .starts)) - 1) (c .loop .out)
 vector c =
-    let start = c .before .before .before .before .before .before .before .before .before .before in
+    let start = c .before .before .before .before .before .before .before .before .before .before .before .before in
     let at = start .args in
-    subst (λ l. Vector (at .p) (length (now (at .starts)) - 1) l) (sym (c .loop .inv .1))
+    subst (λ l. Vector (at .p) (length (now (at .starts)) - 1) l) (sym (c .loop .inv .2))
     (vector-gathered (at .p) (matrix (now (at .starts)) (now (at .columns)) (now (at .values))) (now (at .v)) (c .loop .i) (start .pre .0 .positive))
 
-inside : (c : tie.In-loop Inv-loop μ-loop) → c .before .loop .i < length (now (c .before .before .before .before .before .before .before .before .before .before .before .args .starts)) - 1
-inside c = omega (arith, c .loop-test .taken, c .before .before .before .before .before .before .before .before .before .before .before .pre .1 .1 .places)
+inside : (c : tie.In-loop Inv-loop μ-loop) → c .before .loop .i < length (now (c .before .before .before .before .before .before .before .before .before .before .before .before .before .args .starts)) - 1
+inside c = omega (arith, c .loop-test .taken, c .before .before .before .before .before .before .before .before .before .before .before .before .before .pre .1 .1 .places)
 
 clear-requires : tie.Need-clear-requires Inv-loop μ-loop
 clear-requires c κs = let pre = c .before .before .before .before .before .before .pre in omega (arith, pre .1 .0, pre .1 .1 .places)
 
-loop-holds : tie.Need-loop-holds Inv-loop μ-loop
-loop-holds c =
-    let start = c .before .before .before .before .before .before .before .before .before in
-    let at = start .args in (
-      omega arith,
-      written-table (now (at .out)) (length (now (at .v))) (λ i. 0) _ (start .pre .1 .0 ∙ sym (start .pre .1 .1 .places)) (c .before .before .clear .ensures)
-          ∙ ap zeros (start .pre .1 .1 .places)
-          ∙ gathered-none (at .p) (matrix (now (at .starts)) (now (at .columns)) (now (at .values))) (now (at .v)),
-    )
-
-mul-scatter : tie.Need-mul-scatter Inv-loop μ-loop
-mul-scatter c = search needs
-
-shared-slice-read-scatter : tie.Need-shared-slice-read-scatter Inv-loop μ-loop
-shared-slice-read-scatter c = search needs
-
-mul-wide : tie.Need-mul-wide Inv-loop μ-loop
-mul-wide c = search needs
-
 shared-slice-read-wide : tie.Need-shared-slice-read-wide Inv-loop μ-loop
-shared-slice-read-wide c = omega (arith, inside (c .before .before), c .before .before .before .before .before .before .before .before .before .before .before .before .before .pre .0 .one-more)
+shared-slice-read-wide c = omega (arith, c .before .before .before .before .before .before .before .before .before .before .pre .0 .one-more)
 
 wide-requires : tie.Need-wide-requires Inv-loop μ-loop
 wide-requires c κs = search needs
 
-add-wide : tie.Need-add-wide Inv-loop μ-loop
-add-wide c = search needs
+loop-holds : tie.Need-loop-holds Inv-loop μ-loop
+loop-holds c =
+    let start = c .before .before .before .before .before .before .before .before .before .before .before in
+    let at = start .args in
+    let places = start .pre .1 .1 .places in
+    let cleared = c .before .before .before .before .clear in (
+      omega arith,
+      c .wide .ensures .0,
+      written-table (now (at .out)) (length (now (at .v))) (λ i. 0) (cleared .last .0) (start .pre .1 .0 ∙ sym places) (cleared .ensures)
+          ∙ ap zeros places ∙ gathered-none (at .p) (matrix (now (at .starts)) (now (at .columns)) (now (at .values))) (now (at .v)),
+    )
 
-mul-wide-2 : tie.Need-mul-wide-2 Inv-loop μ-loop
-mul-wide-2 c = search needs
+add-wide : tie.Need-add-wide Inv-loop μ-loop
+add-wide c = omega (arith, inside c, c .before .before .before .before .before .before .before .before .before .before .before .before .before .pre .0 .sized)
+
+mul-wide : tie.Need-mul-wide Inv-loop μ-loop
+mul-wide c = omega (arith, inside c, c .before .before .before .before .before .before .before .before .before .before .before .before .before .pre .0 .sized)
 
 shared-slice-read-wide-2 : tie.Need-shared-slice-read-wide-2 Inv-loop μ-loop
-shared-slice-read-wide-2 c = omega (arith, inside (c .before .before .before .before), c .before .before .before .before .before .before .before .before .before .before .before .before .before .before .before .pre .0 .one-more)
+shared-slice-read-wide-2 c = omega (arith, inside (c .before), c .before .before .before .before .before .before .before .before .before .before .before .before .before .before .pre .0 .one-more)
 
 wide-requires-2 : tie.Need-wide-requires-2 Inv-loop μ-loop
 wide-requires-2 c κs = search needs
+
+mul-scatter : tie.Need-mul-scatter Inv-loop μ-loop
+mul-scatter c = omega (arith, inside (c .before .before), c .before .before .before .before .before .before .before .before .before .before .before .before .before .before .before .pre .0 .sized)
+
+shared-slice-read-scatter : tie.Need-shared-slice-read-scatter Inv-loop μ-loop
+shared-slice-read-scatter c = c .before .before .before .loop-test .taken
 
 scatter-requires : tie.Need-scatter-requires Inv-loop μ-loop
 scatter-requires c κs =
     let start = c .before .before .before .before .before .before .before .before .before .before .before .before .before .before .before .before .before in
     let at = start .args in
     let known = start .pre .0 in
-    let i = c .before .before .before .before .before .before .before .loop .i in
-    let within = inside (c .before .before .before .before .before .before) in
-    let from = c .before .before .before .wide .ensures .0 in
-    let to = c .before .wide2 .ensures .0 in
-    let before = vector (c .before .before .before .before .before .before .before) in (
+    let loop = c .before .before .before .before .before .loop in
+    let within = inside (c .before .before .before .before) in
+    let to = c .before .before .wide2 in
+    let bounds = row-bounds (matrix (now (at .starts)) (now (at .columns)) (now (at .values))) (loop .i) (loop .from) (to .result) (loop .inv .1) (to .ensures .0) known within in
+    let before = vector (c .before .before .before .before .before) in (
       (
-        start .pre .1 .1 .below i within,
+        start .pre .1 .1 .below (loop .i) within,
         known .small,
-        omega (arith, from, to, known .rise i within),
-        omega (arith, to, known .within i within),
+        bounds .0,
+        bounds .1,
         known .paired,
         record { places = refl; below = λ j l. before .below j (omega (arith, l, before .places)) },
       ),
@@ -92,37 +93,34 @@ scatter-requires c κs =
     )
 
 add-i : tie.Need-add-i Inv-loop μ-loop
-add-i c = search needs
+add-i c = omega (arith, inside (c .before .before .before .before .before .before .before), c .before .before .before .before .before .before .before .before .before .before .before .before .before .before .before .before .before .before .before .before .pre .0 .sized)
 
 loop-less : tie.Need-loop-less Inv-loop μ-loop
-loop-less c = omega (arith, c .before .before .before .before .before .before .before .before .before .loop-test .taken)
+loop-less c = omega (arith, c .before .before .before .before .before .before .before .loop-test .taken)
 
 loop-again : tie.Need-loop-again Inv-loop μ-loop
 loop-again c =
-    let start = c .before .before .before .before .before .before .before .before .before .before .before .before .before .before .before .before .before .before .before .before in
-    let at = start .args in
-    let loop = c .before .before .before .before .before .before .before .before .before .before .loop in
-    let i = loop .i in
-    let element = getD (now (at .v)) i 0 in
-    let A = matrix (now (at .starts)) (now (at .columns)) (now (at .values)) in (
-      omega (arith, c .before .before .before .before .before .before .before .before .before .loop-test .taken),
-      c .before .before .scatter .ensures
-          ∙ ap₂ (λ a e. scattered (at .p) element a e (now (at .columns)) (now (at .values)) (loop .out)) (c .before .before .before .before .before .before .wide .ensures .0) (c .before .before .before .before .wide2 .ensures .0)
-          ∙ ap (scattered (at .p) element (getD (now (at .starts)) i 0) (getD (now (at .starts)) (i + 1) 0) (now (at .columns)) (now (at .values))) (loop .inv .1)
-          ∙ gathered-more (at .p) A (now (at .v)) i ∙ ap (gathered (at .p) A (now (at .v))) (sym (add-one i)),
+    let at = c .before .before .before .before .before .before .before .before .before .before .before .before .before .before .before .before .before .before .before .before .args in
+    let loop = c .before .before .before .before .before .before .before .before .loop in
+    let to = c .before .before .before .before .before .wide2 in
+    let made = c .before .before .scatter in (
+      omega (arith, c .before .before .before .before .before .before .before .loop-test .taken),
+      to .ensures .0,
+      gathered-next (at .p) (matrix (now (at .starts)) (now (at .columns)) (now (at .values))) (now (at .v)) (loop .i) (loop .from) (to .result) (loop .out) (made .last .1 .1 .1 .1 .1 .1 .0) (loop .inv .1)
+          (to .ensures .0) (loop .inv .2) (made .ensures),
     )
 
 same-length : tie.Need-same-length Inv-loop μ-loop
-same-length c = vector (c .before) .places ∙ sym (c .before .before .before .before .before .before .before .before .before .before .before .pre .1 .0)
+same-length c = vector (c .before) .places ∙ sym (c .before .before .before .before .before .before .before .before .before .before .before .before .before .pre .1 .0)
 
 returns : tie.Need-returns Inv-loop μ-loop
 returns c =
-    let start = c .before .before .before .before .before .before .before .before .before .before .before in
+    let start = c .before .before .before .before .before .before .before .before .before .before .before .before .before in
     let at = start .args in
     let A = matrix (now (at .starts)) (now (at .columns)) (now (at .values)) in
     let loop = c .before .loop in
     let end : loop .i ≡ length (now (at .starts)) - 1 = omega (arith, loop .inv .0, c .loop-test .left, start .pre .1 .1 .places) in
-    loop .inv .1 ∙ ap (gathered (at .p) A (now (at .v))) end ∙ gathered-all (at .p) A (now (at .v))
+    loop .inv .2 ∙ ap (gathered (at .p) A (now (at .v))) end ∙ gathered-all (at .p) A (now (at .v))
 
 pub transposed-into-spec : {M : Type 1} → statement M
 transposed-into-spec =
@@ -131,16 +129,15 @@ transposed-into-spec =
     Inv-loop
     μ-loop
     clear-requires
-    loop-holds
-    mul-scatter
-    shared-slice-read-scatter
-    mul-wide
     shared-slice-read-wide
     wide-requires
+    loop-holds
     add-wide
-    mul-wide-2
+    mul-wide
     shared-slice-read-wide-2
     wide-requires-2
+    mul-scatter
+    shared-slice-read-scatter
     scatter-requires
     add-i
     loop-less

@@ -1,4 +1,4 @@
-use mathlib.Core.Path.{_≡_, sym, ap, ap₂, _∙_}
+use mathlib.Core.Path.{_≡_, refl, sym, ap, ap₂, _∙_}
 use mathlib.Core.Bool.{Bool, true}
 use mathlib.Core.List.{List}
 use Prim.Native.Nat.{ℕ, _-_, _%_, _≤_}
@@ -11,9 +11,9 @@ use borrow.Author.Tests.{eq-eqb, ne-eqb}
 use Rattle.meaning.specs.List.{all}
 use Rattle.meaning.specs.Matrix.{Matrix, matrix, product}
 use Rattle.laws.specs.List.{all-zero, all-not}
-use Rattle.checks.specs.Valid.{rowProduct}
-use Rattle.wiedemann.specs.Horner.{at-product}
+use Rattle.checks.specs.Valid.{rowProduct, valid-entries}
 use Rattle.checks.specs.Matrix.{all-next}
+use Rattle.wiedemann.specs.Horner.{at-product, row-bounds, row-reduced}
 use borrow.Author.Needs.{needs}
 use Rattle.wiedemann.proofs.offered.agrees.Statement.{statement}
 use Rattle.wiedemann.proofs.offered.agrees.Tie as tie
@@ -22,67 +22,100 @@ abbrev agreement : ℕ → Matrix → List ℕ → List ℕ → ℕ → Bool
 agreement p A x b i = eqb (getD (product p A x) i 0) (getD b i 0)
 
 abbrev Inv-loop : tie.InvT-loop
-Inv-loop p reciprocal starts columns values x b n i₀ i = (i ≤ n) × (all i (agreement p (matrix starts columns values) x b) ≡ true)
+Inv-loop m starts columns values x b n from₀ i₀ from i =
+    (i ≤ n) × (from ≡ getD starts i 0) × (all i (agreement (m .p) (matrix starts columns values) x b) ≡ true)
 
 abbrev μ-loop : tie.MeasureT-loop
-μ-loop p reciprocal starts columns values x b n i₀ i = n - i
+μ-loop m starts columns values x b n from₀ i₀ from i = n - i
 
 -- the test of row i
 here : (c : tie.After-element Inv-loop μ-loop)
-    → agreement (c .before .before .before .before .before .before .before .before .before .args .p) (matrix (now (c .before .before .before .before .before .before .before .before .before .args .starts)) (now (c .before .before .before .before .before .before .before .before .before .args .columns)) (now (c .before .before .before .before .before .before .before .before .before .args .values))) (now (c .before .before .before .before .before .before .before .before .before .args .x)) (now (c .before .before .before .before .before .before .before .before .before .args .b)) (c .before .before .before .loop .i)
-    ≡ eqb (c .before .row .result) (c .element .result)
+    → let at = c .before .before .before .before .before .before .before .before .before .before .before .before .before .before .args in
+    agreement (at .m .p) (matrix (now (at .starts)) (now (at .columns)) (now (at .values))) (now (at .x)) (now (at .b)) (c .before .before .before .before .before .before .loop .i) ≡ eqb (c .before .residue .result) (c .element .result)
 here c =
-    let at = c .before .before .before .before .before .before .before .before .before .args in
-    let A = (matrix (now (c .before .before .before .before .before .before .before .before .before .args .starts)) (now (c .before .before .before .before .before .before .before .before .before .args .columns)) (now (c .before .before .before .before .before .before .before .before .before .args .values))) in
-    let i = c .before .before .before .loop .i in
+    let at = c .before .before .before .before .before .before .before .before .before .before .before .before .before .before .args in
+    let A = matrix (now (at .starts)) (now (at .columns)) (now (at .values)) in
+    let loop = c .before .before .before .before .before .before .loop in
+    let to = c .before .before .before .wide2 in
+    let sum = c .before .before .row in
     ap₂ eqb
-    (at-product (at .p) A (now (at .x)) i (c .before .before .loop-test .taken)
-    ∙ ap (λ y. y % at .p) (sym (zero-add (rowProduct A (now (at .x)) i))) ∙ sym (c .before .row .ensures)) (sym (c .element .ensures))
+    (at-product (at .m .p) A (now (at .x)) (loop .i) (c .before .before .before .before .before .loop-test .taken)
+    ∙ ap (λ y. y % at .m .p) (sym (zero-add (rowProduct A (now (at .x)) (loop .i))))
+    ∙ sym
+    (row-reduced A (loop .i) (loop .from) (to .result) (loop .inv .1) (to .ensures .0) (at .m .p) 0 0 (c .before .residue .result) (now (at .x))
+    (now (at .x)) (sum .result) refl refl (sum .ensures .0) (c .before .residue .ensures)))
+    (sym (c .element .ensures))
 
 sub-n : tie.Need-sub-n Inv-loop μ-loop
 sub-n c = omega (arith, c .before .before .before .before .before .pre .0 .one-more)
 
+shared-slice-read-wide : tie.Need-shared-slice-read-wide Inv-loop μ-loop
+shared-slice-read-wide c = omega (arith, c .before .before .before .before .before .before .pre .0 .one-more)
+
+wide-requires : tie.Need-wide-requires Inv-loop μ-loop
+wide-requires c κs = search needs
+
 loop-holds : tie.Need-loop-holds Inv-loop μ-loop
 loop-holds c =
-    let at = c .before .before .before .before .before .args in
-    (omega arith, all-zero (agreement (at .p) (matrix (now (c .before .before .before .before .before .args .starts)) (now (c .before .before .before .before .before .args .columns)) (now (c .before .before .before .before .before .args .values))) (now (at .x)) (now (at .b))))
+    let at = c .before .before .before .before .before .before .before .args in
+    (omega arith, c .wide .ensures .0, all-zero (agreement (at .m .p) (matrix (now (at .starts)) (now (at .columns)) (now (at .values))) (now (at .x)) (now (at .b))))
+
+add-wide : tie.Need-add-wide Inv-loop μ-loop
+add-wide c = omega (arith, c .loop-test .taken, c .before .before .before .before .before .before .before .before .before .pre .0 .sized)
+
+mul-wide : tie.Need-mul-wide Inv-loop μ-loop
+mul-wide c = omega (arith, c .loop-test .taken, c .before .before .before .before .before .before .before .before .before .pre .0 .sized)
+
+shared-slice-read-wide-2 : tie.Need-shared-slice-read-wide-2 Inv-loop μ-loop
+shared-slice-read-wide-2 c = omega (arith, c .before .loop-test .taken, c .before .before .before .before .before .before .before .before .before .before .pre .0 .one-more)
+
+wide-requires-2 : tie.Need-wide-requires-2 Inv-loop μ-loop
+wide-requires-2 c κs = search needs
 
 row-requires : tie.Need-row-requires Inv-loop μ-loop
 row-requires c κs =
-    let pre = c .before .before .before .before .before .before .before .pre in
-    (pre .0, (pre .1 .0, c .loop-test .taken, pre .1 .1))
+    let start = c .before .before .before .before .before .before .before .before .before .before .before in
+    let at = start .args in
+    let A = matrix (now (at .starts)) (now (at .columns)) (now (at .values)) in
+    let loop = c .before .before .before .loop in
+    let bounds = row-bounds A (loop .i) (loop .from) (c .wide2 .result) (loop .inv .1) (c .wide2 .ensures .0) (start .pre .0) (c .before .before .loop-test .taken) in
+    (valid-entries (at .m .p) A (now (at .x)) (start .pre .0) (start .pre .1 .1), bounds .0, bounds .1)
+
+residue-requires : tie.Need-residue-requires Inv-loop μ-loop
+residue-requires c κs = (c .before .before .before .before .before .before .before .before .before .before .before .before .pre .1 .0, c .row .ensures .1)
 
 element-requires : tie.Need-element-requires Inv-loop μ-loop
 element-requires c κs = search needs
 
 returns : tie.Need-returns Inv-loop μ-loop
 returns c =
-    let at = c .before .before .before .before .before .before .before .before .before .before .args in
+    let at = c .before .before .before .before .before .before .before .before .before .before .before .before .before .before .before .args in
     sym
-    (all-not (length (now (at .starts)) - 1) (agreement (at .p) (matrix (now (c .before .before .before .before .before .before .before .before .before .before .args .starts)) (now (c .before .before .before .before .before .before .before .before .before .before .args .columns)) (now (c .before .before .before .before .before .before .before .before .before .before .args .values))) (now (at .x)) (now (at .b))) (c .before .before .before .before .loop .i) (c .before .before .before .loop-test .taken)
-    (here (c .before) ∙ ne-eqb (c .before .before .row .result) (c .before .element .result) (c .if1 .taken)))
+    (all-not (length (now (at .starts)) - 1) (agreement (at .m .p) (matrix (now (at .starts)) (now (at .columns)) (now (at .values))) (now (at .x)) (now (at .b))) (c .before .before .before .before .before .before .before .loop .i) (c .before .before .before .before .before .before .loop-test .taken)
+    (here (c .before) ∙ ne-eqb (c .before .before .residue .result) (c .before .element .result) (c .if1 .taken)))
 
 add-i : tie.Need-add-i Inv-loop μ-loop
-add-i c = search needs
+add-i c = omega (arith, c .before .before .before .before .before .before .loop-test .taken, c .before .before .before .before .before .before .before .before .before .before .before .before .before .before .before .pre .0 .sized)
 
 loop-less : tie.Need-loop-less Inv-loop μ-loop
-loop-less c = omega (arith, c .before .before .before .loop-test .taken)
+loop-less c = omega (arith, c .before .before .before .before .before .before .loop-test .taken)
 
 loop-again : tie.Need-loop-again Inv-loop μ-loop
 loop-again c =
-    let at = c .before .before .before .before .before .before .before .before .before .before .args in
-    let loop = c .before .before .before .before .loop in (
-      omega (arith, c .before .before .before .loop-test .taken),
-      all-next (loop .i) (agreement (at .p) (matrix (now (c .before .before .before .before .before .before .before .before .before .before .args .starts)) (now (c .before .before .before .before .before .before .before .before .before .before .args .columns)) (now (c .before .before .before .before .before .before .before .before .before .before .args .values))) (now (at .x)) (now (at .b))) (loop .inv .1)
-          (here (c .before) ∙ eq-eqb (c .before .before .row .result) (c .before .element .result) (c .if1 .left)),
+    let at = c .before .before .before .before .before .before .before .before .before .before .before .before .before .before .before .args in
+    let loop = c .before .before .before .before .before .before .before .loop in (
+      omega (arith, c .before .before .before .before .before .before .loop-test .taken),
+      c .before .before .before .before .wide2 .ensures .0,
+      all-next (loop .i) (agreement (at .m .p) (matrix (now (at .starts)) (now (at .columns)) (now (at .values))) (now (at .x)) (now (at .b))) (loop .inv .2)
+          (here (c .before) ∙ eq-eqb (c .before .before .residue .result) (c .before .element .result) (c .if1 .left)),
     )
 
 returns-2 : tie.Need-returns-2 Inv-loop μ-loop
 returns-2 c =
-    let at = c .before .before .before .before .before .before .before .args in
+    let at = c .before .before .before .before .before .before .before .before .before .args in
     let loop = c .before .loop in
     let end : loop .i ≡ length (now (at .starts)) - 1 = omega (arith, loop .inv .0, c .loop-test .left) in
-    sym (ap (λ k. all k (agreement (at .p) (matrix (now (c .before .before .before .before .before .before .before .args .starts)) (now (c .before .before .before .before .before .before .before .args .columns)) (now (c .before .before .before .before .before .before .before .args .values))) (now (at .x)) (now (at .b)))) (sym end) ∙ loop .inv .1)
+    sym (ap (λ k. all k (agreement (at .m .p) (matrix (now (at .starts)) (now (at .columns)) (now (at .values))) (now (at .x)) (now (at .b)))) (sym end) ∙ loop .inv .2)
 
 pub agrees-spec : {M : Type 1} → statement M
 agrees-spec =
@@ -91,8 +124,15 @@ agrees-spec =
     Inv-loop
     μ-loop
     sub-n
+    shared-slice-read-wide
+    wide-requires
     loop-holds
+    add-wide
+    mul-wide
+    shared-slice-read-wide-2
+    wide-requires-2
     row-requires
+    residue-requires
     element-requires
     returns
     add-i

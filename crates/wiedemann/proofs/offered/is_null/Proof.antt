@@ -1,4 +1,4 @@
-use mathlib.Core.Path.{_≡_, sym, ap, ap₂, _∙_}
+use mathlib.Core.Path.{_≡_, sym, ap, ap₂, _∙_, subst}
 use mathlib.Core.Bool.{false, not, _&&_}
 use denote.Ref.{now}
 use Rattle.meaning.specs.List.{isZero}
@@ -6,32 +6,44 @@ use Rattle.meaning.specs.Matrix.{matrix, product}
 use Rattle.meaning.specs.Solver.{isNull}
 use Rattle.meaning.specs.Calls.{isNullRefusal, isNullAnswer}
 use Rattle.checks.specs.Matrix.{Accepted, system-accepted}
-use Rattle.laws.specs.Refusal.{unlessRefused-none, unlessRefused-some}
+use Rattle.laws.specs.Refusal.{unlessRefused-none}
+use Rattle.wiedemann.specs.Answers.{decides-refused}
 use borrow.Author.Needs.{needs}
 use Rattle.wiedemann.proofs.offered.is_null.Statement.{statement}
 use Rattle.wiedemann.proofs.offered.is_null.Tie as tie
 
-none : (c : tie.Else1) → isNullRefusal (c .before .before .before .before .before .before .args .field .p) (matrix (now (c .before .before .before .before .before .before .args .starts)) (now (c .before .before .before .before .before .before .args .columns)) (now (c .before .before .before .before .before .before .args .values))) (now (c .before .before .before .before .before .before .args .w)) ≡ 0
+none : (c : tie.Else1)
+    → let at = c .before .before .before .before .before .before .args in
+    isNullRefusal (at .field .p) (matrix (now (at .starts)) (now (at .columns)) (now (at .values))) (now (at .w)) ≡ 0
 unfolding isNullRefusal
 none c = sym (c .before .system-refusal .ensures) ∙ c .if1 .left
 
-accepted : (c : tie.Else1) → Accepted (c .before .before .before .before .before .before .args .field .p) (matrix (now (c .before .before .before .before .before .before .args .starts)) (now (c .before .before .before .before .before .before .args .columns)) (now (c .before .before .before .before .before .before .args .values))) (now (c .before .before .before .before .before .before .args .w))
+accepted : (c : tie.Else1)
+    → let at = c .before .before .before .before .before .before .args in
+    Accepted (at .field .p) (matrix (now (at .starts)) (now (at .columns)) (now (at .values))) (now (at .w))
+unfolding isNullRefusal
 accepted c =
-    system-accepted (c .before .before .before .before .before .before .args .field .p) (matrix (now (c .before .before .before .before .before .before .args .starts)) (now (c .before .before .before .before .before .before .args .columns)) (now (c .before .before .before .before .before .before .args .values))) (now (c .before .before .before .before .before .before .args .w)) (sym (c .before .system-refusal .ensures) ∙ c .if1 .left)
+    let at = c .before .before .before .before .before .before .args in
+    system-accepted (at .field .p) (matrix (now (at .starts)) (now (at .columns)) (now (at .values))) (now (at .w)) (none c)
 
 answer : (c : tie.Else1)
-    → isNullAnswer (c .before .before .before .before .before .before .args .field .p) (matrix (now (c .before .before .before .before .before .before .args .starts)) (now (c .before .before .before .before .before .before .args .columns)) (now (c .before .before .before .before .before .before .args .values))) (now (c .before .before .before .before .before .before .args .w))
-    ≡ not (isZero (now (c .before .before .before .before .before .before .args .w))) && isZero (product (c .before .before .before .before .before .before .args .field .p) (matrix (now (c .before .before .before .before .before .before .args .starts)) (now (c .before .before .before .before .before .before .args .columns)) (now (c .before .before .before .before .before .before .args .values))) (now (c .before .before .before .before .before .before .args .w)))
+    → let at = c .before .before .before .before .before .before .args in
+    isNullAnswer (at .field .p) (matrix (now (at .starts)) (now (at .columns)) (now (at .values))) (now (at .w))
+    ≡ not (isZero (now (at .w))) && isZero (product (at .field .p) (matrix (now (at .starts)) (now (at .columns)) (now (at .values))) (now (at .w)))
 unfolding isNull
 answer c =
     let at = c .before .before .before .before .before .before .args in
-    let A = (matrix (now (c .before .before .before .before .before .before .args .starts)) (now (c .before .before .before .before .before .before .args .columns)) (now (c .before .before .before .before .before .before .args .values))) in
+    let A = matrix (now (at .starts)) (now (at .columns)) (now (at .values)) in
     unlessRefused-none (isNullRefusal (at .field .p) A (now (at .w))) (isNull (at .field .p) A (now (at .w))) false (none c)
 
-nonzero : (c : tie.After-vanishes) → isNullAnswer (c .before .before .before .before .before .before .before .before .before .before .args .field .p) (matrix (now (c .before .before .before .before .before .before .before .before .before .before .args .starts)) (now (c .before .before .before .before .before .before .before .before .before .before .args .columns)) (now (c .before .before .before .before .before .before .before .before .before .before .args .values))) (now (c .before .before .before .before .before .before .before .before .before .before .args .w)) ≡ c .vanishes .result
+nonzero : (c : tie.After-vanishes)
+    → let at = c .before .before .before .before .before .before .before .before .before .before .args in
+    isNullAnswer (at .field .p) (matrix (now (at .starts)) (now (at .columns)) (now (at .values))) (now (at .w)) ≡ c .vanishes .result
 nonzero c =
+    let at = c .before .before .before .before .before .before .before .before .before .before .args in
     answer (c .before .before .before .before)
-    ∙ ap₂ (λ s t. not s && t) (sym (c .before .before .before .is-zero .ensures) ∙ c .before .before .if2 .left) (sym (c .vanishes .ensures))
+    ∙ ap₂ (λ s t. not s && t) (sym (c .before .before .before .is-zero .ensures) ∙ c .before .before .if2 .left)
+    (ap (λ p. isZero (product p (matrix (now (at .starts)) (now (at .columns)) (now (at .values))) (now (at .w)))) (sym (c .before .of .ensures .0)) ∙ sym (c .vanishes .ensures))
 
 system-refusal-requires : tie.Need-system-refusal-requires
 system-refusal-requires c κs = search needs
@@ -40,12 +52,9 @@ returns : tie.Need-returns
 unfolding isNullRefusal
 returns c =
     let at = c .before .before .before .before .before .before .args in
-    let A = (matrix (now (c .before .before .before .before .before .before .args .starts)) (now (c .before .before .before .before .before .before .args .columns)) (now (c .before .before .before .before .before .before .args .values))) in
-    let number = c .before .system-refusal .ensures in (
-      sym number,
-      c .if1 .taken,
-      unlessRefused-some (isNullRefusal (at .field .p) A (now (at .w))) (isNull (at .field .p) A (now (at .w))) false (λ e. c .if1 .taken (number ∙ e)),
-    )
+    let A = matrix (now (at .starts)) (now (at .columns)) (now (at .values)) in
+    let number = c .before .system-refusal in
+    decides-refused (number .result) (isNullRefusal (at .field .p) A (now (at .w))) (isNull (at .field .p) A (now (at .w))) (number .ensures) (c .if1 .taken)
 
 is-zero-requires : tie.Need-is-zero-requires
 is-zero-requires c κs = search needs
@@ -54,16 +63,18 @@ returns-2 : tie.Need-returns-2
 returns-2 c =
     let at = c .before .before .before .before .before .before .before .before .args in (
       none (c .before .before),
-      answer (c .before .before) ∙ ap (λ t. not t && isZero (product (at .field .p) (matrix (now (c .before .before .before .before .before .before .before .before .args .starts)) (now (c .before .before .before .before .before .before .before .before .args .columns)) (now (c .before .before .before .before .before .before .before .before .args .values))) (now (at .w)))) (sym (c .before .is-zero .ensures) ∙ c .if2 .taken),
+      answer (c .before .before) ∙ ap (λ t. not t && isZero (product (at .field .p) (matrix (now (at .starts)) (now (at .columns)) (now (at .values))) (now (at .w)))) (sym (c .before .is-zero .ensures) ∙ c .if2 .taken),
     )
 
-reciprocal-requires : tie.Need-reciprocal-requires
-reciprocal-requires c κs = accepted (c .before .before) .valid .positive
+of-requires : tie.Need-of-requires
+of-requires c κs = (accepted (c .before .before) .valid .positive, accepted (c .before .before) .valid .small)
 
 vanishes-requires : tie.Need-vanishes-requires
 vanishes-requires c κs =
-    let known = accepted (c .before .before .before) in
-    (known .valid, (c .reciprocal .ensures, known .vector))
+    let at = c .before .before .before .before .before .before .before .before .before .args in
+    let known =
+    subst (λ p. Accepted p (matrix (now (at .starts)) (now (at .columns)) (now (at .values))) (now (at .w))) (sym (c .of .ensures .0)) (accepted (c .before .before .before)) in
+    (known .valid, (c .of .ensures .1, known .vector))
 
 returns-3 : tie.Need-returns-3
 returns-3 c = (none (c .before .before .before .before .before), nonzero (c .before) ∙ c .if3 .taken)
@@ -79,7 +90,7 @@ is-null-spec =
     returns
     is-zero-requires
     returns-2
-    reciprocal-requires
+    of-requires
     vanishes-requires
     returns-3
     returns-4)

@@ -1,4 +1,4 @@
-use mathlib.Core.Path.{_≡_, sym, _∙_}
+use mathlib.Core.Path.{_≡_, sym, _∙_, subst}
 use mathlib.Core.Bool.{false}
 use Prim.Native.Nat.{_-_}
 use lib.ListN.{length}
@@ -7,27 +7,36 @@ use Rattle.meaning.specs.Matrix.{matrix}
 use Rattle.meaning.specs.Solver.{takes}
 use Rattle.meaning.specs.Calls.{takesRefusal, takesAnswer}
 use Rattle.checks.specs.Matrix.{Accepted, takes-accepted}
-use Rattle.laws.specs.Refusal.{unlessRefused-none, unlessRefused-some}
-use Rattle.wiedemann.specs.Offered.{takes-all}
+use Rattle.laws.specs.Refusal.{unlessRefused-none}
+use Rattle.wiedemann.specs.Answers.{decides-refused}
+use Rattle.wiedemann.specs.Offered.{takes-tested}
 use borrow.Author.Needs.{needs}
 use Rattle.wiedemann.proofs.offered.takes.Statement.{statement}
 use Rattle.wiedemann.proofs.offered.takes.Tie as tie
 
-none : (c : tie.Else1) → takesRefusal (c .before .before .before .before .before .before .before .args .field .p) (matrix (now (c .before .before .before .before .before .before .before .args .starts)) (now (c .before .before .before .before .before .before .before .args .columns)) (now (c .before .before .before .before .before .before .before .args .values))) (now (c .before .before .before .before .before .before .before .args .x)) (now (c .before .before .before .before .before .before .before .args .b)) ≡ 0
+none : (c : tie.Else1)
+    → let at = c .before .before .before .before .before .before .before .args in
+    takesRefusal (at .field .p) (matrix (now (at .starts)) (now (at .columns)) (now (at .values))) (now (at .x)) (now (at .b)) ≡ 0
 none c = sym (c .before .takes-refusal .ensures) ∙ c .if1 .left
 
 accepted : (c : tie.Else1)
-    → Accepted (c .before .before .before .before .before .before .before .args .field .p) (matrix (now (c .before .before .before .before .before .before .before .args .starts)) (now (c .before .before .before .before .before .before .before .args .columns)) (now (c .before .before .before .before .before .before .before .args .values))) (now (c .before .before .before .before .before .before .before .args .x)) × (length (now (c .before .before .before .before .before .before .before .args .b)) ≡ length (now (c .before .before .before .before .before .before .before .args .starts)) - 1)
-accepted c = takes-accepted (c .before .before .before .before .before .before .before .args .field .p) (matrix (now (c .before .before .before .before .before .before .before .args .starts)) (now (c .before .before .before .before .before .before .before .args .columns)) (now (c .before .before .before .before .before .before .before .args .values))) (now (c .before .before .before .before .before .before .before .args .x)) (now (c .before .before .before .before .before .before .before .args .b)) (none c)
+    → let at = c .before .before .before .before .before .before .before .args in
+    Accepted (at .field .p) (matrix (now (at .starts)) (now (at .columns)) (now (at .values))) (now (at .x)) × (length (now (at .b)) ≡ length (now (at .starts)) - 1)
+accepted c =
+    let at = c .before .before .before .before .before .before .before .args in
+    takes-accepted (at .field .p) (matrix (now (at .starts)) (now (at .columns)) (now (at .values))) (now (at .x)) (now (at .b)) (none c)
 
-answer : (c : tie.After-agrees) → takesAnswer (c .before .before .before .before .before .before .before .before .before .args .field .p) (matrix (now (c .before .before .before .before .before .before .before .before .before .args .starts)) (now (c .before .before .before .before .before .before .before .before .before .args .columns)) (now (c .before .before .before .before .before .before .before .before .before .args .values))) (now (c .before .before .before .before .before .before .before .before .before .args .x)) (now (c .before .before .before .before .before .before .before .before .before .args .b)) ≡ c .agrees .result
+answer : (c : tie.After-agrees)
+    → let at = c .before .before .before .before .before .before .before .before .before .args in
+    takesAnswer (at .field .p) (matrix (now (at .starts)) (now (at .columns)) (now (at .values))) (now (at .x)) (now (at .b)) ≡ c .agrees .result
 answer c =
     let at = c .before .before .before .before .before .before .before .before .before .args in
-    let A = (matrix (now (c .before .before .before .before .before .before .before .before .before .args .starts)) (now (c .before .before .before .before .before .before .before .before .before .args .columns)) (now (c .before .before .before .before .before .before .before .before .before .args .values))) in
+    let A = matrix (now (at .starts)) (now (at .columns)) (now (at .values)) in
     let known = accepted (c .before .before) in
     unlessRefused-none (takesRefusal (at .field .p) A (now (at .x)) (now (at .b))) (takes (at .field .p) A (now (at .x)) (now (at .b))) false
     (none (c .before .before))
-    ∙ takes-all (at .field .p) A (now (at .x)) (now (at .b)) (known .0 .valid .positive) (known .1) ∙ sym (c .agrees .ensures)
+    ∙ takes-tested (at .field .p) (c .before .of .result .p) (c .before .of .ensures .0) A (now (at .x)) (now (at .b)) (c .agrees .result)
+    (known .0 .valid .positive) (known .1) (c .agrees .ensures)
 
 takes-refusal-requires : tie.Need-takes-refusal-requires
 takes-refusal-requires c κs = search needs
@@ -35,21 +44,20 @@ takes-refusal-requires c κs = search needs
 returns : tie.Need-returns
 returns c =
     let at = c .before .before .before .before .before .before .before .args in
-    let A = (matrix (now (c .before .before .before .before .before .before .before .args .starts)) (now (c .before .before .before .before .before .before .before .args .columns)) (now (c .before .before .before .before .before .before .before .args .values))) in
-    let number = c .before .takes-refusal .ensures in (
-      sym number,
-      c .if1 .taken,
-      unlessRefused-some (takesRefusal (at .field .p) A (now (at .x)) (now (at .b))) (takes (at .field .p) A (now (at .x)) (now (at .b))) false
-          (λ e. c .if1 .taken (number ∙ e)),
-    )
+    let A = matrix (now (at .starts)) (now (at .columns)) (now (at .values)) in
+    let number = c .before .takes-refusal in
+    decides-refused (number .result) (takesRefusal (at .field .p) A (now (at .x)) (now (at .b))) (takes (at .field .p) A (now (at .x)) (now (at .b)))
+    (number .ensures) (c .if1 .taken)
 
-reciprocal-requires : tie.Need-reciprocal-requires
-reciprocal-requires c κs = accepted c .0 .valid .positive
+of-requires : tie.Need-of-requires
+of-requires c κs = (accepted c .0 .valid .positive, accepted c .0 .valid .small)
 
 agrees-requires : tie.Need-agrees-requires
 agrees-requires c κs =
-    let known = accepted (c .before) .0 in
-    (known .valid, (c .reciprocal .ensures, known .vector))
+    let at = c .before .before .before .before .before .before .before .before .args in
+    let known =
+    subst (λ p. Accepted p (matrix (now (at .starts)) (now (at .columns)) (now (at .values))) (now (at .x))) (sym (c .of .ensures .0)) (accepted (c .before) .0) in
+    (known .valid, (c .of .ensures .1, known .vector))
 
 returns-2 : tie.Need-returns-2
 returns-2 c = (none (c .before .before .before), answer (c .before) ∙ c .if2 .taken)
@@ -60,4 +68,4 @@ returns-3 c = (none (c .before .before .before), answer (c .before) ∙ c .if2 .
 pub takes-spec : {M : Type 1} → statement M
 takes-spec =
     tie.close
-    (tie.spec takes-refusal-requires returns reciprocal-requires agrees-requires returns-2 returns-3)
+    (tie.spec takes-refusal-requires returns of-requires agrees-requires returns-2 returns-3)

@@ -1,13 +1,9 @@
-use mathlib.Core.Path.{sym, ap, _∙_}
 use Prim.Native.Nat.{_-_}
-use native.Mathlib.Nat.{sub-self}
-use lib.Dec.{eqb}
-use lib.ListN.{length, getD, take, drop}
+use lib.ListN.{length}
 use denote.Ref.{now}
-use Rattle.meaning.specs.List.{all}
 use Rattle.meaning.specs.Matrix.{matrix, product}
 use Rattle.wiedemann.specs.Horner.{vector-product}
-use Rattle.wiedemann.specs.Offered.{zero-all}
+use Rattle.wiedemann.specs.Offered.{zero-tested}
 use borrow.Author.Needs.{needs}
 use Rattle.wiedemann.proofs.offered.vanishes.Statement.{statement}
 use Rattle.wiedemann.proofs.offered.vanishes.Tie as tie
@@ -32,11 +28,9 @@ returns c =
     let start = c .before .before .before .before .before .before in
     let at = start .args in
     let w = now (at .w) in
-    let n = length (now (at .starts)) - 1 in
-    let Aw = product (at .p) (matrix (now (c .before .before .before .before .before .before .args .starts)) (now (c .before .before .before .before .before .before .args .columns)) (now (c .before .before .before .before .before .before .args .values))) w in
-    c .agrees .ensures
-    ∙ ap (λ k. all n (λ i. eqb (getD Aw i 0) (getD (take k (drop (length w) w)) i 0))) (sub-self (length w))
-    ∙ sym (zero-all Aw n (vector-product (at .p) (matrix (now (c .before .before .before .before .before .before .args .starts)) (now (c .before .before .before .before .before .before .args .columns)) (now (c .before .before .before .before .before .before .args .values))) w (start .pre .0 .positive) .places))
+    let A = matrix (now (at .starts)) (now (at .columns)) (now (at .values)) in
+    zero-tested (product (at .m .p) A w) w (length (now (at .starts)) - 1) (c .agrees .result) (vector-product (at .m .p) A w (start .pre .0 .positive) .places)
+    (c .agrees .ensures)
 
 pub vanishes-spec : {M : Type 1} → statement M
 vanishes-spec =

@@ -28,7 +28,7 @@ last-requires c κs =
 residue-requires : tie.Need-residue-requires
 residue-requires c κs =
     let pre = c .before .before .before .before .pre in
-    (pre .1, pre .2, omega (arith, c .last .ensures .carries, pre .0 .few))
+    (pre .1, omega (arith, c .last .ensures .carries, pre .0 .few))
 
 returns : tie.Need-returns
 returns c =
@@ -38,10 +38,10 @@ returns c =
     let n = length v in
     let none : Total = record { low = 0; high = 0 } in
     c .residue .ensures
-    ∙ ap (λ x. x % a .p)
+    ∙ ap (λ x. x % a .m .p)
     (summed-both none (c .before .before .twos .result) (c .before .last .result) 0 (n - n % 2) n (wordTerm words v) (omega arith) (omega arith) (c .before .before .twos .ensures) (c .before .last .ensures) .sum
     ∙ zero-add (sumFrom 0 n (wordTerm words v)) ∙ sumFrom-zero n (wordTerm words v))
-    ∙ sym (dot-words (a .p) words v)
+    ∙ sym (dot-words (a .m .p) words v)
 
 pub dot-spec : {M : Type 1} → statement M
 dot-spec = tie.close (tie.spec sub-middle twos-requires last-requires residue-requires returns)

@@ -1,10 +1,10 @@
 use Rattle.wiedemann.specs.Projection.{wordTerm}
-use Rattle.wiedemann.specs.Sums.{Summed, summed-none, summed-more, sumFrom-one}
+use Rattle.wiedemann.specs.Sums.{Summed, summed-none, summed-one}
 use denote.Ref.{now}
 use lib.ListN.{length}
 use native.Mathlib.Omega.{arith}
-use Prim.Native.Nat.{_+_, _-_}
-use mathlib.Core.Path.{_≡_, sym, _∙_, subst}
+use Prim.Native.Nat.{_+_}
+use mathlib.Core.Path.{_≡_, subst}
 use borrow.Author.Needs.{needs}
 use Rattle.wiedemann.proofs.projection.last.Statement.{statement}
 use Rattle.wiedemann.proofs.projection.last.Tie as tie
@@ -23,8 +23,8 @@ returns c =
     let f = wordTerm (now (a .words)) (now (a .v)) in
     let end : from + 1 ≡ length (now (a .v)) = omega (arith, c .before .before .if1 .taken, pre .2) in
     subst (λ m. Summed (a .total) (c .add .result) from m f) end
-    (summed-more (a .total) (a .total) (c .add .result) from from (from + 1) f (c .before .product .result) (omega arith) (omega arith)
-    (summed-none (a .total) from f (pre .3)) (c .before .product .ensures .0 ∙ sym (sumFrom-one from f)) (c .add .ensures))
+    (summed-one (a .total) (a .total) (c .add .result) from from f (c .before .product .result) (omega arith) (summed-none (a .total) from f (pre .3))
+    (c .before .product .ensures .0) (c .add .ensures))
 
 returns-2 : tie.Need-returns-2
 returns-2 c =

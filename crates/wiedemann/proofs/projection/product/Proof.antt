@@ -2,7 +2,6 @@ use Rattle.wiedemann.specs.Sums.{word-fits}
 use denote.Ref.{now}
 use lib.ListN.{getD}
 use native.Mathlib.Omega.{arith}
-use Prim.Native.Nat.{_-_}
 use borrow.Author.Needs.{needs}
 use Rattle.wiedemann.proofs.projection.product.Statement.{statement}
 use Rattle.wiedemann.proofs.projection.product.Tie as tie

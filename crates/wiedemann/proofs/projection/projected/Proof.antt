@@ -1,34 +1,36 @@
-use Rattle.wiedemann.specs.Projection.{projection-words, projection-unit, dot-unit}
-use Rattle.laws.specs.List.{table-ext}
-use Rattle.meaning.specs.Solver.{dot, projections}
-use mathlib.Core.List.{[], List}
-use lib.Seq.{take-all, getD-drop}
-use native.Mathlib.Nat.{mul-le-mul, suc-mul}
-use Rattle.meaning.specs.List.{at}
-use denote.Ref.{now}
-use lib.ListN.{length, getD, take, drop, length-drop}
-use native.Mathlib.Omega.{arith}
-use Prim.Native.Nat.{ℕ, suc, _+_, _-_, _*_, _/_, _%_, _≤_, _<_}
 use mathlib.Core.Path.{_≡_, sym, ap, _∙_, subst}
+use mathlib.Core.List.{[], List}
+use Prim.Native.Nat.{ℕ, suc, _+_, _-_, _*_, _/_, _%_, _≤_, _<_}
+use native.Mathlib.Nat.{mul-le-mul, suc-mul}
+use native.Mathlib.Omega.{arith}
+use lib.ListN.{length, getD, take, drop, length-drop}
+use lib.Seq.{take-all, getD-drop}
+use denote.Ref.{now}
+use Rattle.meaning.specs.List.{at}
+use Rattle.meaning.specs.Solver.{dot, projections}
+use Rattle.laws.specs.List.{table-ext}
+use Rattle.laws.specs.Solver.{vectorCount-div, projection-words}
+use Rattle.wiedemann.specs.Projection.{projection-past}
 use borrow.Author.Needs.{needs}
 use Rattle.wiedemann.proofs.projection.projected.Statement.{statement}
 use Rattle.wiedemann.proofs.projection.projected.Tie as tie
 
 -- vector j stands within the words
-within : (c : tie.Then1) → c .before .before .before .args .j * length (now (c .before .before .before .args .v)) + length (now (c .before .before .before .args .v)) ≤ length (now (c .before .before .before .args .words))
+within : (c : tie.Then1)
+    → let a = c .before .before .before .args in
+    a .u .index * length (now (a .v)) + length (now (a .v)) ≤ length (now (a .words))
 within c =
     let a = c .before .before .before .args in
     let n = length (now (a .v)) in
-    omega (arith, mul-le-mul {n₁ = suc (a .j)} {m₁ = n} {n₂ = a .vectors} {m₂ = n} (c .if1 .taken) (omega arith), suc-mul (a .j) n, c .before .before .before .pre .1 .0 .whole)
+    omega
+    (arith, mul-le-mul {n₁ = suc (a .u .index)} {m₁ = n} {n₂ = a .u .vectors} {m₂ = n} (c .if1 .taken) (omega arith), suc-mul (a .u .index) n, c .before .before .before .pre .1 .whole)
 
 -- the words' part from j × n on
 tail : (words : List ℕ) (from : ℕ) → take (length words - from) (drop from words) ≡ drop from words
 tail words from = take-all (length words - from) (drop from words) (omega (arith, length-drop from words))
 
 mul-from : tie.Need-mul-from
-mul-from c =
-    let a = c .before .before .before .args in
-    record { fits = omega (arith, within c, c .before .before .before .good) }
+mul-from c = record { fits = omega (arith, within c, c .before .before .before .good) }
 
 mul-dot : tie.Need-mul-dot
 mul-dot c = omega (arith, within c)
@@ -47,52 +49,39 @@ dot-requires c κs =
     let a = c .before .before .before .before .args in
     let pre = c .before .before .before .before .pre in
     let words = now (a .words) in
-    let from = a .j * length (now (a .v)) in (
+    let from = a .u .index * length (now (a .v)) in (
       rw (tail words from)
           (record {
-            few = pre .1 .2;
+            few = pre .3;
             enough = omega (arith, within (c .before), length-drop from words);
-            element = λ i l. omega (arith, pre .1 .1 .below i l, pre .0 .2);
+            element = λ i l. omega (arith, pre .2 .below i l, pre .0 .small);
           }),
-      pre .0 .1,
-      pre .0 .0,
+      pre .0,
     )
 
-mul-result : tie.Need-mul-result
-mul-result c = search needs
-
-shared-slice-read-result : tie.Need-shared-slice-read-result
-shared-slice-read-result c = search needs
+element-requires : tie.Need-element-requires
+element-requires c κs = search needs
 
 returns : tie.Need-returns
 returns c =
     let a = c .before .before .before .before .before .args in
-    let pre = c .before .before .before .before .before .pre in
     let words = now (a .words) in
     let v = now (a .v) in
     let n = length v in
-    let from = a .j * n in
+    let from = a .u .index * n in
     c .dot .ensures
-    ∙ ap (λ u. dot (a .p) u v)
-    (table-ext n (λ i. at (take (length words - from) (drop from words)) i % a .p) (λ i. at words (from + i) % a .p)
-    (λ i l. ap (λ x. x % a .p) (ap (λ w. at w i) (tail words from) ∙ getD-drop from words i 0))
-    ∙ sym (projection-words (a .p) n words (a .j) (subst (λ m. a .j < m) (pre .1 .0 .count) (c .before .before .if1 .taken))))
+    ∙ ap (λ u. dot (a .m .p) u v)
+    (table-ext n (λ i. at (take (length words - from) (drop from words)) i % a .m .p) (λ i. at words (from + i) % a .m .p)
+    (λ i l. ap (λ x. x % a .m .p) (ap (λ w. at w i) (tail words from) ∙ getD-drop from words i 0))
+    ∙ sym (projection-words (a .m .p) n words (a .u .index) (omega (arith, c .before .before .before .before .before .pre .1 .count, vectorCount-div n words, c .before .before .if1 .taken))))
 
 returns-2 : tie.Need-returns-2
 returns-2 c =
     let a = c .before .before .before .before .args in
     let pre = c .before .before .before .before .pre in
+    let words = now (a .words) in
     let v = now (a .v) in
-    let n = length v in
-    let k = a .j - a .vectors in
-    let inside : k < n = omega (arith, pre .0 .3, c .before .if1 .left) in
-    sym
-    (ap (λ u. dot (a .p) u v)
-    (ap (λ m. getD (projections (a .p) n (now (a .words))) m []) (place (a .j) (a .vectors) (length (now (a .words)) / n) (c .before .if1 .left) (pre .1 .0 .count)) ∙ projection-unit (a .p) n (now (a .words)) k inside)
-    ∙ dot-unit (a .p) v k inside (pre .1 .1 .below k inside))
-  where
-    place : (j r s : ℕ) → r ≤ j → r ≡ s → j ≡ s + (j - r)
-    place j r s l e = omega (arith, l, e)
+    c .element .ensures ∙ sym (projection-past (a .m .p) words v (a .u .index) (a .u .vectors) (pre .1 .count) (c .before .if1 .left) (pre .2 .below))
 
 pub projected-spec : {M : Type 1} → statement M
 projected-spec =
@@ -104,7 +93,6 @@ projected-spec =
     part-dot-start
     part-dot-end
     dot-requires
-    mul-result
-    shared-slice-read-result
+    element-requires
     returns
     returns-2)

@@ -1,22 +1,24 @@
--- `wiedemann::recurrence::recurrence` meets its contract: a refusal leaves everything, and 0 hands the core what it asks. Assumes nothing.
+-- `wiedemann::recurrence::recurrence` meets its contract: a refusal leaves everything, and 0 hands the core what it asks.
 use mathlib.Core.Path.{sym, _∙_}
 use native.Mathlib.Omega.{arith}
 use denote.Ref.{now}
 use borrow.Author.Needs.{needs}
 use Rattle.checks.specs.Recurrence.{Accepted, accepted}
-use Rattle.wiedemann.proofs.Recurred.{recurred-refused, ready, recurred-found}
+use Rattle.wiedemann.proofs.Recurred.{recurred-refused, modulus-range, ready, recurred-generator}
 use Rattle.wiedemann.proofs.recurrence.recurrence.Statement.{statement}
 use Rattle.wiedemann.proofs.recurrence.recurrence.Tie as tie
 
 -- what the checks have shown where they let the call through
-taken : (c : tie.Else1) → Accepted (c .before .before .before .before .before .before .before .args .field .p)
-    (now (c .before .before .before .before .before .before .before .args .s))
-    (now (c .before .before .before .before .before .before .before .args .polynomial))
-    (now (c .before .before .before .before .before .before .before .args .work))
-taken c = accepted _ _ _ _ (sym (c .before .recurrence-refusal .ensures) ∙ omega (arith, c .if1 .left))
+taken : (c : tie.Else1) →
+    let a = c .before .before .before .before .before .before .before .args in
+    Accepted (a .field .p) (now (a .s)) (now (a .polynomial)) (now (a .work))
+taken c =
+    let a = c .before .before .before .before .before .before .before .args in
+    accepted (a .field .p) (now (a .s)) (now (a .polynomial)) (now (a .work))
+    (sym (c .before .recurrence-refusal .ensures) ∙ omega (arith, c .if1 .left))
 
 recurrence-refusal-requires : tie.Need-recurrence-refusal-requires
-recurrence-refusal-requires c κs = search needs
+recurrence-refusal-requires c κs = omega arith
 
 same-length : tie.Need-same-length
 same-length c = search needs
@@ -34,23 +36,27 @@ transfer-requires c κs =
     let input = taken (c .before) in
     (omega arith, omega (arith, input .room))
 
+of-requires : tie.Need-of-requires
+of-requires c κs = modulus-range (taken (c .before .before .before .before))
+
 shortest-requires : tie.Need-shortest-requires
 shortest-requires c κs =
-    let input = taken (c .before .before .before .before .before) in
-    ready input (c .before .before .before .transfer .ensures)
+    let m = c .before .of .ensures in
+    (ready (taken (c .before .before .before .before .before .before)) (c .before .before .before .before .transfer .ensures) (m .0), m .1)
 
 add-transfer : tie.Need-add-transfer
-add-transfer c = search needs
+add-transfer c = omega arith
 
 add-transfer-2 : tie.Need-add-transfer-2
-add-transfer-2 c = search needs
+add-transfer-2 c = omega arith
 
 transfer-requires-2 : tie.Need-transfer-requires-2
 transfer-requires-2 c κs =
-    let input = taken (c .before .before .before .before .before .before .before .before .before .before) in
-    let written = c .before .before .before .before .before .before .before .before .transfer .ensures .same-length in
-    let kept = c .before .before .before .before .shortest .kept .1 .1 .0 in
-    (omega (arith, input .room, written, kept), omega (arith, input .size))
+    let core = c .before .before .before .before in
+    let copied = core .before .before .before .before .before in
+    let input = taken (copied .before .before) in
+    let kept = core .shortest .kept .1 .1 .0 in
+    (omega (arith, input .room, copied .transfer .ensures .same-length, kept), omega (arith, input .size))
 
 same-length-3 : tie.Need-same-length-3
 same-length-3 c = search needs
@@ -61,8 +67,9 @@ same-length-4 c = search needs
 returns-2 : tie.Need-returns-2
 returns-2 c =
     let core = c .before .before .before .before .before .before .before in
-    let copied = core .before .before .before .before in
-    recurred-found (taken (copied .before .before)) (copied .transfer .ensures) (core .shortest .ensures) (c .before .before .transfer2 .ensures)
+    let made = core .before .before in
+    let copied = made .before .before .before in
+    recurred-generator (taken (copied .before .before)) (copied .transfer .ensures) (made .of .ensures .0) (core .shortest .ensures) (c .before .before .transfer2 .ensures)
 
 pub recurrence-spec : {M : Type 1} → statement M
 recurrence-spec =
@@ -73,6 +80,7 @@ recurrence-spec =
     same-length-2
     returns
     transfer-requires
+    of-requires
     shortest-requires
     add-transfer
     add-transfer-2

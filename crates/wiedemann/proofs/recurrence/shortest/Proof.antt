@@ -1,51 +1,47 @@
--- `wiedemann::recurrence::shortest` meets its contract: after r turns the slice holds what the steps for 1 to r make. Assumes nothing.
+-- `wiedemann::recurrence::shortest` meets its contract: after r steps the slice holds what the steps for 1 to r make.
 use mathlib.Core.Path.{_≡_}
 use Prim.Native.Nat.{_-_, _≤_}
 use native.Mathlib.Omega.{arith}
 use borrow.Author.Needs.{needs}
-use Rattle.residue.specs.Prime.{isModulus-Prime}
-use Rattle.wiedemann.specs.Recurrence.{Stepped}
-use Rattle.wiedemann.proofs.Stepped.{stepped-on, stepped-own, stepped-turn}
-use Rattle.wiedemann.proofs.Found.{found}
+use Rattle.wiedemann.specs.Recurrence.{AfterSteps}
+use Rattle.wiedemann.proofs.AfterSteps.{after-both, after-own, before-step}
+use Rattle.wiedemann.proofs.HoldsGenerator.{holds-generator}
 use Rattle.wiedemann.proofs.recurrence.shortest.Statement.{statement}
 use Rattle.wiedemann.proofs.recurrence.shortest.Tie as tie
 
 abbrev Inv-loop : tie.InvT-loop
-Inv-loop p count work₀ reciprocal c₀ r₀ work c r = (r ≤ count) × Stepped p count r work₀ work c
+Inv-loop m count work₀ c₀ r₀ work c r = (r ≤ count) × AfterSteps (m .p) count r work₀ work c
 
 abbrev μ-loop : tie.MeasureT-loop
-μ-loop p count work₀ reciprocal c₀ r₀ work c r = count - r
-
-reciprocal-requires : tie.Need-reciprocal-requires Inv-loop μ-loop
-reciprocal-requires c κs = omega (arith, isModulus-Prime (c .before .args .p) (c .before .pre .modulus) .two-le)
+μ-loop m count work₀ c₀ r₀ work c r = count - r
 
 start-requires : tie.Need-start-requires Inv-loop μ-loop
-start-requires c κs = search needs
+start-requires c κs = c .before .before .pre .0
 
 loop-holds : tie.Need-loop-holds Inv-loop μ-loop
-loop-holds c = (omega arith, stepped-own (c .before .before .start .ensures))
+loop-holds c = (omega arith, after-own (c .before .before .start .ensures))
 
 add-r : tie.Need-add-r Inv-loop μ-loop
-add-r c = search needs
+add-r c = omega arith
 
 step-requires : tie.Need-step-requires Inv-loop μ-loop
 step-requires c κs =
     let loop = c .before .before in
     let begun = loop .before .before .before in
-    let start = begun .before .before .before .before in
-    (stepped-turn (start .pre) (stepped-on (begun .start .ensures) (loop .loop .inv .1)) (c .before .loop-test .taken), begun .before .before .reciprocal .ensures)
+    let start = begun .before .before .before in
+    (before-step (start .pre .0) (after-both (begun .start .ensures) (loop .loop .inv .1)) (c .before .loop-test .taken), start .pre .1)
 
 loop-less : tie.Need-loop-less Inv-loop μ-loop
-loop-less c = search needs
+loop-less c = omega arith
 
 loop-again : tie.Need-loop-again Inv-loop μ-loop
-loop-again c = (omega arith, stepped-on (c .before .before .before .before .before .loop .inv .1) (c .before .before .step .ensures))
+loop-again c = (omega arith, after-both (c .before .before .before .before .before .loop .inv .1) (c .before .before .step .ensures))
 
 add-reverse : tie.Need-add-reverse Inv-loop μ-loop
-add-reverse c = search needs
+add-reverse c = omega arith
 
 reverse-requires : tie.Need-reverse-requires Inv-loop μ-loop
-reverse-requires c κs = search needs
+reverse-requires c κs = omega arith
 
 same-length : tie.Need-same-length Inv-loop μ-loop
 same-length c = search needs
@@ -54,9 +50,9 @@ returns : tie.Need-returns Inv-loop μ-loop
 returns c =
     let loop = c .before .before .before .before .before in
     let begun = loop .before .before .before in
-    let start = begun .before .before .before .before in
+    let start = begun .before .before .before in
     let end : loop .loop .r ≡ start .args .count = omega (arith, loop .loop .inv .0, c .before .before .before .before .loop-test .left) in
-    found (start .pre) end (stepped-on (begun .start .ensures) (loop .loop .inv .1)) (c .before .before .reverse .ensures)
+    holds-generator (start .pre .0) end (after-both (begun .start .ensures) (loop .loop .inv .1)) (c .before .before .reverse .ensures)
 
 pub shortest-spec : {M : Type 1} → statement M
 shortest-spec =
@@ -64,7 +60,6 @@ shortest-spec =
     (tie.spec
     Inv-loop
     μ-loop
-    reciprocal-requires
     start-requires
     loop-holds
     add-r

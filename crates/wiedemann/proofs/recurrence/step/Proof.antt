@@ -1,112 +1,156 @@
--- `wiedemann::recurrence::step` meets its contract: each way through it is a case of document 01's step. Assumes nothing.
+-- `wiedemann::recurrence::step` meets its contract: each way through it is a case of document 01's step.
+use mathlib.Core.Path.{sym, _∙_, subst}
+use mathlib.Core.Logic.{⊎-elim}
+use mathlib.Core.List.{List}
+use Prim.Native.Nat.{ℕ, _*_}
 use native.Mathlib.Omega.{arith}
+use denote.Ref.{now}
 use borrow.Author.Needs.{needs}
-use Rattle.wiedemann.proofs.Kept.{place-within}
-use Rattle.wiedemann.proofs.Stepped as turn
+use borrow.Author.Tests.{ltb-true, ltb-false}
+use Rattle.wiedemann.specs.Convolution.{crossing-within}
+use Rattle.wiedemann.specs.Recurrence.{AfterSteps}
+use Rattle.wiedemann.proofs.AfterSteps as after
+use Rattle.wiedemann.proofs.AfterSteps.{Kept}
 use Rattle.wiedemann.proofs.recurrence.step.Statement.{statement}
 use Rattle.wiedemann.proofs.recurrence.step.Tie as tie
 
-add-discrepancy : tie.Need-add-discrepancy
-add-discrepancy c = search needs
+-- where the update begins
+abbrev KeptAt : tie.Joined2 → List ℕ → Type 0
+KeptAt c W =
+    let a = c .before .before .before .before .before .before .before .before .args in
+    Kept (a .m .p) (a .count) (a .r) (now (a .work)) W (a .c)
 
-sub-discrepancy : tie.Need-sub-discrepancy
-sub-discrepancy c = search needs
+kept : (c : tie.Joined2) → KeptAt c (c .if2 .work)
+kept c =
+    let start = c .before .before .before .before .before .before .before .before in
+    ⊎-elim
+    (λ w. subst (KeptAt c) (sym (w .6)) (after.kept-copied (start .pre .0) (w .3 .ensures)))
+    (λ w. subst (KeptAt c) (sym (w .1)) (after.kept-same (start .pre .0) (ltb-false (2 * start .args .c .length) (start .args .r) (w .0 .left))))
+    (c .if2 .came)
 
-discrepancy-requires : tie.Need-discrepancy-requires
-discrepancy-requires c κs =
-    let pre = c .before .before .pre in
-    (turn.pairs (pre .0), turn.within (pre .0), turn.positive (pre .0), pre .1)
+add-q : tie.Need-add-q
+add-q c = omega (arith, c .before .pre .0 .ready .few)
 
-moved-requires : tie.Need-moved-requires
-moved-requires c κs = search needs
+sub-crossed : tie.Need-sub-crossed
+sub-crossed c = c .before .before .pre .0 .low
+
+add-crossed : tie.Need-add-crossed
+add-crossed c =
+    let ask = c .before .before .before .pre .0 in
+    omega (arith, after.within ask, ask .high, ask .ready .few)
+
+crossed-requires : tie.Need-crossed-requires
+crossed-requires c κs = crossing-within 0 _ (after.crossing (c .before .before .before .pre .0)) (omega arith) (omega arith) (omega arith)
+
+residue-requires : tie.Need-residue-requires
+residue-requires c κs =
+    let pre = c .before .before .before .before .pre in
+    (pre .1, omega (arith, c .crossed .ensures .carries, after.within (pre .0), pre .0 .high, pre .0 .ready .few))
+
+shifted-requires : tie.Need-shifted-requires
+shifted-requires c κs = after.shift-few (c .before .before .before .before .before .before .pre .0)
 
 same-length : tie.Need-same-length
 same-length c = search needs
 
 returns : tie.Need-returns
 returns c =
-    let start = c .before .before .before .before .before in
-    let d = c .before .before .discrepancy in
-    rw (c .moved .ensures) (turn.stepped-zero (start .pre .0) (d .result) (d .ensures) (c .before .if1 .taken))
+    let found = c .before .before in
+    let summed = found .before in
+    let start = summed .before .before .before .before in
+    let a = start .args in
+    subst (λ x. AfterSteps (a .m .p) (a .count) (a .r) (now (a .work)) (now (a .work)) x) (sym (c .shifted .ensures))
+    (after.after-zero (start .pre .0) (summed .crossed .result) (found .residue .result) (summed .crossed .ensures) (found .residue .ensures) (c .before .if1 .taken))
 
-mul-if2 : tie.Need-mul-if2
-mul-if2 c = search needs
+mul-longer : tie.Need-mul-longer
+mul-longer c =
+    let ask = c .before .before .before .before .before .before .before .pre .0 in
+    omega (arith, after.within ask, ask .high, ask .ready .few)
 
-keep-requires : tie.Need-keep-requires
-keep-requires c κs = search needs
+add-copy : tie.Need-add-copy
+add-copy c =
+    let ask = c .before .before .before .before .before .before .before .before .before .before .pre .0 in
+    omega (arith, after.within ask, ask .high, ask .ready .few)
 
-update-requires : tie.Need-update-requires
-update-requires c κs =
-    let start = c .before .before .before .before .before .before .before .before .before .before .before in
-    let t = start .pre .0 in
-    let w = c .before .before .before .keep .ensures in (
-      (turn.two t, turn.most t, t .ready .few, omega (arith, w .same-length, t .ready .room)),
-      ((omega (arith, t .holds .t-short, t .low, t .high), t .holds .t-place), turn.copied-element t w),
-    )
+copy-requires : tie.Need-copy-requires
+copy-requires c κs = after.copying (c .before .before .before .before .before .before .before .before .before .before .pre .0)
+
+product-requires : tie.Need-product-requires
+product-requires c κs = c .before .before .before .before .before .before .before .before .pre .1
+
+add-subtract : tie.Need-add-subtract
+add-subtract c =
+    let ask = c .before .before .before .before .before .before .before .before .before .before .before .pre .0 in
+    omega (arith, after.shift-few ask, ask .ready .few)
+
+subtract-requires : tie.Need-subtract-requires
+subtract-requires c κs =
+    let made = c .before .before in
+    let found = made .before .before .before .before in
+    let start = found .before .before .before .before .before in
+    let s = after.subtracting (start .pre .0) (kept (made .before)) (found .residue .result) (made .product .result) (made .product .ensures) in
+    ((s .0, start .pre .1, s .1, s .2), s .3)
 
 lengthened-requires : tie.Need-lengthened-requires
 lengthened-requires c κs =
-    let start = c .before .before .before .before .before .before .before .before .before .before .before .before .before .before in
-    let t = start .pre .0 in (
-      omega (arith, turn.within t),
-      omega (arith, t .high, t .ready .few),
-      t .ready .few,
-      omega (arith, place-within (start .args .count) (start .args .c .t) (t .holds .t-place)),
-    )
+    let ask = c .before .before .before .before .before .before .before .before .before .before .before .before .before .before .before .pre .0 in
+    (omega (arith, after.within ask, ask .low), omega (arith, ask .high, ask .ready .few))
 
-update-requires-2 : tie.Need-update-requires-2
-update-requires-2 c κs =
-    let start = c .before .before .before .before .before .before .before in
-    let t = start .pre .0 in (
-      (turn.two t, turn.most t, t .ready .few, t .ready .room),
-      ((omega (arith, t .holds .t-short, t .low, t .high), t .holds .t-place), turn.q-element t),
-    )
-
-moved-requires-2 : tie.Need-moved-requires-2
-moved-requires-2 c κs = search needs
+shifted-requires-2 : tie.Need-shifted-requires-2
+shifted-requires-2 c κs = after.shift-few (c .before .before .before .before .before .before .before .before .before .before .before .before .before .before .before .pre .0)
 
 same-length-2 : tie.Need-same-length-2
-same-length-2 c = search needs
+same-length-2 c = c .before .before .before .before .subtract .ensures .same-length ∙ kept (c .before .before .before .before .before .before .before .before) .before .room
 
 returns-2 : tie.Need-returns-2
 returns-2 c =
-    let start = c .before .before .before .before .before .before .before .before .before .before .before .before .before .before .before in
-    let t = start .pre .0 in
-    let d = c .before .before .before .before .before .before .before .before .before .before .before .before .discrepancy in
-    rw (c .lengthened .ensures)
-    (turn.stepped-grow t (d .result) (d .ensures) _ _
-    (c .before .before .before .before .before .before .before .before .before .before .before .if1 .left)
-    (c .before .before .before .before .before .before .before .before .before .if2 .taken)
-    (c .before .before .before .before .before .before .before .keep .ensures) (c .before .before .before .update .ensures))
+    let updated = c .before .before .before .before in
+    let made = updated .before .before .before in
+    let found = made .before .before .before .before in
+    let summed = found .before in
+    let start = summed .before .before .before .before in
+    let a = start .args in
+    subst (λ x. AfterSteps (a .m .p) (a .count) (a .r) (now (a .work)) (updated .subtract .last .1 .1 .0) x) (sym (c .lengthened .ensures))
+    (after.after-grow (start .pre .0) (summed .crossed .result) (found .residue .result) (summed .crossed .ensures) (found .residue .ensures)
+    (kept (made .before)) (made .product .result) (made .product .ensures) (updated .subtract .last .1 .1 .0) (made .before .before .before .if1 .left) (updated .subtract .ensures)
+    (ltb-true (2 * start .args .c .length) (start .args .r) (c .before .if3 .taken)))
 
 same-length-3 : tie.Need-same-length-3
-same-length-3 c = search needs
+same-length-3 c = c .before .before .before .before .subtract .ensures .same-length ∙ kept (c .before .before .before .before .before .before .before .before) .before .room
 
 returns-3 : tie.Need-returns-3
 returns-3 c =
-    let start = c .before .before .before .before .before .before .before .before .before .before .before in
-    let t = start .pre .0 in
-    let d = c .before .before .before .before .before .before .before .before .discrepancy in
-    rw (c .moved2 .ensures)
-    (turn.stepped-stay t (d .result) (d .ensures) _ (c .before .before .before .before .before .before .before .if1 .left)
-    (c .before .before .before .before .before .if2 .left) (c .before .before .before .update2 .ensures))
+    let updated = c .before .before .before .before in
+    let made = updated .before .before .before in
+    let found = made .before .before .before .before in
+    let summed = found .before in
+    let start = summed .before .before .before .before in
+    let a = start .args in
+    subst (λ x. AfterSteps (a .m .p) (a .count) (a .r) (now (a .work)) (updated .subtract .last .1 .1 .0) x) (sym (c .shifted2 .ensures))
+    (after.after-stay (start .pre .0) (summed .crossed .result) (found .residue .result) (summed .crossed .ensures) (found .residue .ensures)
+    (kept (made .before)) (made .product .result) (made .product .ensures) (updated .subtract .last .1 .1 .0) (made .before .before .before .if1 .left) (updated .subtract .ensures)
+    (ltb-false (2 * start .args .c .length) (start .args .r) (c .before .if3 .left)))
 
 pub step-spec : {M : Type 1} → statement M
 step-spec =
     tie.close
     (tie.spec
-    add-discrepancy
-    sub-discrepancy
-    discrepancy-requires
-    moved-requires
+    add-q
+    sub-crossed
+    add-crossed
+    crossed-requires
+    residue-requires
+    shifted-requires
     same-length
     returns
-    mul-if2
-    keep-requires
-    update-requires
+    mul-longer
+    add-copy
+    copy-requires
+    product-requires
+    add-subtract
+    subtract-requires
     lengthened-requires
-    update-requires-2
-    moved-requires-2
+    shifted-requires-2
     same-length-2
     returns-2
     same-length-3

@@ -1,8 +1,7 @@
--- `wiedemann::recurrence::subtract` meets its contract: t lies after what is written of q. Assumes nothing.
-use mathlib.Core.Path.{ap, ap₂, _∙_}
+-- `wiedemann::recurrence::subtract` meets its contract: t lies after what is written of q.
+use mathlib.Core.Path.{ap₂, _∙_}
 use Prim.Native.Nat.{_+_, _-_, _≤_}
 use native.Mathlib.Omega.{arith}
-use lib.ListN.{getD}
 use borrow.Author.Needs.{needs}
 use Rattle.meaning.specs.List.{at}
 use Rattle.meaning.specs.Field.{minus, times}
@@ -12,71 +11,76 @@ use Rattle.wiedemann.proofs.recurrence.subtract.Statement.{statement}
 use Rattle.wiedemann.proofs.recurrence.subtract.Tie as tie
 
 abbrev Inv-loop : tie.InvT-loop
-Inv-loop p factor work₀ q t size w i₀ work i = (i ≤ size) × Written work₀ q i (λ k. minus p (at work₀ (q + k)) (times p factor (at work₀ (t + k)))) work
+Inv-loop m factor work₀ q t size k i₀ work i = (i ≤ size) × Written work₀ q i (λ j. minus (m .p) (at work₀ (q + j)) (times (m .p) factor (at work₀ (t + j)))) work
 
 abbrev μ-loop : tie.MeasureT-loop
-μ-loop p factor work₀ q t size w i₀ work i = size - i
+μ-loop m factor work₀ q t size k i₀ work i = size - i
 
-quotient-requires : tie.Need-quotient-requires Inv-loop μ-loop
-quotient-requires c κs = search needs
+of-requires : tie.Need-of-requires Inv-loop μ-loop
+of-requires c κs = (c .before .pre .0 .0, c .before .pre .0 .1 .small)
 
 loop-holds : tie.Need-loop-holds Inv-loop μ-loop
 loop-holds c = search needs
 
 add-difference : tie.Need-add-difference Inv-loop μ-loop
-add-difference c = search needs
+add-difference c = omega arith
 
 mul-difference : tie.Need-mul-difference Inv-loop μ-loop
-mul-difference c = search needs
+mul-difference c = omega arith
 
 slice-read-difference : tie.Need-slice-read-difference Inv-loop μ-loop
-slice-read-difference c = search needs
+slice-read-difference c = omega arith
 
-add-scaled : tie.Need-add-scaled Inv-loop μ-loop
-add-scaled c = search needs
+add-times : tie.Need-add-times Inv-loop μ-loop
+add-times c = omega arith
 
-mul-scaled : tie.Need-mul-scaled Inv-loop μ-loop
-mul-scaled c = search needs
+mul-times : tie.Need-mul-times Inv-loop μ-loop
+mul-times c = omega arith
 
-slice-read-scaled : tie.Need-slice-read-scaled Inv-loop μ-loop
-slice-read-scaled c = search needs
+slice-read-times : tie.Need-slice-read-times Inv-loop μ-loop
+slice-read-times c = omega arith
 
-scaled-requires : tie.Need-scaled-requires Inv-loop μ-loop
-scaled-requires c κs = search needs
+times-requires : tie.Need-times-requires Inv-loop μ-loop
+times-requires c κs = c .before .before .before .before .of .ensures .1
 
 difference-requires : tie.Need-difference-requires Inv-loop μ-loop
 difference-requires c κs =
-    let a = c .before .before .before .before .before .before .before .args in
-    let l = c .before .before .before .before .loop in
-    let e = l .inv .1 .after (a .q + l .i) (omega arith) in
-    let q = c .before .before .before .before .before .before .before .pre .1 (l .i) (omega arith) in
-    let s = c .scaled .ensures in
-    let b = times-lt (a .p) (a .factor) (getD (l .work) (a .t + l .i) 0) (omega arith) in
-    (omega arith, omega arith, omega arith)
+    let loop = c .before .before .before .before in
+    let made = loop .before in
+    let start = made .before .before in
+    let a = start .args in
+    let l = loop .loop in
+    let same = l .inv .1 .after (a .q + l .i) (omega arith) in
+    let below = start .pre .1 (l .i) (omega arith) in
+    let product = times-lt (a .m .p) (made .of .result .constant) (at (l .work) (a .t + l .i)) (start .pre .0 .1 .positive) in
+    (start .pre .0 .1, omega (arith, same, below), omega (arith, c .times .ensures, product))
 
 add-work : tie.Need-add-work Inv-loop μ-loop
-add-work c = search needs
+add-work c = omega arith
 
 mul-work : tie.Need-mul-work Inv-loop μ-loop
-mul-work c = search needs
+mul-work c = omega arith
 
 slice-write-work : tie.Need-slice-write-work Inv-loop μ-loop
-slice-write-work c = search needs
+slice-write-work c = omega arith
 
 add-i : tie.Need-add-i Inv-loop μ-loop
-add-i c = search needs
+add-i c = omega arith
 
 loop-less : tie.Need-loop-less Inv-loop μ-loop
-loop-less c = search needs
+loop-less c = omega arith
 
 loop-again : tie.Need-loop-again Inv-loop μ-loop
 loop-again c =
-    let a = c .before .before .before .before .before .before .before .before .args in
-    let l = c .before .before .before .before .before .loop in
-    let e = l .inv .1 .after (a .q + l .i) (omega arith) in
-    let e′ = l .inv .1 .after (a .t + l .i) (omega arith) in (
+    let loop = c .before .before .before .before .before in
+    let made = loop .before in
+    let a = made .before .before .args in
+    let l = loop .loop in
+    let q = l .inv .1 .after (a .q + l .i) (omega arith) in
+    let t = l .inv .1 .after (a .t + l .i) (omega arith) in (
       omega arith,
-      written-more _ (l .inv .1) (omega arith) (c .difference .ensures ∙ ap₂ (minus (a .p)) e (c .before .scaled .ensures ∙ ap (times (a .p) (a .factor)) e′)),
+      written-more (c .difference .result) (l .inv .1) (omega arith)
+          (c .difference .ensures ∙ ap₂ (minus (a .m .p)) q (c .before .times .ensures ∙ ap₂ (times (a .m .p)) (made .of .ensures .0) t)),
     )
 
 same-length : tie.Need-same-length Inv-loop μ-loop
@@ -91,15 +95,15 @@ subtract-spec =
     (tie.spec
     Inv-loop
     μ-loop
-    quotient-requires
+    of-requires
     loop-holds
     add-difference
     mul-difference
     slice-read-difference
-    add-scaled
-    mul-scaled
-    slice-read-scaled
-    scaled-requires
+    add-times
+    mul-times
+    slice-read-times
+    times-requires
     difference-requires
     add-work
     mul-work

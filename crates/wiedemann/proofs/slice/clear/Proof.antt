@@ -1,4 +1,4 @@
--- `wiedemann::slice::clear` meets its contract. Assumes nothing.
+-- `wiedemann::slice::clear` meets its contract.
 use mathlib.Core.Path.{refl}
 use Prim.Native.Nat.{_-_, _≤_}
 use native.Mathlib.Omega.{arith}

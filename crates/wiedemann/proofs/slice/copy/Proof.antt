@@ -1,6 +1,6 @@
 use Rattle.wiedemann.specs.Written.{Written, written-more, written-all}
 use Rattle.meaning.specs.List.{at}
-use mathlib.Core.Logic.{_⊎_, ⊎-elim}
+use mathlib.Core.Logic.{⊎-elim}
 use native.Mathlib.Omega.{arith}
 use Prim.Native.Nat.{_+_, _-_, _≤_}
 use borrow.Author.Needs.{needs}

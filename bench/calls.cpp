@@ -1,0 +1,67 @@
+#include "calls.h"
+#include "../host/filzeur.h"
+
+namespace {
+
+uint8_t *bytes(std::string &text) { return reinterpret_cast<uint8_t *>(text.data()); }
+
+void refused(Case &c, uint32_t refusal) { c.numbers = {refusal, 0, 0, 0, 0, 0}; }
+
+void field(Case &c) { refused(c, filzeur_field(c.s.p)); }
+
+void product(Case &c) {
+    const System &s = c.s;
+    refused(c, filzeur_product(s.p, s.starts.data(), s.starts.size(), s.columns.data(), s.columns.size(),
+                               s.values.data(), s.values.size(), c.v.data(), c.v.size(), c.out.data(),
+                               c.out.size()));
+}
+
+void transposed(Case &c) {
+    const System &s = c.s;
+    refused(c, filzeur_transposed(s.p, s.starts.data(), s.starts.size(), s.columns.data(), s.columns.size(),
+                                  s.values.data(), s.values.size(), c.v.data(), c.v.size(), c.out.data(),
+                                  c.out.size()));
+}
+
+void apply(Case &c) {
+    const System &s = c.s;
+    refused(c, filzeur_apply(s.p, s.starts.data(), s.starts.size(), s.columns.data(), s.columns.size(),
+                             s.values.data(), s.values.size(), s.g.data(), s.g.size(), c.v.data(), c.v.size(),
+                             c.out.data(), c.out.size(), c.work.data(), c.work.size()));
+}
+
+void recurrence(Case &c) {
+    filzeur_degree answer =
+        filzeur_recurrence(c.s.p, c.terms.data(), c.terms.size(), c.generator.data(), c.generator.size(),
+                           c.recurrence_work.data(), c.recurrence_work.size());
+    c.numbers = {answer.refusal, 0, answer.degree, 0, 0, 0};
+}
+
+void solve(Case &c) {
+    const System &s = c.s;
+    filzeur_verdict answer = filzeur_solve(
+        s.p, s.starts.data(), s.starts.size(), s.columns.data(), s.columns.size(), s.values.data(),
+        s.values.size(), s.b.data(), s.b.size(), s.words.data(), s.words.size(), c.vector.data(),
+        c.vector.size(), c.f.data(), c.f.size(), c.work.data(), c.work.size());
+    c.numbers = {answer.refusal, answer.kind, answer.degree, answer.passes, answer.applications, 0};
+}
+
+void write(Case &c) {
+    const System &s = c.s;
+    c.text.resize(33 + 23 * s.columns.size() + 18 * s.n);
+    filzeur_length answer =
+        filzeur_write(s.p, s.starts.data(), s.starts.size(), s.columns.data(), s.columns.size(),
+                      s.values.data(), s.values.size(), s.b.data(), s.b.size(), bytes(c.text), c.text.size());
+    c.text.resize(answer.length);
+    c.numbers = {answer.refusal, 0, 0, 0, 0, answer.length};
+}
+
+void text(Case &c) {
+    uint64_t answer = filzeur_text(bytes(c.text), c.text.size(), bytes(c.answer), c.answer.size());
+    bool taken = answer > 18;
+    c.numbers = {taken ? 0 : answer, 0, 0, 0, 0, taken ? answer : 0};
+}
+
+} // namespace
+
+extern "C" const Calls our_calls{field, product, transposed, apply, recurrence, solve, write, text};

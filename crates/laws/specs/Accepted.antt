@@ -1,0 +1,295 @@
+-- What the checks leave known when they turn nothing down, as facts on numbers: derived here once, and cited by all who need some of it.
+--     modulus-low, modulus-high      a modulus is 2 to 2,147,483,647
+--     start A i, column A k, value A k      start i, the column and the value of entry k
+--     size-known, starts-known       4 and 5 alone
+--     AcceptedSystem p A b           p, A and b pass the checks of a system
+--     system-accepted, accepted-system      first (systemChecks p A b) ≡ 0 and these facts: each from the other
+--     AcceptedMatrix p A, matrix-accepted   p and A pass the checks of a matrix: so does the system with the right side 0
+--     starts-rise, start-within      starts that rise; none is above the number of entries
+--     column-within, value-below, right-at      every entry's column, every entry's value, every element of b
+--     AcceptedRun, run-accepted      a system and words pass the checks of a run
+--     slicesTaken                    11 for the solver: the slices are as long as stated
+--     AcceptedCall, call-accepted    solverRefusal is 0: a run, and slices as long as stated
+use mathlib.Core.Path.{_≡_, refl, ap, _∙_, subst}
+use mathlib.Core.Logic.{_⊎_, inl, inr}
+use mathlib.Core.Bool.{Bool, true, false, not, _&&_, _||_, or-true}
+use mathlib.Core.List.{List, [], _∷_}
+use Prim.Native.Nat.{ℕ, zero, suc, _+_, _-_, _*_, _≤_, _<_}
+use native.Mathlib.Nat.{eq-or-lt-of-le}
+use native.Mathlib.Decide.{decLt}
+use native.Mathlib.Numerals.{add-one}
+use native.Mathlib.Omega.{arith}
+use lib.Dec.{eqb, ltb, leb}
+use lib.ListN.{length}
+use borrow.Author.Tests.{ltb-true, leb-true, leb-false, eqb-true, eqb-false, lt-ltb, le-leb, lt-leb, eq-eqb, ne-eqb, not-true}
+use Rattle.meaning.specs.List.{at, all, every, zeros}
+use Rattle.meaning.specs.Field.{isPrime, isModulus}
+use Rattle.meaning.specs.Matrix.{Matrix, size}
+use Rattle.meaning.specs.Refusal.{check, first, within, elements, sizeTaken, startsTaken, columnsTaken, valueTaken, matrixChecks, wordsTaken}
+use Rattle.meaning.specs.Calls.{systemChecks, runChecks, solverRefusal}
+use Rattle.laws.specs.Bool.{and-left, and-right, and-both, and-five, or-right, test-cases}
+use Rattle.laws.specs.List.{all-at, all-of, every-at, every-of, length-table, getD-table}
+use Rattle.laws.specs.Refusal.{first-nil, first-passed, first-pass, first-append-none, first-append-zero, numbered-matrix, numbered-system, numbered-run, within-low, within-high, within-of}
+
+pub modulus-low : (p : ℕ) → isModulus p ≡ true → 2 ≤ p
+unfolding isModulus isPrime
+modulus-low p e =
+    leb-true 2 p (and-left (leb 2 p) (all (p - 2) _) (and-left (isPrime p) (leb p 2147483647) e))
+
+pub modulus-high : (p : ℕ) → isModulus p ≡ true → p ≤ 2147483647
+unfolding isModulus
+modulus-high p e = leb-true p 2147483647 (and-right (isPrime p) (leb p 2147483647) e)
+
+abbrev pub start : Matrix → ℕ → ℕ
+start A i = at (A .starts) i
+
+abbrev pub column : Matrix → ℕ → ℕ
+column A k = at (A .columns) k
+
+abbrev pub value : Matrix → ℕ → ℕ
+value A k = at (A .values) k
+
+-- ---- each check alone
+
+pub size-known : (A : Matrix) → sizeTaken A ≡ true → (1 ≤ size A) × (size A ≤ 4096) × (length (A .starts) ≡ size A + 1)
+unfolding sizeTaken
+size-known A e =
+    let low = within-low 1 4096 (size A) (and-right (not (eqb (length (A .starts)) 0)) (within 1 4096 (size A)) e) in
+    let high = within-high 1 4096 (size A) (and-right (not (eqb (length (A .starts)) 0)) (within 1 4096 (size A)) e) in
+    (low, high, positive (length (A .starts)) (and-left (not (eqb (length (A .starts)) 0)) (within 1 4096 (size A)) e))
+  where
+    positive : (n : ℕ) → not (eqb n 0) ≡ true → n ≡ n - 1 + 1
+    positive zero q = absurd (eqb-false 0 0 (not-true (eqb 0 0) q) refl)
+    positive (suc n) q = omega arith
+
+pub starts-known : (A : Matrix) → startsTaken A ≡ true
+    → (start A 0 ≡ 0) × ((i : ℕ) → i < size A → start A i ≤ start A (i + 1)) × (start A (size A) ≡ length (A .columns))
+    × (length (A .columns) ≡ length (A .values)) × (length (A .columns) ≤ 65536)
+unfolding startsTaken
+starts-known A e =
+    let s =
+    and-five (eqb (start A 0) 0) (all (size A) (λ i. leb (start A i) (start A (i + 1))))
+    (eqb (start A (size A)) (length (A .columns))) (eqb (length (A .columns)) (length (A .values)))
+    (leb (length (A .columns)) 65536) e in (
+      eqb-true (start A 0) 0 (s .0),
+      λ i l. leb-true (start A i) (start A (i + 1)) (all-at (size A) (λ i. leb (start A i) (start A (i + 1))) (s .1) i l),
+      eqb-true (start A (size A)) (length (A .columns)) (s .2),
+      eqb-true (length (A .columns)) (length (A .values)) (s .3),
+      leb-true (length (A .columns)) 65536 (s .4),
+    )
+
+abbrev column-test : Matrix → ℕ → ℕ → Bool
+column-test A end k = ltb (column A k) (size A) && (leb end (k + 1) || ltb (column A k) (column A (k + 1)))
+
+columns-at : (A : Matrix) → columnsTaken A ≡ true → (i : ℕ) → i < size A → (k : ℕ) → start A i + k < start A (i + 1)
+    → column-test A (start A (i + 1)) (start A i + k) ≡ true
+unfolding columnsTaken
+columns-at A e i h k l =
+    all-at (start A (i + 1) - start A i) (λ j. column-test A (start A (i + 1)) (start A i + j))
+    (all-at (size A) (λ i. all (start A (i + 1) - start A i) (λ j. column-test A (start A (i + 1)) (start A i + j))) e i h)
+    k (omega arith)
+
+columns-of : (A : Matrix)
+    → ((i : ℕ) → i < size A → (k : ℕ) → start A i + k < start A (i + 1) → column-test A (start A (i + 1)) (start A i + k) ≡ true)
+    → columnsTaken A ≡ true
+unfolding columnsTaken
+columns-of A h =
+    all-of (size A) (λ i. all (start A (i + 1) - start A i) (λ j. column-test A (start A (i + 1)) (start A i + j)))
+    (λ i l. all-of (start A (i + 1) - start A i) (λ j. column-test A (start A (i + 1)) (start A i + j))
+    (λ k g. h i l k (omega arith)))
+
+-- ---- a system
+
+pub record AcceptedSystem (p : ℕ) (A : Matrix) (b : List ℕ) : Type 0 where
+  pub prime : isModulus p ≡ true
+  pub size-low : 1 ≤ size A
+  pub size-high : size A ≤ 4096
+  pub start-count : length (A .starts) ≡ size A + 1
+  pub from-zero : start A 0 ≡ 0
+  pub rising : (i : ℕ) → i < size A → start A i ≤ start A (i + 1)
+  pub to-end : start A (size A) ≡ length (A .columns)
+  pub as-many : length (A .columns) ≡ length (A .values)
+  pub few : length (A .columns) ≤ 65536
+  pub column-below : (i : ℕ) → i < size A → (k : ℕ) → start A i + k < start A (i + 1) → column A (start A i + k) < size A
+  pub column-rises : (i : ℕ) → i < size A → (k : ℕ) → start A i + k + 1 < start A (i + 1)
+      → column A (start A i + k) < column A (start A i + k + 1)
+  pub values-taken : every (valueTaken p) (A .values) ≡ true
+  pub right-length : length b ≡ size A
+  pub right-below : every (λ a. ltb a p) b ≡ true
+
+pub system-accepted : (p : ℕ) (A : Matrix) (b : List ℕ) → first (systemChecks p A b) ≡ 0 → AcceptedSystem p A b
+unfolding systemChecks matrixChecks elements
+system-accepted p A b e =
+    let c3 = first-passed 3 (isModulus p) _ (omega arith) e in
+    let c4 = first-passed 4 (sizeTaken A) _ (omega arith) (c3 .1) in
+    let c5 = first-passed 5 (startsTaken A) _ (omega arith) (c4 .1) in
+    let c6 = first-passed 6 (columnsTaken A) _ (omega arith) (c5 .1) in
+    let c7 = first-passed 7 (every (valueTaken p) (A .values)) _ (omega arith) (c6 .1) in
+    let c8 = first-passed 8 (eqb (length b) (size A)) _ (omega arith) (c7 .1) in
+    let c9 = first-passed 9 (elements p b) _ (omega arith) (c8 .1) in
+    known (c3 .0) (size-known A (c4 .0)) (starts-known A (c5 .0)) (columns-at A (c6 .0)) (c7 .0) (eqb-true (length b) (size A) (c8 .0)) (c9 .0)
+  where
+    known : isModulus p ≡ true → (1 ≤ size A) × (size A ≤ 4096) × (length (A .starts) ≡ size A + 1)
+        → (start A 0 ≡ 0) × ((i : ℕ) → i < size A → start A i ≤ start A (i + 1)) × (start A (size A) ≡ length (A .columns))
+        × (length (A .columns) ≡ length (A .values)) × (length (A .columns) ≤ 65536)
+        → ((i : ℕ) → i < size A → (k : ℕ) → start A i + k < start A (i + 1) → column-test A (start A (i + 1)) (start A i + k) ≡ true)
+        → every (valueTaken p) (A .values) ≡ true → length b ≡ size A → every (λ a. ltb a p) b ≡ true → AcceptedSystem p A b
+    known modulus sized starts columns values right below =
+        record {
+          prime = modulus;
+          size-low = sized .0;
+          size-high = sized .1;
+          start-count = sized .2;
+          from-zero = starts .0;
+          rising = starts .1;
+          to-end = starts .2;
+          as-many = starts .3;
+          few = starts .4;
+          column-below = λ i l k g.
+              ltb-true (column A (start A i + k)) (size A)
+              (and-left (ltb (column A (start A i + k)) (size A)) _ (columns i l k g));
+          column-rises = λ i l k g.
+              ltb-true (column A (start A i + k)) (column A (start A i + k + 1))
+              (or-right (leb (start A (i + 1)) (start A i + k + 1)) _ (lt-leb (start A (i + 1)) (start A i + k + 1) g)
+              (and-right (ltb (column A (start A i + k)) (size A)) _ (columns i l k (omega arith))));
+          values-taken = values;
+          right-length = right;
+          right-below = below;
+        }
+
+pub accepted-system : (p : ℕ) (A : Matrix) (b : List ℕ) → AcceptedSystem p A b → first (systemChecks p A b) ≡ 0
+unfolding systemChecks matrixChecks sizeTaken startsTaken elements
+accepted-system p A b a =
+    first-pass 3 (isModulus p) _ (a .prime)
+    (first-pass 4 (sizeTaken A) _ taken-size
+    (first-pass 5 (startsTaken A) _ taken-starts
+    (first-pass 6 (columnsTaken A) _ (columns-of A taken-column)
+    (first-pass 7 (every (valueTaken p) (A .values)) _ (a .values-taken)
+    (first-pass 8 (eqb (length b) (size A)) _ (eq-eqb (length b) (size A) (a .right-length))
+    (first-pass 9 (every (λ a. ltb a p) b) [] (a .right-below) first-nil))))))
+  where
+    taken-size : not (eqb (length (A .starts)) 0) && within 1 4096 (size A) ≡ true
+    taken-size =
+        and-both (ap not (ne-eqb (length (A .starts)) 0 (λ z. omega (arith, a .start-count))))
+        (within-of 1 4096 (size A) (a .size-low) (a .size-high))
+
+    taken-starts : eqb (start A 0) 0 && all (size A) (λ i. leb (start A i) (start A (i + 1)))
+        && eqb (start A (size A)) (length (A .columns)) && eqb (length (A .columns)) (length (A .values))
+        && leb (length (A .columns)) 65536 ≡ true
+    taken-starts =
+        and-both (and-both (and-both (and-both (eq-eqb (start A 0) 0 (a .from-zero))
+        (all-of (size A) (λ i. leb (start A i) (start A (i + 1))) (λ i l. le-leb (start A i) (start A (i + 1)) (a .rising i l))))
+        (eq-eqb (start A (size A)) (length (A .columns)) (a .to-end)))
+        (eq-eqb (length (A .columns)) (length (A .values)) (a .as-many)))
+        (le-leb (length (A .columns)) 65536 (a .few))
+
+    taken-column : (i : ℕ) → i < size A → (k : ℕ) → start A i + k < start A (i + 1)
+        → column-test A (start A (i + 1)) (start A i + k) ≡ true
+    taken-column i l k g =
+        and-both (lt-ltb (column A (start A i + k)) (size A) (a .column-below i l k g))
+        (last (test-cases (leb (start A (i + 1)) (start A i + k + 1))))
+      where
+        last : (leb (start A (i + 1)) (start A i + k + 1) ≡ true) ⊎ (leb (start A (i + 1)) (start A i + k + 1) ≡ false)
+            → (leb (start A (i + 1)) (start A i + k + 1)
+            || ltb (column A (start A i + k)) (column A (start A i + k + 1))) ≡ true
+        last (inl e) = ap (λ t. t || ltb (column A (start A i + k)) (column A (start A i + k + 1))) e
+        last (inr e) =
+            ap (λ t. leb (start A (i + 1)) (start A i + k + 1) || t)
+            (lt-ltb (column A (start A i + k)) (column A (start A i + k + 1))
+            (a .column-rises i l k (leb-false (start A (i + 1)) (start A i + k + 1) e)))
+            ∙ or-true (leb (start A (i + 1)) (start A i + k + 1))
+
+-- a matrix alone
+abbrev pub AcceptedMatrix : ℕ → Matrix → Type 0
+AcceptedMatrix p A = AcceptedSystem p A (zeros (size A))
+
+modulus-of : (p : ℕ) (A : Matrix) → first (matrixChecks p A) ≡ 0 → isModulus p ≡ true
+unfolding matrixChecks
+modulus-of p A e = first-passed 3 (isModulus p) _ (omega arith) e .0
+
+zeros-right : (p : ℕ) (A : Matrix) → 2 ≤ p → first (matrixChecks p A) ≡ 0 → first (systemChecks p A (zeros (size A))) ≡ 0
+unfolding systemChecks elements
+zeros-right p A l e =
+    first-append-none (matrixChecks p A) (check 8 (not (eqb (length (zeros (size A))) (size A))) ∷ check 9 (not (elements p (zeros (size A)))) ∷ []) (numbered-matrix p A) e
+    ∙ first-pass 8 (eqb (length (zeros (size A))) (size A)) _ (eq-eqb (length (zeros (size A))) (size A) (length-table (size A) (λ i. 0)))
+    (first-pass 9 (elements p (zeros (size A))) [] below first-nil)
+  where
+    below : every (λ a. ltb a p) (zeros (size A)) ≡ true
+    below =
+        every-of (λ a. ltb a p) (zeros (size A)) 0
+        (λ i k. lt-ltb (at (zeros (size A)) i) p (omega (arith, getD-table {A = ℕ} (size A) (λ i. 0) i 0 (omega (arith, k, length-table {A = ℕ} (size A) (λ i. 0))), l)))
+
+pub matrix-accepted : (p : ℕ) (A : Matrix) → first (matrixChecks p A) ≡ 0 → AcceptedMatrix p A
+matrix-accepted p A e = system-accepted p A (zeros (size A)) (zeros-right p A (modulus-low p (modulus-of p A e)) e)
+
+-- ---- every start, every entry, every element
+
+pub starts-rise : (A : Matrix) → ((i : ℕ) → i < size A → start A i ≤ start A (i + 1)) → (i m : ℕ) → i ≤ m → m ≤ size A → start A i ≤ start A m
+starts-rise A r i zero h g = omega (arith, ap (start A) (let z : i ≡ 0 = omega arith in z))
+starts-rise A r i (suc m) h g = go (eq-or-lt-of-le h) (λ l. starts-rise A r i m l (omega arith))
+  where
+    go : (i ≡ suc m) ⊎ (i < suc m) → (i ≤ m → start A i ≤ start A m) → start A i ≤ start A (suc m)
+    go (inl q) ih = omega (arith, ap (start A) q)
+    go (inr l) ih = omega (arith, ih (omega arith), r m (omega arith), ap (start A) (add-one m))
+
+module _ {p : ℕ} {A : Matrix} {b : List ℕ} (a : AcceptedSystem p A b) where
+  pub start-within : (i : ℕ) → i ≤ size A → start A i ≤ length (A .columns)
+  start-within i l = omega (arith, starts-rise A (a .rising) i (size A) l (omega arith), a .to-end)
+
+  -- every entry is in some row
+  column-before : (i : ℕ) → i ≤ size A → (k : ℕ) → k < start A i → column A k < size A
+  column-before zero l k g = absurd (omega (arith, a .from-zero))
+  column-before (suc i) l k g = side (decLt k (start A i)) (column-before i (omega arith) k)
+    where
+      side : Dec (k < start A i) → (k < start A i → column A k < size A) → column A k < size A
+      side (yes m) ih = ih m
+      side (no m) ih =
+          let e : start A i + (k - start A i) ≡ k = omega arith in
+          subst (λ j. column A j < size A) e (a .column-below i l (k - start A i) (omega (arith, e, g, ap (start A) (add-one i))))
+
+  pub column-within : (k : ℕ) → k < length (A .columns) → column A k < size A
+  column-within k l = column-before (size A) (omega arith) k (omega (arith, a .to-end))
+
+  pub value-below : (k : ℕ) → k < length (A .values) → value A k < p
+  value-below k l =
+      ltb-true (value A k) p (and-right (leb 1 (value A k)) (ltb (value A k) p) (every-at (valueTaken p) (A .values) 0 (a .values-taken) k l))
+
+  pub right-at : (i : ℕ) → i < size A → at b i < p
+  right-at i l = ltb-true (at b i) p (every-at (λ x. ltb x p) b 0 (a .right-below) i (omega (arith, a .right-length)))
+
+-- ---- a run, and a call of the solver
+
+pub record AcceptedRun (p : ℕ) (A : Matrix) (b words : List ℕ) : Type 0 where
+  pub system : AcceptedSystem p A b
+  pub words-taken : wordsTaken (size A) words ≡ true
+
+pub run-accepted : (p : ℕ) (A : Matrix) (b words : List ℕ) → first (runChecks p A b words) ≡ 0 → AcceptedRun p A b words
+unfolding runChecks
+run-accepted p A b words e =
+    let both = first-append-zero (systemChecks p A b) (check 10 (not (wordsTaken (size A) words)) ∷ []) (numbered-system p A b) e in
+    record {
+      system = system-accepted p A b (both .0);
+      words-taken = first-passed 10 (wordsTaken (size A) words) [] (omega arith) (both .1) .0;
+    }
+
+abbrev pub slicesTaken : ℕ → List ℕ → List ℕ → List ℕ → Bool
+slicesTaken n v f w = eqb (length v) n && eqb (length f) (n + 1) && leb (16 * n + 16) (length w)
+
+pub record AcceptedCall (p : ℕ) (A : Matrix) (b words v f w : List ℕ) : Type 0 where
+  pub run : AcceptedRun p A b words
+  pub vector-size : length v ≡ size A
+  pub polynomial-size : length f ≡ size A + 1
+  pub room : 16 * size A + 16 ≤ length w
+
+pub call-accepted : (p : ℕ) (A : Matrix) (b words v f w : List ℕ) → solverRefusal p A b words v f w ≡ 0 → AcceptedCall p A b words v f w
+unfolding solverRefusal
+call-accepted p A b words v f w e =
+    let both = first-append-zero (runChecks p A b words) (check 11 (not (slicesTaken (size A) v f w)) ∷ []) (numbered-run p A b words) e in
+    let slices = first-passed 11 (slicesTaken (size A) v f w) [] (omega arith) (both .1) .0 in
+    let lengths = and-left (eqb (length v) (size A) && eqb (length f) (size A + 1)) (leb (16 * size A + 16) (length w)) slices in
+    record {
+      run = run-accepted p A b words (both .0);
+      vector-size = eqb-true (length v) (size A) (and-left (eqb (length v) (size A)) (eqb (length f) (size A + 1)) lengths);
+      polynomial-size = eqb-true (length f) (size A + 1) (and-right (eqb (length v) (size A)) (eqb (length f) (size A + 1)) lengths);
+      room = leb-true (16 * size A + 16) (length w) (and-right (eqb (length v) (size A) && eqb (length f) (size A + 1)) (leb (16 * size A + 16) (length w)) slices);
+    }

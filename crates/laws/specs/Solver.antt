@@ -1,0 +1,98 @@
+-- Laws of the words, the projections and the bill (meaning's Solver).
+--     vectorCount-div, vectorCount-nil       R by a division; without words there are none
+--     vectorCount-whole, vectorCount-few     where the words are taken: they fill R vectors; R ≤ 64
+--     length-vectors, getD-vectors           the R vectors
+--     length-units, getD-units               the n unit vectors
+--     length-projections, projection-words, projection-unit      "the R vectors, then the unit vectors 1 to n"
+--     spent-nil, spent-cons, spent-append, spent-snoc            the applications of passes
+use mathlib.Core.Path.{_≡_, refl, sym, ap, ap₂, _∙_}
+use mathlib.Core.Bool.{true, cond}
+use mathlib.Core.List.{List, [], _∷_, _++_}
+use Prim.Native.Nat.{ℕ, zero, suc, _+_, _*_, _/_, _%_, _≤_, _<_}
+use native.Mathlib.Nat.{zero-div, div-add-mod', div-lt-iff-lt-mul}
+use native.Mathlib.Omega.{arith}
+use lib.Dec.{eqb, leb}
+use lib.ListN.{length, getD, length-append, List·getD-append}
+use lib.Seq.{getD-append-add}
+use borrow.Author.Tests.{eqb-true, leb-true}
+use Rattle.meaning.specs.List.{at, table}
+use Rattle.meaning.specs.Solver.{vectorCount, vectors, units, projections, Pass, spent}
+use Rattle.meaning.specs.Refusal.{wordsTaken}
+use Rattle.laws.specs.Bool.{and-left, and-right}
+use Rattle.laws.specs.List.{length-table, getD-table}
+
+-- ---- R
+
+pub vectorCount-div : (n : ℕ) (words : List ℕ) → vectorCount n words ≡ length words / n
+unfolding vectorCount
+vectorCount-div n words = refl
+
+pub vectorCount-nil : (n : ℕ) → vectorCount n [] ≡ 0
+vectorCount-nil n = vectorCount-div n [] ∙ zero-div n
+
+pub vectorCount-whole : (n : ℕ) (words : List ℕ) → wordsTaken n words ≡ true → length words ≡ vectorCount n words * n
+unfolding wordsTaken
+vectorCount-whole n words e =
+    omega (arith, div-add-mod' (length words) n, eqb-true (length words % n) 0 (and-left (eqb (length words % n) 0) (leb (length words) (64 * n)) e))
+    ∙ ap (λ k. k * n) (sym (vectorCount-div n words))
+
+pub vectorCount-few : (n : ℕ) (words : List ℕ) → wordsTaken n words ≡ true → vectorCount n words ≤ 64
+unfolding wordsTaken
+vectorCount-few n words e =
+    omega (arith, vectorCount-div n words, quotient n (length words) (leb-true (length words) (64 * n) (and-right (eqb (length words % n) 0) (leb (length words) (64 * n)) e)))
+  where
+    quotient : (n m : ℕ) → m ≤ 64 * n → m / n < 65
+    quotient zero m l = let none : m ≡ 0 = omega arith in rw none (omega (arith, zero-div 0))
+    quotient (suc n) m l = div-lt-iff-lt-mul {k = suc n} {x = m} {y = 65} (omega arith) .1 (omega arith)
+
+-- ---- the projections
+
+module _ (p n : ℕ) (words : List ℕ) where
+  pub length-vectors : length (vectors p n words) ≡ vectorCount n words
+  unfolding vectors
+  length-vectors = length-table (vectorCount n words) (λ j. table n (λ i. at words (j * n + i) % p))
+
+  pub getD-vectors : (j : ℕ) → j < vectorCount n words → getD (vectors p n words) j [] ≡ table n (λ i. at words (j * n + i) % p)
+  unfolding vectors
+  getD-vectors j l = getD-table (vectorCount n words) (λ k. table n (λ i. at words (k * n + i) % p)) j [] l
+
+pub length-units : (n : ℕ) → length (units n) ≡ n
+unfolding units
+length-units n = length-table n (λ j. table n (λ i. cond (eqb i j) 1 0))
+
+pub getD-units : (n k : ℕ) → k < n → getD (units n) k [] ≡ table n (λ i. cond (eqb i k) 1 0)
+unfolding units
+getD-units n k l = getD-table n (λ j. table n (λ i. cond (eqb i j) 1 0)) k [] l
+
+module _ (p n : ℕ) (words : List ℕ) where
+  pub length-projections : length (projections p n words) ≡ vectorCount n words + n
+  unfolding projections
+  length-projections = length-append (vectors p n words) (units n) ∙ ap₂ _+_ (length-vectors p n words) (length-units n)
+
+  pub projection-words : (j : ℕ) → j < vectorCount n words → getD (projections p n words) j [] ≡ table n (λ i. at words (j * n + i) % p)
+  unfolding projections
+  projection-words j l =
+      List·getD-append (vectors p n words) (units n) [] j (omega (arith, l, length-vectors p n words)) ∙ getD-vectors p n words j l
+
+  pub projection-unit : (k : ℕ) → k < n → getD (projections p n words) (vectorCount n words + k) [] ≡ table n (λ i. cond (eqb i k) 1 0)
+  unfolding projections
+  projection-unit k l =
+      ap (λ m. getD (projections p n words) (m + k) []) (sym (length-vectors p n words))
+      ∙ getD-append-add (vectors p n words) (units n) k [] ∙ getD-units n k l
+
+-- ---- the bill
+
+pub spent-nil : spent [] ≡ 0
+unfolding spent
+spent-nil = refl
+
+pub spent-cons : (q : Pass) (qs : List Pass) → spent (q ∷ qs) ≡ q .applications + spent qs
+unfolding spent
+spent-cons q qs = refl
+
+pub spent-append : (qs rs : List Pass) → spent (qs ++ rs) ≡ spent qs + spent rs
+spent-append [] rs = omega (arith, spent-nil)
+spent-append (q ∷ qs) rs = omega (arith, spent-cons q (qs ++ rs), spent-cons q qs, spent-append qs rs)
+
+pub spent-snoc : (qs : List Pass) (q : Pass) → spent (qs ++ (q ∷ [])) ≡ spent qs + q .applications
+spent-snoc qs q = omega (arith, spent-append qs (q ∷ []), spent-cons q [], spent-nil)

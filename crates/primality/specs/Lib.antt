@@ -1,0 +1,2 @@
+-- What the tables must satisfy.
+pub mod Blocks

@@ -1,0 +1,235 @@
+use Rattle.solver.specs.Verdict.{constant, image}
+use Rattle.wiedemann.specs.Horner.{vector-apply}
+use Rattle.wiedemann.specs.Lent.{part-at}
+use Rattle.wiedemann.specs.Region.{part}
+use Rattle.bridge.specs.ThirdCondition.{verdict-zero, verdict-singular, verdict-solved}
+use Rattle.checks.specs.Valid.{Vector}
+use Rattle.meaning.specs.Field.{minus, times, inverse}
+use Rattle.meaning.specs.List.{at, table, padded}
+use Rattle.meaning.specs.Matrix.{matrix, apply}
+use Rattle.meaning.specs.Solver.{Kind}
+use denote.Ref.{now}
+use lib.ListN.{length, take, drop}
+use native.Mathlib.Nat.{sub-self}
+use native.Mathlib.Omega.{arith}
+use Prim.Native.Nat.{ℕ, _+_, _-_}
+use mathlib.Core.List.{List, []}
+use mathlib.Core.Path.{_≡_, refl, sym, ap, ap₂, _∙_, subst}
+use borrow.Author.Needs.{needs}
+use Rattle.solver.proofs.finish.Statement.{statement}
+use Rattle.solver.proofs.finish.Tie as tie
+
+-- a vector by its own length
+whole : {p n : ℕ} {v : List ℕ} → Vector p n v → Vector p (length v) v
+whole h = record { places = refl; below = λ i l. h .below i (omega (arith, l, h .places)) }
+
+add-end : tie.Need-add-end
+add-end c = search needs
+
+mul-write-padded : tie.Need-mul-write-padded
+mul-write-padded c = search needs
+
+sub-write-padded : tie.Need-sub-write-padded
+sub-write-padded c = search needs
+
+part-write-padded-start : tie.Need-part-write-padded-start
+part-write-padded-start c = search needs
+
+part-write-padded-end : tie.Need-part-write-padded-end
+part-write-padded-end c = search needs
+
+write-padded-requires : tie.Need-write-padded-requires
+write-padded-requires c κs = search needs
+
+mul-write-padded-2 : tie.Need-mul-write-padded-2
+mul-write-padded-2 c = search needs
+
+sub-write-padded-2 : tie.Need-sub-write-padded-2
+sub-write-padded-2 c = search needs
+
+part-write-padded-start-2 : tie.Need-part-write-padded-start-2
+part-write-padded-start-2 c = search needs
+
+part-write-padded-end-2 : tie.Need-part-write-padded-end-2
+part-write-padded-end-2 c = search needs
+
+write-padded-requires-2 : tie.Need-write-padded-requires-2
+write-padded-requires-2 c κs = search needs
+
+closed-requires : tie.Need-closed-requires
+closed-requires c κs = (omega (arith, c .before .before .before .before .before .before .before .before .before .before .before .before .before .before .before .before .before .before .before .pre .1 .0 .found, c .before .before .before .before .before .before .before .before .before .before .before .before .before .before .before .before .before .before .before .pre .0 .valid .sized), c .before .before .before .before .before .before .before .before .before .before .before .before .before .before .before .before .before .before .before .pre .1 .0 .few)
+
+same-length : tie.Need-same-length
+same-length c = search needs
+
+same-length-2 : tie.Need-same-length-2
+same-length-2 c = search needs
+
+same-length-3 : tie.Need-same-length-3
+same-length-3 c = search needs
+
+returns : tie.Need-returns
+returns c =
+    let a = c .before .before .before .before .before .before .before .before .before .before .before .before .before .before .before .before .before .before .before .before .args in
+    let pre = c .before .before .before .before .before .before .before .before .before .before .before .before .before .before .before .before .before .before .before .before .pre in
+    let A = matrix (now (a .starts)) (now (a .columns)) (now (a .values)) in
+    let n = length (now (a .starts)) - 1 in
+    let W = now (a .work) in
+    let d = a .c .degree in
+    let F = part 0 (d + 1) W in
+    let P = c .before .before .before .before .before .before .before .before .before .write-padded .last .1 .0 in
+    let written : P ≡ padded (n + 1) F = c .before .before .before .before .before .before .before .before .before .write-padded .ensures ∙ ap₂ padded (pre .1 .1 .1) (part-at W 0 (d + 1 - 0) 0 (d + 1) refl (omega arith)) in
+    let said = verdict-zero (a .field .p) A (now (a .b)) F d (c .before .before .before .before .before .before .if1 .taken) in
+    let none : take (length (now (a .b)) - length (now (a .b))) (drop (length (now (a .b))) (now (a .b))) ≡ [] =
+    ap (λ k. take k (drop (length (now (a .b))) (now (a .b)))) (sub-self (length (now (a .b)))) in
+    record {
+      ends = (ap (λ (y : Kind × List ℕ). y .0) said, c .closed .ensures);
+      vector-is = c .before .before .before .write-padded2 .ensures ∙ ap₂ padded (pre .1 .1 .0) none ∙ sym (ap (λ (y : Kind × List ℕ). y .1) said);
+      polynomial-is = written;
+    }
+
+mul-apply : tie.Need-mul-apply
+mul-apply c = search needs
+
+sub-apply : tie.Need-sub-apply
+sub-apply c = search needs
+
+part-apply-start : tie.Need-part-apply-start
+part-apply-start c = search needs
+
+part-apply-end : tie.Need-part-apply-end
+part-apply-end c = search needs
+
+apply-requires : tie.Need-apply-requires
+apply-requires c κs = search needs
+
+mul-constant : tie.Need-mul-constant
+mul-constant c = search needs
+
+slice-read-constant : tie.Need-slice-read-constant
+slice-read-constant c = search needs
+
+closed-requires-2 : tie.Need-closed-requires-2
+closed-requires-2 c κs = (omega (arith, c .before .before .before .before .before .before .before .before .before .before .before .before .before .before .before .before .before .before .before .before .before .before .before .before .before .pre .1 .0 .found, c .before .before .before .before .before .before .before .before .before .before .before .before .before .before .before .before .before .before .before .before .before .before .before .before .before .pre .0 .valid .sized), c .before .before .before .before .before .before .before .before .before .before .before .before .before .before .before .before .before .before .before .before .before .before .before .before .before .pre .1 .0 .few)
+
+same-length-4 : tie.Need-same-length-4
+same-length-4 c = search needs
+
+same-length-5 : tie.Need-same-length-5
+same-length-5 c = search needs
+
+same-length-6 : tie.Need-same-length-6
+same-length-6 c = search needs
+
+returns-2 : tie.Need-returns-2
+returns-2 c =
+    let a = c .before .before .before .before .before .before .before .before .before .before .before .before .before .before .before .before .before .before .before .before .before .before .before .before .before .before .args in
+    let pre = c .before .before .before .before .before .before .before .before .before .before .before .before .before .before .before .before .before .before .before .before .before .before .before .before .before .before .pre in
+    let A = matrix (now (a .starts)) (now (a .columns)) (now (a .values)) in
+    let n = length (now (a .starts)) - 1 in
+    let W = now (a .work) in
+    let d = a .c .degree in
+    let F = part 0 (d + 1) W in
+    let P = c .before .before .before .before .before .before .before .before .before .before .before .before .before .before .before .write-padded .last .1 .0 in
+    let written : P ≡ padded (n + 1) F = c .before .before .before .before .before .before .before .before .before .before .before .before .before .before .before .write-padded .ensures ∙ ap₂ padded (pre .1 .1 .1) (part-at W 0 (d + 1 - 0) 0 (d + 1) refl (omega arith)) in
+    let done = c .before .before .before .before .before .before .before .apply .ensures .1 .0 ∙ image (pre .0) (pre .1 .0) P written (c .before .before .before .before .before .before .before .before .before .before .before .before .if1 .left) (now (a .vector)) W (pre .1 .1 .0) refl (d + 1 - 1) (omega arith) in
+    let said = verdict-singular (a .field .p) A (now (a .b)) F d (c .before .before .before .before .before .before .before .before .before .before .before .before .if1 .left) (sym (constant (pre .0) (pre .1 .0) P written) ∙ c .before .if2 .taken) in
+    record {
+      ends = (ap (λ (y : Kind × List ℕ). y .0) said, c .closed2 .ensures);
+      vector-is = done ∙ sym (ap (λ (y : Kind × List ℕ). y .1) said);
+      polynomial-is = written;
+    }
+
+inverse-modulo-requires : tie.Need-inverse-modulo-requires
+inverse-modulo-requires c κs = search needs
+
+divide-requires : tie.Need-divide-requires
+divide-requires c κs =
+    let a = c .before .before .before .before .before .before .before .before .before .before .before .before .before .before .before .before .before .before .before .before .before .before .before .before .before .before .before .args in
+    let pre = c .before .before .before .before .before .before .before .before .before .before .before .before .before .before .before .before .before .before .before .before .before .before .before .before .before .before .before .pre in
+    let A = matrix (now (a .starts)) (now (a .columns)) (now (a .values)) in
+    let n = length (now (a .starts)) - 1 in
+    let W = now (a .work) in
+    let d = a .c .degree in
+    let F = part 0 (d + 1) W in
+    let P = c .before .before .before .before .before .before .before .before .before .before .before .before .before .before .before .before .write-padded .last .1 .0 in
+    let written : P ≡ padded (n + 1) F = c .before .before .before .before .before .before .before .before .before .before .before .before .before .before .before .before .write-padded .ensures ∙ ap₂ padded (pre .1 .1 .1) (part-at W 0 (d + 1 - 0) 0 (d + 1) refl (omega arith)) in
+    let done = c .before .before .before .before .before .before .before .before .apply .ensures .1 .0 ∙ image (pre .0) (pre .1 .0) P written (c .before .before .before .before .before .before .before .before .before .before .before .before .before .if1 .left) (now (a .vector)) W (pre .1 .1 .0) refl (d + 1 - 1) (omega arith) in
+    (pre .0 .valid .small, subst (λ v. Vector (a .field .p) (length v) v) (sym done) (whole (vector-apply (a .field .p) A (drop 1 F) (now (a .b)) (pre .0 .valid .positive))))
+
+closed-requires-3 : tie.Need-closed-requires-3
+closed-requires-3 c κs = (omega (arith, c .before .before .before .before .before .before .before .before .before .before .before .before .before .before .before .before .before .before .before .before .before .before .before .before .before .before .before .before .before .before .pre .1 .0 .found, c .before .before .before .before .before .before .before .before .before .before .before .before .before .before .before .before .before .before .before .before .before .before .before .before .before .before .before .before .before .before .pre .0 .valid .sized), c .before .before .before .before .before .before .before .before .before .before .before .before .before .before .before .before .before .before .before .before .before .before .before .before .before .before .before .before .before .before .pre .1 .0 .few)
+
+same-length-7 : tie.Need-same-length-7
+same-length-7 c = search needs
+
+same-length-8 : tie.Need-same-length-8
+same-length-8 c = search needs
+
+same-length-9 : tie.Need-same-length-9
+same-length-9 c = search needs
+
+returns-3 : tie.Need-returns-3
+returns-3 c =
+    let a = c .before .before .before .before .before .before .before .before .before .before .before .before .before .before .before .before .before .before .before .before .before .before .before .before .before .before .before .before .before .before .before .args in
+    let pre = c .before .before .before .before .before .before .before .before .before .before .before .before .before .before .before .before .before .before .before .before .before .before .before .before .before .before .before .before .before .before .before .pre in
+    let A = matrix (now (a .starts)) (now (a .columns)) (now (a .values)) in
+    let n = length (now (a .starts)) - 1 in
+    let W = now (a .work) in
+    let d = a .c .degree in
+    let F = part 0 (d + 1) W in
+    let P = c .before .before .before .before .before .before .before .before .before .before .before .before .before .before .before .before .before .before .before .before .write-padded .last .1 .0 in
+    let written : P ≡ padded (n + 1) F = c .before .before .before .before .before .before .before .before .before .before .before .before .before .before .before .before .before .before .before .before .write-padded .ensures ∙ ap₂ padded (pre .1 .1 .1) (part-at W 0 (d + 1 - 0) 0 (d + 1) refl (omega arith)) in
+    let done = c .before .before .before .before .before .before .before .before .before .before .before .before .apply .ensures .1 .0 ∙ image (pre .0) (pre .1 .0) P written (c .before .before .before .before .before .before .before .before .before .before .before .before .before .before .before .before .before .if1 .left) (now (a .vector)) W (pre .1 .1 .0) refl (d + 1 - 1) (omega arith) in
+    let first = constant (pre .0) (pre .1 .0) P written in
+    let said = verdict-solved (a .field .p) A (now (a .b)) F d (c .before .before .before .before .before .before .before .before .before .before .before .before .before .before .before .before .before .if1 .left) (λ z. c .before .before .before .before .before .before .if2 .left (first ∙ z)) in
+    let w = apply (a .field .p) A (drop 1 F) (now (a .b)) in
+    record {
+      ends = (ap (λ (y : Kind × List ℕ). y .0) said, c .closed3 .ensures);
+      vector-is =
+          c .before .before .before .divide .ensures
+          ∙ ap₂ (λ v i. table (length v) (λ k. times (a .field .p) (minus (a .field .p) 0 (at v k)) i)) done (c .before .before .before .before .before .inverse-modulo .ensures ∙ ap (inverse (a .field .p)) first)
+          ∙ ap (λ m. table m (λ k. times (a .field .p) (minus (a .field .p) 0 (at w k)) (inverse (a .field .p) (at F 0)))) (vector-apply (a .field .p) A (drop 1 F) (now (a .b)) (pre .0 .valid .positive) .places)
+          ∙ sym (ap (λ (y : Kind × List ℕ). y .1) said);
+      polynomial-is = written;
+    }
+
+pub finish-spec : {M : Type 1} → statement M
+finish-spec =
+    tie.close
+    (tie.spec
+    add-end
+    mul-write-padded
+    sub-write-padded
+    part-write-padded-start
+    part-write-padded-end
+    write-padded-requires
+    mul-write-padded-2
+    sub-write-padded-2
+    part-write-padded-start-2
+    part-write-padded-end-2
+    write-padded-requires-2
+    closed-requires
+    same-length
+    same-length-2
+    same-length-3
+    returns
+    mul-apply
+    sub-apply
+    part-apply-start
+    part-apply-end
+    apply-requires
+    mul-constant
+    slice-read-constant
+    closed-requires-2
+    same-length-4
+    same-length-5
+    same-length-6
+    returns-2
+    inverse-modulo-requires
+    divide-requires
+    closed-requires-3
+    same-length-7
+    same-length-8
+    same-length-9
+    returns-3)

@@ -1,0 +1,79 @@
+use Rattle.solver.specs.Run.{system-of, closable}
+use Rattle.solver.specs.Verdict.{run-passed, closed, refused, taken}
+use Rattle.laws.specs.Accepted.{call-accepted}
+use Rattle.meaning.specs.Matrix.{matrix}
+use denote.Ref.{now}
+use Prim.Native.Nat.{_-_}
+use mathlib.Core.Path.{sym, _∙_}
+use borrow.Author.Needs.{needs}
+use Rattle.solver.proofs.solve.Statement.{statement}
+use Rattle.solver.proofs.solve.Tie as tie
+
+solver-refusal-requires : tie.Need-solver-refusal-requires
+solver-refusal-requires c κs = search needs
+
+same-length : tie.Need-same-length
+same-length c = search needs
+
+same-length-2 : tie.Need-same-length-2
+same-length-2 c = search needs
+
+same-length-3 : tie.Need-same-length-3
+same-length-3 c = search needs
+
+returns : tie.Need-returns
+returns c =
+    let a = c .before .before .before .before .before .before .before .before .before .before .before .before .before .args in
+    refused (a .field .p) (matrix (now (a .starts)) (now (a .columns)) (now (a .values))) (now (a .b)) (now (a .words)) (now (a .vector)) (now (a .polynomial)) (now (a .work))
+    (c .before .solver-refusal .result) (sym (c .before .solver-refusal .ensures)) (c .if1 .taken)
+
+run-requires : tie.Need-run-requires
+run-requires c κs =
+    let a = c .before .before .before .before .before .before .before .before .before .before .before .before .before .before .args in
+    let A = matrix (now (a .starts)) (now (a .columns)) (now (a .values)) in
+    let passed = sym (c .before .before .solver-refusal .ensures) ∙ c .before .if1 .left in
+    let t = call-accepted (a .field .p) A (now (a .b)) (now (a .words)) (now (a .vector)) (now (a .polynomial)) (now (a .work)) passed in
+    (system-of (a .field .p) A (now (a .b)) (now (a .words)) (run-passed (a .field .p) A (now (a .b)) (now (a .words)) (now (a .vector)) (now (a .polynomial)) (now (a .work)) passed), (t .run .words-taken, t .room))
+
+finish-requires : tie.Need-finish-requires
+finish-requires c κs =
+    let a = c .before .before .before .before .before .before .before .before .before .before .before .before .before .before .before .before .before .before .before .before .args in
+    let A = matrix (now (a .starts)) (now (a .columns)) (now (a .values)) in
+    let passed = sym (c .before .before .before .before .before .before .before .before .solver-refusal .ensures) ∙ c .before .before .before .before .before .before .before .if1 .left in
+    let t = call-accepted (a .field .p) A (now (a .b)) (now (a .words)) (now (a .vector)) (now (a .polynomial)) (now (a .work)) passed in
+    let system = system-of (a .field .p) A (now (a .b)) (now (a .words)) (run-passed (a .field .p) A (now (a .b)) (now (a .words)) (now (a .vector)) (now (a .polynomial)) (now (a .work)) passed) in
+    (system, (closable system (c .before .before .before .before .before .run .ensures), (t .vector-size, t .polynomial-size)))
+
+same-length-4 : tie.Need-same-length-4
+same-length-4 c = search needs
+
+same-length-5 : tie.Need-same-length-5
+same-length-5 c = search needs
+
+same-length-6 : tie.Need-same-length-6
+same-length-6 c = search needs
+
+returns-2 : tie.Need-returns-2
+returns-2 c =
+    let a = c .before .before .before .before .before .before .before .before .before .before .before .before .before .before .before .before .before .before .before .before .before .before .before .before .before .before .before .args in
+    let A = matrix (now (a .starts)) (now (a .columns)) (now (a .values)) in
+    let passed = sym (c .before .before .before .before .before .before .before .before .before .before .before .before .before .before .before .solver-refusal .ensures) ∙ c .before .before .before .before .before .before .before .before .before .before .before .before .before .before .if1 .left in
+    let t = call-accepted (a .field .p) A (now (a .b)) (now (a .words)) (now (a .vector)) (now (a .polynomial)) (now (a .work)) passed in
+    taken (a .field .p) A (now (a .b)) (now (a .words)) (now (a .vector)) (now (a .polynomial)) (now (a .work)) passed
+    (closed (c .before .before .before .before .before .before .before .before .before .before .before .before .run .ensures) (c .before .before .before .before .before .before .finish .ensures))
+
+pub solve-spec : {M : Type 1} → statement M
+solve-spec =
+    tie.close
+    (tie.spec
+    solver-refusal-requires
+    same-length
+    same-length-2
+    same-length-3
+    returns
+    run-requires
+    finish-requires
+    same-length-4
+    same-length-5
+    same-length-6
+    returns-2)

@@ -1,0 +1,353 @@
+-- The solver's run in its work slice, which is laid out as a pass has it (wiedemann's Pass).
+--     System, system-of  what the checks leave known of a system
+--     none, counted      the counts before the first pass, and after one more
+--     begun              r = b, F = 1, D = 0 in the slice
+--     run-append         a run with projections after others
+--     run-more           one projection more, while r is not zero
+--     run-left           while r is not zero, less than n has been found
+--     vector-elements    elements below p pass check 9
+--     Midway             the run with the first j projections is what is held
+--     midway-begin, midway-less, midway-state, midway-made, midway-next      at the start; r ≢ 0: a projection is left, a pass is not refused, and is made
+--     Finished, midway-end     r = 0: the whole run is what is held
+--     Closable, closable       what the end asks: F is monic of degree D ≤ n
+use mathlib.Core.Path.{_≡_, refl, sym, ap, ap₂, _∙_, subst}
+use mathlib.Core.Logic.{_⊎_, inl, inr}
+use mathlib.Core.Bool.{true, false, not}
+use mathlib.Core.List.{List, [], _∷_, _++_}
+use Prim.Native.Nat.{ℕ, _+_, _-_, _*_, _≤_, _<_}
+use native.Mathlib.Nat.{zero-add, eq-or-lt-of-le}
+use native.Mathlib.Decide.{decLt}
+use native.Mathlib.Numerals.{add-one}
+use native.Mathlib.Omega.{arith}
+use lib.Dec.{ltb}
+use lib.ListN.{length, take, drop, getD, set, length-set, length-append, take-append-drop}
+use lib.Seq.{take-suc, take-all, getD-set-same, getD-set-other}
+use borrow.Author.Tests.{lt-ltb}
+use Rattle.meaning.specs.List.{at, isZero, padded}
+use Rattle.meaning.specs.Matrix.{Matrix, size}
+use Rattle.meaning.specs.Refusal.{check, first, elements, matrixChecks, wordsTaken}
+use Rattle.meaning.specs.Calls.{systemChecks, runChecks}
+use Rattle.meaning.specs.Recurrence.{degree}
+use Rattle.meaning.specs.Solver.{Pass, Run, projections, begin, spent, passTerms, pass, run}
+use Rattle.laws.specs.Accepted.{run-accepted}
+use Rattle.laws.specs.Bool.{and-both, test-cases, never}
+use Rattle.laws.specs.List.{all-of, length-table, table-of}
+use Rattle.laws.specs.Refusal.{first-append-zero, numbered-matrix, numbered-system}
+use Rattle.laws.specs.Solver.{spent-nil, spent-snoc}
+use Rattle.algebra.specs.Ring.{Field}
+use Rattle.residue.specs.Prime.{Prime}
+use Rattle.residue.specs.Residue.{residues}
+use Rattle.residue.specs.Lists.{coef, coef-below}
+use Rattle.krylov.specs.Run.{kept, kept-full}
+use Rattle.bridge.specs.Operator.{operator, operator-linear, null-isZero}
+use Rattle.bridge.specs.Run.{Stands, run-begun, run-nil, run-stop, run-pass, run-rest, run-found}
+use Rattle.bridge.specs.ThirdCondition.{Accepted, accepted, projections-zero, end-monic}
+use Rattle.checks.specs.Valid.{Valid, Vector, valid-of}
+use Rattle.checks.specs.Matrix.{vectorChecks, all-elements}
+use Rattle.wiedemann.specs.declared.pass.Pass.{Pass as CodePass}
+use Rattle.wiedemann.specs.declared.pass.Passed.{Passed}
+use Rattle.wiedemann.specs.declared.pass.Passed.the-variants.{Made, Refused}
+use Rattle.wiedemann.specs.Region.{part, at-part, part-ext}
+use Rattle.wiedemann.specs.Lent.{lent, length-lent, part-lent, part-at, part-cons}
+use Rattle.wiedemann.specs.Turns.{monic-leading}
+use Rattle.wiedemann.specs.Pass.{residualAt, held, passOf, passRefusal, Passes, refused-state, state-0}
+use Rattle.solver.specs.declared.Counts.{Counts}
+
+pub record System (p : ℕ) (A : Matrix) (b : List ℕ) : Type 0 where
+  pub checked : first (matrixChecks p A) ≡ 0
+  pub valid : Valid p A
+  pub accepted : Accepted p A b
+
+pub system-of : (p : ℕ) (A : Matrix) (b words : List ℕ) → first (runChecks p A b words) ≡ 0 → System p A b
+unfolding runChecks systemChecks
+system-of p A b words e =
+    record { checked = matrix; valid = valid-of (run-accepted p A b words e .system); accepted = accepted p A b words e }
+  where
+    system : first (systemChecks p A b) ≡ 0
+    system = first-append-zero (systemChecks p A b) (check 10 (not (wordsTaken (size A) words)) ∷ []) (numbered-system p A b) e .0
+
+    matrix : first (matrixChecks p A) ≡ 0
+    matrix = first-append-zero (matrixChecks p A) (vectorChecks p A b) (numbered-matrix p A) system .0
+
+abbrev pub none : Counts
+none = record { degree = 0; passes = 0; applications = 0 }
+
+abbrev pub counted : Counts → CodePass → Counts
+counted c q = record { degree = c .degree + q .degree; passes = c .passes + 1; applications = c .applications + q .applications }
+
+-- b in r's place, which was lent, and 1 in F's first: the run's beginning
+pub begun : (W b : List ℕ) (from m : ℕ) (Y : List ℕ) → from ≡ residualAt (length b) → m ≡ length b → from + m ≤ length W → Y ≡ padded m b
+    → (length (set (lent W from m Y) 0 1) ≡ length W) × (held (length b) (set (lent W from m Y) 0 1) 0 [] ≡ begin b)
+unfolding begin
+begun W b from m Y e f fits y = (long, ap₂ {C = Run} (λ r F. record { residual = r; factor = F; found = 0; passes = [] }) residual factor)
+  where
+    same : length Y ≡ m
+    same = ap length y ∙ length-table m (λ i. at b i)
+
+    X : List ℕ
+    X = lent W from m Y
+
+    long : length (set (lent W from m Y) 0 1) ≡ length W
+    long = length-set (lent W from m Y) 0 1 ∙ length-lent W from m Y fits same
+
+    whole : padded m b ≡ b
+    whole = ap (λ k. padded k b) f ∙ sym (table-of 0 b (length b) (at b) refl (λ i l. refl))
+
+    residual : part (residualAt (length b)) (length b) (set X 0 1) ≡ b
+    residual =
+        part-at (set X 0 1) (residualAt (length b)) (length b) from m (sym e) (sym f)
+        ∙ part-ext from m (set X 0 1) X (omega (arith, long, fits)) (omega (arith, length-lent W from m Y fits same, fits))
+        (λ i l. getD-set-other X 0 (from + i) 1 0 (λ q. omega (arith, q, e)))
+        ∙ part-lent W from m Y fits same ∙ y ∙ whole
+
+    factor : part 0 (0 + 1) (set X 0 1) ≡ 1 ∷ []
+    factor =
+        part-cons 0 0 (set X 0 1) (omega (arith, long, fits, e))
+        ∙ ap (λ x. x ∷ []) (getD-set-same X 0 1 0 (omega (arith, length-lent W from m Y fits same, fits, e)))
+
+-- ---- the run
+
+module _ (p : ℕ) (h : Prime p) (A : Matrix) (b : List ℕ) where
+  pub run-append : (us vs : List (List ℕ)) (c : Run) → run p A (us ++ vs) c ≡ run p A vs (run p A us c)
+  run-append [] vs c = ap (run p A vs) (sym (run-nil p h A b c))
+  run-append (u ∷ us) vs c = go (test-cases (isZero (c .residual))) (run-append us vs (pass p A u c))
+    where
+      go : (isZero (c .residual) ≡ true) ⊎ (isZero (c .residual) ≡ false) → run p A (us ++ vs) (pass p A u c) ≡ run p A vs (run p A us (pass p A u c))
+          → run p A (u ∷ us ++ vs) c ≡ run p A vs (run p A (u ∷ us) c)
+      go (inl z) ih =
+          run-stop p h A b u (us ++ vs) c z ∙ sym (ap (run p A vs) (run-stop p h A b u us c z) ∙ run-rest p h A b vs c z)
+      go (inr z) ih = run-pass p h A b u (us ++ vs) c z ∙ ih ∙ ap (run p A vs) (sym (run-pass p h A b u us c z))
+
+  -- one projection more, while r is not zero
+  pub run-more : (us : List (List ℕ)) (j : ℕ) (c : Run) → j < length us → isZero (run p A (take j us) c .residual) ≡ false
+      → run p A (take (j + 1) us) c ≡ pass p A (getD us j []) (run p A (take j us) c)
+  run-more us j c l z =
+      ap (λ vs. run p A vs c) (ap (λ k. take k us) (add-one j) ∙ take-suc us j [] l) ∙ run-append (take j us) (getD us j [] ∷ []) c
+      ∙ run-pass p h A b (getD us j []) [] (run p A (take j us) c) z ∙ run-nil p h A b (pass p A (getD us j []) (run p A (take j us) c))
+
+  module _ (size-b : length b ≡ size A) (reduced-b : (i : ℕ) → i < length b → getD b i 0 < p) (us : List (List ℕ)) where
+    open Field (residues p h) using (ring as R)
+
+    -- while r is not zero, less than n has been found
+    pub run-left : isZero (run p A us (begin b) .residual) ≡ false → run p A us (begin b) .found < size A
+    run-left z = go (decLt (run p A us (begin b) .found) (size A))
+      where
+        c : Run
+        c = run p A us (begin b)
+
+        full : size A ≤ c .found → isZero (c .residual) ≡ true
+        full l =
+            null-isZero p h (c .residual) (run-begun p h A b size-b reduced-b us .stands .reduced-residual)
+            (kept-full (residues p h) (size A) (operator p h A) (coef p h b) (operator-linear p h A) (λ i k. coef-below p h b i (omega arith))
+            (kept (residues p h) (size A) (operator p h A) (coef p h b) (operator-linear p h A) (λ i k. coef-below p h b i (omega arith))
+            (run-begun p h A b size-b reduced-b us .stands .reached)) l)
+
+        go : Dec (c .found < size A) → c .found < size A
+        go (yes l) = l
+        go (no l) = never (isZero (c .residual)) (full (omega (arith, l))) z
+
+pub record Midway (p : ℕ) (A : Matrix) (b words W : List ℕ) (j : ℕ) (c : Counts) : Type 0 where
+  pub made : List Pass
+  pub passes : c .passes ≡ length made
+  pub used : length made ≡ j
+  pub applications : c .applications ≡ spent made
+  pub few : c .applications ≤ j * 16384
+  pub room : 16 * size A + 16 ≤ length W
+  pub within : j ≤ length (projections p (size A) words)
+  pub state : held (size A) W (c .degree) made ≡ run p A (take j (projections p (size A) words)) (begin b)
+
+pub midway-begin : {p : ℕ} {A : Matrix} {b words W : List ℕ} → System p A b → 16 * size A + 16 ≤ length W → held (size A) W 0 [] ≡ begin b
+    → Midway p A b words W 0 none
+midway-begin {p} {A} {b} {words} {W} s room e =
+    record {
+      made = [];
+      passes = refl;
+      used = refl;
+      applications = sym spent-nil;
+      few = omega arith;
+      room = room;
+      within = omega arith;
+      state = e ∙ sym (run-nil p (s .accepted .prime) A b (begin b));
+    }
+
+pub record Finished (p : ℕ) (A : Matrix) (b words W : List ℕ) (c : Counts) : Type 0 where
+  pub made : List Pass
+  pub passes : c .passes ≡ length made
+  pub applications : c .applications ≡ spent made
+  pub few : c .applications ≤ 134217728
+  pub room : 16 * size A + 16 ≤ length W
+  pub state : held (size A) W (c .degree) made ≡ run p A (projections p (size A) words) (begin b)
+
+-- what a pass costs
+pass-cost : (p : ℕ) (A : Matrix) (u : List ℕ) (c r : Run) (q : Pass) → r .passes ≡ c .passes ++ (q ∷ []) → r ≡ pass p A u c
+    → q .applications ≡ 2 * (size A - c .found) - 1 + (r .found - c .found)
+unfolding pass
+pass-cost p A u c r q e g =
+    omega (arith, ap spent e, spent-snoc (c .passes) q, ap (λ (x : Run). spent (x .passes)) g, spent-snoc (c .passes) last, ap (λ (x : Run). x .found) g)
+  where
+    t : ℕ
+    t = degree p (passTerms p A u c)
+
+    last : Pass
+    last = record { left = size A - c .found; degree = t; applications = 2 * (size A - c .found) - 1 + t }
+
+-- elements below p pass check 9
+pub vector-elements : (p n : ℕ) (v : List ℕ) → Vector p n v → elements p v ≡ true
+vector-elements p n v h =
+    all-elements p v ∙ all-of (length v) (λ i. ltb (at v i) p) (λ i l. lt-ltb (at v i) p (h .below i (omega (arith, l, h .places))))
+
+module _ {p : ℕ} {A : Matrix} {b words W : List ℕ} {j : ℕ} {c : Counts} (s : System p A b) (most : length (projections p (size A) words) ≤ 8192)
+    (m : Midway p A b words W j c) where
+  h : Prime p
+  h = s .accepted .prime
+
+  us : List (List ℕ)
+  us = projections p (size A) words
+
+  zeroed : isZero (run p A (take j (projections p (size A) words)) (begin b) .residual) ≡ isZero (part (residualAt (size A)) (size A) W)
+  zeroed = ap (λ (q : Run). isZero (q .residual)) (sym (m .state))
+
+  pub midway-less : isZero (part (residualAt (size A)) (size A) W) ≡ false → j < length (projections p (size A) words)
+  unfolding h us
+  midway-less z = go (eq-or-lt-of-le (m .within))
+    where
+      go : (j ≡ length us) ⊎ (j < length us) → j < length us
+      go (inl e) =
+          never (isZero (part (residualAt (size A)) (size A) W))
+          (sym zeroed ∙ ap (λ vs. isZero (run p A vs (begin b) .residual)) (take-all j us (omega (arith, e)))
+          ∙ projections-zero p h A b (s .accepted .size-b) (s .accepted .reduced-b) words)
+          z
+      go (inr l) = l
+
+  next : isZero (part (residualAt (size A)) (size A) W) ≡ false
+      → run p A (take (j + 1) (projections p (size A) words)) (begin b)
+      ≡ pass p A (getD (projections p (size A) words) j []) (held (size A) W (c .degree) (m .made))
+  unfolding h us
+  next z =
+      run-more p h A b us j (begin b) (midway-less z) (zeroed ∙ z) ∙ ap (pass p A (getD us j [])) (sym (m .state))
+
+  stands : Stands p (s .accepted .prime) A b
+      (run-begun p (s .accepted .prime) A b (s .accepted .size-b) (s .accepted .reduced-b) (take j (projections p (size A) words)) .used)
+      (run p A (take j (projections p (size A) words)) (begin b))
+  stands = run-begun p (s .accepted .prime) A b (s .accepted .size-b) (s .accepted .reduced-b) (take j (projections p (size A) words)) .stands
+
+  residual : Vector p (size A) (part (residualAt (size A)) (size A) W)
+  residual =
+      record {
+        places = ap (λ (q : Run). length (q .residual)) (m .state) ∙ stands .size-residual;
+        below = λ i l. subst (λ (q : Run). at (q .residual) i < p) (sym (m .state)) (stands .reduced-residual i (omega (arith, stands .size-residual, l)));
+      }
+
+  factor : Vector p (c .degree + 1) (part 0 (c .degree + 1) W)
+  factor =
+      record {
+        places = ap (λ (q : Run). length (q .factor)) (m .state) ∙ stands .size-factor ∙ ap (λ (q : Run). q .found + 1) (sym (m .state));
+        below =
+            λ i l.
+            subst (λ (q : Run). at (q .factor) i < p) (sym (m .state))
+            (stands .reduced-factor i (omega (arith, l, stands .size-factor, ap (λ (q : Run). q .found) (m .state))));
+      }
+
+  below : isZero (part (residualAt (size A)) (size A) W) ≡ false → c .degree < size A
+  unfolding h us
+  below z =
+      subst (λ (q : Run). q .found < size A) (sym (m .state))
+      (run-left p h A b (s .accepted .size-b) (s .accepted .reduced-b) (take j us) (zeroed ∙ z))
+
+  -- what is held is a state that a pass takes
+  pub midway-state : isZero (part (residualAt (size A)) (size A) W) ≡ false → wordsTaken (size A) words ≡ true → passRefusal p A words (c .degree) W ≡ 0
+  midway-state z t =
+      refused-state p A words (c .degree) W (s .checked)
+      ∙ state-0 p (size A) (c .degree) words W (below z) t (m .room)
+      (and-both (vector-elements p (c .degree + 1) (part 0 (c .degree + 1) W) factor) (vector-elements p (size A) (part (residualAt (size A)) (size A) W) residual))
+
+  pub midway-made : isZero (part (residualAt (size A)) (size A) W) ≡ false → wordsTaken (size A) words ≡ true → (W′ : List ℕ) (k : ℕ)
+      → Passes p A words j (c .degree) W (Refused k) W′ → ⊥
+  midway-made z t W′ k q = q .1 (sym (q .0) ∙ midway-state z t)
+
+  -- the counts that a pass adds
+  pub midway-fits : isZero (part (residualAt (size A)) (size A) W) ≡ false → (W′ : List ℕ) (q : CodePass) → Passes p A words j (c .degree) W (Made q) W′
+      → (c .degree ≤ 4096) × (c .passes < 65536) × (c .applications < 4294967296) × (q .degree ≤ 8192) × (q .applications ≤ 16384)
+  midway-fits z W′ q made =
+      let sized = s .valid .sized in
+      let now : held (size A) W′ (c .degree + q .degree) (m .made ++ (passOf q ∷ [])) ≡ run p A (take (j + 1) (projections p (size A) words)) (begin b) = made .2 (m .made) ∙ sym (next z) in
+      let found : c .degree + q .degree ≤ size A = subst (λ (r : Run). r .found ≤ size A) (sym now) (run-found p (s .accepted .prime) A b (s .accepted .size-b) (s .accepted .reduced-b) (take (j + 1) (projections p (size A) words))) in
+      let cost : q .applications ≡ 2 * (size A - c .degree) - 1 + (c .degree + q .degree - c .degree) = pass-cost p A (getD (projections p (size A) words) j []) (held (size A) W (c .degree) (m .made)) (held (size A) W′ (c .degree + q .degree) (m .made ++ (passOf q ∷ []))) (passOf q) refl (made .2 (m .made)) in
+      (omega (arith, found, sized), omega (arith, m .passes, m .used, m .within, most), omega (arith, m .few, m .within, most), omega (arith, found, sized), omega (arith, cost, found, sized))
+
+  pub midway-next : isZero (part (residualAt (size A)) (size A) W) ≡ false → (W′ : List ℕ) (q : CodePass) → Passes p A words j (c .degree) W (Made q) W′
+      → Midway p A b words W′ (j + 1) (counted c q)
+  midway-next z W′ q made =
+      let fits = midway-fits z W′ q made in
+      record {
+        made = m .made ++ (passOf q ∷ []);
+        passes = ap (λ k. k + 1) (m .passes) ∙ sym (length-append (m .made) (passOf q ∷ []));
+        used = length-append (m .made) (passOf q ∷ []) ∙ ap (λ k. k + 1) (m .used);
+        applications = ap (λ k. k + q .applications) (m .applications) ∙ sym (spent-snoc (m .made) (passOf q));
+        few = omega (arith, m .few, fits .4);
+        room = omega (arith, made .1, m .room);
+        within = omega (arith, midway-less z);
+        state = made .2 (m .made) ∙ sym (next z);
+      }
+
+  pub midway-end : isZero (part (residualAt (size A)) (size A) W) ≡ true → Finished p A b words W c
+  unfolding h us
+  midway-end z =
+      record {
+        made = m .made;
+        passes = m .passes;
+        applications = m .applications;
+        few = omega (arith, m .few, m .within, most);
+        room = m .room;
+        state =
+            m .state
+            ∙ sym
+            (ap (λ vs. run p A vs (begin b)) (sym (take-append-drop j us)) ∙ run-append p h A b (take j us) (drop j us) (begin b)
+            ∙ run-rest p h A b (drop j us) (run p A (take j us) (begin b)) (zeroed ∙ z));
+      }
+
+-- ---- the end
+
+pub record Closable (p : ℕ) (A : Matrix) (W : List ℕ) (c : Counts) : Type 0 where
+  pub found : c .degree ≤ size A
+  pub one : at W (c .degree) ≡ 1
+  pub room : 16 * size A + 16 ≤ length W
+  pub few : c .applications ≤ 134217728
+  pub elements : (i : ℕ) → i ≤ c .degree → at W i < p
+
+pub closable : {p : ℕ} {A : Matrix} {b words W : List ℕ} {c : Counts} → System p A b → Finished p A b words W c → Closable p A W c
+closable {p} {A} {b} {words} {W} {c} s f =
+    record {
+      found = found;
+      one = sym (place (c .degree) (omega arith)) ∙ ap (λ (q : Run). at (q .factor) (c .degree)) (f .state) ∙ ap (at (end .factor)) (ap (λ (q : Run). q .found) (f .state)) ∙ monic-leading p (end .found) (end .factor) (end-monic p h A b size-b reduced-b end stands zero-end);
+      room = f .room;
+      few = f .few;
+      elements = λ i l. rw (← place i l, ap (λ (q : Run). at (q .factor) i) (f .state)) (stands .reduced-factor i (omega (arith, l, stands .size-factor, ap (λ (q : Run). q .found) (f .state))));
+    }
+  where
+    h : Prime p
+    h = s .accepted .prime
+
+    size-b : length b ≡ size A
+    size-b = s .accepted .size-b
+
+    reduced-b : (i : ℕ) → i < length b → getD b i 0 < p
+    reduced-b = s .accepted .reduced-b
+
+    us : List (List ℕ)
+    us = projections p (size A) words
+
+    end : Run
+    end = run p A us (begin b)
+
+    stands : Stands p h A b (run-begun p h A b size-b reduced-b us .used) end
+    stands = run-begun p h A b size-b reduced-b us .stands
+
+    zero-end : isZero (end .residual) ≡ true
+    zero-end = projections-zero p h A b size-b reduced-b words
+
+    found : c .degree ≤ size A
+    found = subst (λ (q : Run). q .found ≤ size A) (sym (f .state)) (run-found p h A b size-b reduced-b us)
+
+    place : (i : ℕ) → i ≤ c .degree → at (part 0 (c .degree + 1) W) i ≡ at W i
+    place i l = at-part 0 (c .degree + 1) W i (omega (arith, l)) ∙ ap (at W) (zero-add i)

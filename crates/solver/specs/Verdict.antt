@@ -1,0 +1,242 @@
+-- What each case of the solver's answer says, and what a call leaves.
+--     Counted            D, the passes and the applications of an outcome
+--     Says               "kind, D, the passes and the applications", or the refusal's number
+--     Solves             the answer, each lent slice afterwards, and the third condition of what was found
+--     kindOf, SameRun, same-run      two runs on one system, whatever their words and slices, agree in kind, vector and f
+--     closing            the counts at the end, with the applications of G(A)b
+--     Ends, Closed       what is made of F when r is zero
+--     constant, coefficients, image      F[0] and G in the polynomial slice, and G(A)b in the vector slice
+--     closed             so it is the meaning's `solve`
+--     refused, taken     a call that was refused, and one that was not
+use mathlib.Core.Path.{_≡_, refl, sym, ap, _∙_, subst}
+use mathlib.Core.Logic.{_≢_}
+use mathlib.Core.Bool.{true, false, not, cond, _&&_}
+use mathlib.Core.List.{List, [], _∷_}
+use Prim.Native.Nat.{ℕ, _+_, _-_, _*_, _<_}
+use native.Mathlib.Omega.{arith}
+use lib.Dec.{eqb, leb}
+use lib.ListN.{length, take, drop, length-drop}
+use lib.Seq.{take-all, getD-drop}
+use borrow.Author.Tests.{eq-eqb, ne-eqb, le-leb}
+use Rattle.meaning.specs.List.{at, padded}
+use Rattle.meaning.specs.Matrix.{Matrix, size, apply}
+use Rattle.meaning.specs.Solver.{Run, Kind, solved, singular, Outcome, passCount, applications, verdict, close, solve}
+use Rattle.meaning.specs.ThirdCondition.{ThirdCondition, SameAnswer}
+use Rattle.meaning.specs.Refusal.{check, first, matrixChecks}
+use Rattle.meaning.specs.Calls.{applyRefusal, applyAfter, runChecks, solverRefusal, vectorAfter, polynomialAfter}
+use Rattle.bridge.specs.ThirdCondition.{everyRun, everyTwoRuns}
+use Rattle.solver.specs.declared.Counts.{Counts}
+use Rattle.solver.specs.declared.Verdict.{Verdict}
+use Rattle.solver.specs.declared.Verdict.the-variants.{Solved, Singular, Refused}
+use Rattle.wiedemann.specs.Region.{part, at-part, length-part}
+use Rattle.wiedemann.specs.Lent.{part-of-take, take-padded}
+use Rattle.wiedemann.specs.Pass.{held}
+use Rattle.laws.specs.Bool.{and-both}
+use Rattle.laws.specs.List.{length-table, getD-table}
+use Rattle.laws.specs.Refusal.{first-nil, first-pass, first-append-none, first-append-zero, numbered-matrix, numbered-run, unlessRefused-none}
+use Rattle.solver.specs.Run.{System, Closable, Finished, vector-elements}
+
+pub record Counted (c : Counts) (o : Outcome) : Type 0 where
+  pub degree : c .degree ≡ o .degree
+  pub passes : c .passes ≡ passCount o
+  pub applications : c .applications ≡ applications o
+
+-- "a refusal returns its number and no other answer"
+abbrev pub Says : Verdict → ℕ → Outcome → Type 0
+Says (Solved c) number o = (number ≡ 0) × (o .kind ≡ solved) × Counted c o
+Says (Singular c) number o = (number ≡ 0) × (o .kind ≡ singular) × Counted c o
+Says (Refused k) number o = (number ≡ k) × (k ≢ 0)
+
+pub record Solves (p : ℕ) (A : Matrix) (b words vector polynomial work : List ℕ) (r : Verdict) (vector′ polynomial′ work′ : List ℕ) : Type 0 where
+  pub says : Says r (solverRefusal p A b words vector polynomial work) (solve p A b words)
+  pub vector-after : vector′ ≡ vectorAfter p A b words vector polynomial work
+  pub polynomial-after : polynomial′ ≡ polynomialAfter p A b words vector polynomial work
+  -- "every lent slice keeps its contents"
+  pub kept : solverRefusal p A b words vector polynomial work ≢ 0 → work′ ≡ work
+  -- the third condition of every run
+  pub condition : solverRefusal p A b words vector polynomial work ≡ 0 → ThirdCondition p A b words (solve p A b words)
+
+-- ---- the checks
+
+-- where nothing is refused, the checks of a run are passed
+pub run-passed : (p : ℕ) (A : Matrix) (b words vector polynomial work : List ℕ) → solverRefusal p A b words vector polynomial work ≡ 0
+    → first (runChecks p A b words) ≡ 0
+unfolding solverRefusal
+run-passed p A b words vector polynomial work e =
+    first-append-zero (runChecks p A b words)
+    (check 11 (not (eqb (length vector) (size A) && eqb (length polynomial) (size A + 1) && leb (16 * size A + 16) (length work))) ∷ [])
+    (numbered-run p A b words) e .0
+
+pub condition : (p : ℕ) (A : Matrix) (b words vector polynomial work : List ℕ) → solverRefusal p A b words vector polynomial work ≡ 0
+    → ThirdCondition p A b words (solve p A b words)
+condition p A b words vector polynomial work e = everyRun p A b words (run-passed p A b words vector polynomial work e)
+
+-- ---- two runs
+
+-- the kind of an answer that is no refusal
+abbrev pub kindOf : Verdict → Kind → Type 0
+kindOf (Solved c) k = k ≡ solved
+kindOf (Singular c) k = k ≡ singular
+kindOf (Refused n) k = ⊥
+
+pub record SameRun (p : ℕ) (A : Matrix) (b : List ℕ) (r r′ : Verdict) (vector vector′ polynomial polynomial′ : List ℕ) : Type 0 where
+  pub kind : Kind
+  pub this : kindOf r kind
+  pub that : kindOf r′ kind
+  pub same-vector : vector ≡ vector′
+  pub same-polynomial : polynomial ≡ polynomial′
+
+kind-says : (r : Verdict) (number : ℕ) (o : Outcome) → number ≡ 0 → Says r number o → kindOf r (o .kind)
+kind-says (Solved c) number o e s = s .1
+kind-says (Singular c) number o e s = s .1
+kind-says (Refused k) number o e s = s .1 (sym (s .0) ∙ e)
+
+module _ (p : ℕ) (A : Matrix) (b words v f w words₁ v₁ f₁ w₁ : List ℕ) (r r₁ : Verdict) (v′ f′ w′ v₁′ f₁′ w₁′ : List ℕ) where
+  pub same-run : Solves p A b words v f w r v′ f′ w′ → Solves p A b words₁ v₁ f₁ w₁ r₁ v₁′ f₁′ w₁′ → solverRefusal p A b words v f w ≡ 0
+      → solverRefusal p A b words₁ v₁ f₁ w₁ ≡ 0 → SameRun p A b r r₁ v′ v₁′ f′ f₁′
+  same-run s s₁ e e₁ =
+      record {
+        kind = solve p A b words .kind;
+        this = kind-says r (solverRefusal p A b words v f w) (solve p A b words) e (s .says);
+        that =
+            subst (kindOf r₁) (sym (same .kind))
+            (kind-says r₁ (solverRefusal p A b words₁ v₁ f₁ w₁) (solve p A b words₁) e₁ (s₁ .says));
+        same-vector =
+            s .vector-after ∙ ap (λ t. cond t (solve p A b words .vector) v) (eq-eqb (solverRefusal p A b words v f w) 0 e) ∙ same .vector
+            ∙ sym (s₁ .vector-after ∙ ap (λ t. cond t (solve p A b words₁ .vector) v₁) (eq-eqb (solverRefusal p A b words₁ v₁ f₁ w₁) 0 e₁));
+        same-polynomial =
+            s .polynomial-after ∙ ap (λ t. cond t (padded (size A + 1) (solve p A b words .polynomial)) f) (eq-eqb (solverRefusal p A b words v f w) 0 e)
+            ∙ ap (padded (size A + 1)) (same .polynomial)
+            ∙ sym (s₁ .polynomial-after ∙ ap (λ t. cond t (padded (size A + 1) (solve p A b words₁ .polynomial)) f₁) (eq-eqb (solverRefusal p A b words₁ v₁ f₁ w₁) 0 e₁));
+      }
+    where
+      same : SameAnswer (solve p A b words) (solve p A b words₁)
+      same = everyTwoRuns p A b words words₁ (run-passed p A b words v f w e) (run-passed p A b words₁ v₁ f₁ w₁ e₁)
+
+-- ---- the end
+
+abbrev pub closing : Counts → Counts
+closing c = record { degree = c .degree; passes = c .passes; applications = c .applications + (c .degree - 1) }
+
+abbrev pub Ends : Verdict → Kind → Counts → Type 0
+Ends (Solved c) k d = (k ≡ solved) × (c ≡ d)
+Ends (Singular c) k d = (k ≡ singular) × (c ≡ d)
+Ends (Refused n) k d = ⊥
+
+pub record Closed (p : ℕ) (A : Matrix) (b W : List ℕ) (c : Counts) (r : Verdict) (vector polynomial : List ℕ) : Type 0 where
+  pub ends : Ends r (verdict p A b (part 0 (c .degree + 1) W) (c .degree) .0) (closing c)
+  pub vector-is : vector ≡ verdict p A b (part 0 (c .degree + 1) W) (c .degree) .1
+  pub polynomial-is : polynomial ≡ padded (size A + 1) (part 0 (c .degree + 1) W)
+
+-- ---- G(A)b
+
+module _ {p : ℕ} {A : Matrix} {b W : List ℕ} {c : Counts} (s : System p A b) (q : Closable p A W c) (P : List ℕ)
+    (e : P ≡ padded (size A + 1) (part 0 (c .degree + 1) W)) where
+  sized : length (part 0 (c .degree + 1) W) ≡ c .degree + 1
+  sized = length-part 0 (c .degree + 1) W (omega (arith, q .found, q .room))
+
+  -- F[0] stands in the polynomial slice's first place
+  pub constant : at P 0 ≡ at (part 0 (c .degree + 1) W) 0
+  constant = ap (λ l. at l 0) e ∙ getD-table (size A + 1) (λ i. at (part 0 (c .degree + 1) W) i) 0 0 (omega arith)
+
+  -- G stands behind it
+  pub coefficients : part 1 (c .degree) P ≡ drop 1 (part 0 (c .degree + 1) W)
+  coefficients =
+      sym (part-of-take 1 (c .degree) (c .degree + 1) P (omega arith) (omega (arith, ap length e, length-table (size A + 1) (λ i. at (part 0 (c .degree + 1) W) i), q .found)))
+      ∙ ap (part 1 (c .degree)) front
+      ∙ take-all (c .degree) (drop 1 (part 0 (c .degree + 1) W)) (omega (arith, length-drop 1 (part 0 (c .degree + 1) W), sized))
+    where
+      front : take (c .degree + 1) P ≡ part 0 (c .degree + 1) W
+      front =
+          ap (take (c .degree + 1)) e ∙ ap (λ k. take k (padded (size A + 1) (part 0 (c .degree + 1) W))) (sym sized)
+          ∙ take-padded (size A + 1) (part 0 (c .degree + 1) W) (omega (arith, sized, q .found))
+
+  below : (i : ℕ) → i < c .degree → at (part 1 (c .degree) P) i < p
+  below i l =
+      subst (λ g. at g i < p) (sym coefficients)
+      (subst (λ x. x < p) (sym (getD-drop 1 (part 0 (c .degree + 1) W) i 0 ∙ at-part 0 (c .degree + 1) W (1 + i) (omega (arith, l))))
+      (q .elements (0 + (1 + i)) (omega (arith, l))))
+
+  module _ (some : c .degree ≢ 0) (out work : List ℕ) (places : length out ≡ size A) (room : length work ≡ length W) where
+    long : length (part 1 (c .degree) P) ≡ c .degree
+    long = ap length coefficients ∙ length-drop 1 (part 0 (c .degree + 1) W) ∙ omega (arith, sized)
+
+    not-refused : applyRefusal p A (part 1 (c .degree) P) b out work ≡ 0
+    unfolding applyRefusal
+    not-refused =
+        first-append-none (matrixChecks p A) _ (numbered-matrix p A) (s .checked)
+        ∙ first-pass 8 _ _
+        (and-both
+        (and-both (le-leb 1 (length (part 1 (c .degree) P)) (omega (arith, long, some))) (le-leb (length (part 1 (c .degree) P)) (size A + 1) (omega (arith, long, q .found))))
+        (eq-eqb (length b) (size A) (s .accepted .size-b)))
+        (first-pass 9 _ _
+        (and-both
+        (vector-elements p (c .degree) (part 1 (c .degree) P) (record { places = long; below = below }))
+        (vector-elements p (length b) b (record { places = refl; below = s .accepted .reduced-b })))
+        (first-pass 11 _ [] (and-both (eq-eqb (length out) (size A) places) (le-leb (2 * size A) (length work) (omega (arith, room, q .room)))) first-nil))
+
+    -- what g(A)b leaves in the vector slice
+    pub image : (m : ℕ) → m ≡ c .degree → applyAfter p A (part 1 m P) b out work ≡ apply p A (drop 1 (part 0 (c .degree + 1) W)) b
+    image m h =
+        ap (λ k. applyAfter p A (part 1 k P) b out work) h
+        ∙ unlessRefused-none (applyRefusal p A (part 1 (c .degree) P) b out work) _ _ not-refused
+        ∙ ap (λ g. apply p A g b) coefficients
+
+-- what the whole run found
+pub record Found (p : ℕ) (A : Matrix) (b words : List ℕ) (r : Verdict) (vector polynomial : List ℕ) : Type 0 where
+  pub says : Says r 0 (solve p A b words)
+  pub vector-is : vector ≡ solve p A b words .vector
+  pub polynomial-is : polynomial ≡ padded (size A + 1) (solve p A b words .polynomial)
+
+pub closed : {p : ℕ} {A : Matrix} {b words W : List ℕ} {c : Counts} {r : Verdict} {vector polynomial : List ℕ} → Finished p A b words W c
+    → Closed p A b W c r vector polynomial → Found p A b words r vector polynomial
+unfolding solve close
+closed {p} {A} {b} {words} {W} {c} {r} {vector} {polynomial} f q =
+    record {
+      says = subst (λ o. Says r 0 o) outcome (go r (q .ends));
+      vector-is = q .vector-is ∙ ap (λ (o : Outcome). o .vector) outcome;
+      polynomial-is = q .polynomial-is ∙ ap (λ (o : Outcome). padded (size A + 1) (o .polynomial)) outcome;
+    }
+  where
+    here : Run
+    here = held (size A) W (c .degree) (f .made)
+
+    outcome : close p A b here ≡ solve p A b words
+    outcome = ap (close p A b) (f .state)
+
+    counted : (d : Counts) → d ≡ closing c → Counted d (close p A b here)
+    counted d e = subst (λ k. Counted k (close p A b here)) (sym e) (record { degree = refl; passes = f .passes; applications = ap (λ k. k + (c .degree - 1)) (f .applications) })
+
+    go : (r : Verdict) → Ends r (verdict p A b (part 0 (c .degree + 1) W) (c .degree) .0) (closing c) → Says r 0 (close p A b here)
+    go (Solved d) e = (refl, e .0, counted d (e .1))
+    go (Singular d) e = (refl, e .0, counted d (e .1))
+    go (Refused n) e = absurd e
+
+-- ---- the call
+
+module _ (p : ℕ) (A : Matrix) (b words v f w : List ℕ) where
+  pub refused : (k : ℕ) → solverRefusal p A b words v f w ≡ k → k ≢ 0 → Solves p A b words v f w (Refused k) v f w
+  refused k e q =
+      record {
+        says = (e, q);
+        vector-after = sym (ap (λ t. cond t (solve p A b words .vector) v) off);
+        polynomial-after = sym (ap (λ t. cond t (padded (size A + 1) (solve p A b words .polynomial)) f) off);
+        kept = λ z. refl;
+        condition = condition p A b words v f w;
+      }
+    where
+      off : eqb (solverRefusal p A b words v f w) 0 ≡ false
+      off = ne-eqb (solverRefusal p A b words v f w) 0 (λ z. q (sym e ∙ z))
+
+  pub taken : {r : Verdict} {v′ f′ w′ : List ℕ} → solverRefusal p A b words v f w ≡ 0 → Found p A b words r v′ f′ → Solves p A b words v f w r v′ f′ w′
+  taken {r} e q =
+      record {
+        says = subst (λ k. Says r k (solve p A b words)) (sym e) (q .says);
+        vector-after = q .vector-is ∙ sym (ap (λ t. cond t (solve p A b words .vector) v) on);
+        polynomial-after = q .polynomial-is ∙ sym (ap (λ t. cond t (padded (size A + 1) (solve p A b words .polynomial)) f) on);
+        kept = λ z. absurd (z e);
+        condition = condition p A b words v f w;
+      }
+    where
+      on : eqb (solverRefusal p A b words v f w) 0 ≡ true
+      on = eq-eqb (solverRefusal p A b words v f w) 0 e

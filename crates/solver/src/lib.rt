@@ -1,0 +1,256 @@
+// The solver: passes with the random words and then the unit vectors until r is zero, and what F makes of b then. Its work slice is laid out as the
+// pass has it (wiedemann::pass); the vector and polynomial slices are written at the very end.
+//
+// The contracts cite the crate meaning (Solver: the run and its end; Calls: what a call refuses, answers and leaves), specs/Run.antt (what the work slice
+// holds between two passes) and specs/Verdict.antt (what an answer says, and the third condition).
+ghost use mathlib.Core.Path.{_≡_};
+ghost use mathlib.Core.Bool.{true};
+ghost use mathlib.Core.List.{[]};
+ghost use Prim.Native.Nat.{_+_, _-_, _*_, _≤_, _<_};
+ghost use lib.ListN.{length};
+ghost use Rattle.meaning.specs.List.{at, table, padded, isZero};
+ghost use Rattle.meaning.specs.Field.{minus, times};
+ghost use Rattle.meaning.specs.Matrix.{matrix};
+ghost use Rattle.meaning.specs.Refusal.{wordsTaken};
+ghost use Rattle.meaning.specs.Solver.{begin};
+ghost use Rattle.checks.specs.Valid.{Vector};
+ghost use Rattle.wiedemann.specs.Region.{part};
+ghost use Rattle.wiedemann.specs.Pass.{residualAt, held};
+ghost use Rattle.solver.specs.Run.{System, none, counted, Finished, Closable};
+ghost use Rattle.solver.specs.Verdict.{closing, Closed, Solves};
+use checks::solver_refusal;
+use field::Field;
+use field::inverse_modulo;
+use wiedemann::matrix::apply;
+use wiedemann::pass::Pass;
+use wiedemann::pass::Passed;
+use wiedemann::pass::make_pass;
+use wiedemann::pass::residual_at;
+use wiedemann::slice::element;
+use wiedemann::slice::is_zero;
+
+// D, the passes and the applications.
+pub struct Counts {
+    pub degree: usize,
+    pub passes: u64,
+    pub applications: u64,
+}
+
+// What a run answers. No 'failed' kind exists.
+pub enum Verdict {
+    Solved(Counts),
+    Singular(Counts),
+    // The number of the first check that turned the input down.
+    Refused(u32),
+}
+
+// ---- slices
+
+// The source into out, zeros after it.
+fn write_padded(source: &[u32], out: &mut [u32])
+    ensures { λ _. ⌜ now (out .exit) ≡ padded (length (now (out .entry))) (now (source .entry)) ⌝ }
+{
+    let mut i = 0;
+    while i < out.len() {
+        out[i] = element(source, i);
+        i += 1;
+    }
+}
+
+// −w × inverse modulo p.
+fn quotient(p: u32, w: u32, inverse: u32) -> u32
+    requires { ⌜ (w < p) × (p ≤ 2147483647) ⌝ }
+    ensures { λ r. ⌜ r ≡ times p (minus p 0 w) inverse ⌝ }
+{
+    let negative = if w == 0 { 0 } else { p - w };
+    ((negative as u64) * (inverse as u64) % (p as u64)) as u32
+}
+
+// Each element w becomes −w × inverse. A division for an element, once in a run.
+fn divide(p: u32, inverse: u32, v: &mut [u32])
+    requires { ⌜ (p ≤ 2147483647) × Vector p (length (now v)) (now v) ⌝ }
+    ensures { λ _. ⌜ now (v .exit) ≡ table (length (now (v .entry))) (λ i. times p (minus p 0 (at (now (v .entry)) i)) inverse) ⌝ }
+{
+    let mut i = 0;
+    while i < v.len() {
+        v[i] = quotient(p, v[i], inverse);
+        i += 1;
+    }
+}
+
+// ---- the run
+
+// r = b, F = 1, D = 0.
+fn begin(b: &[u32], work: &mut [u32]) -> Counts
+    requires { ⌜ (length (now b) ≤ 4096) × (16 * length (now b) + 16 ≤ length (now work)) ⌝ }
+    ensures { λ c. ⌜ (c ≡ none) × (length (now (work .exit)) ≡ length (now (work .entry)))
+        × (held (length (now (b .entry))) (now (work .exit)) 0 [] ≡ begin (now (b .entry))) ⌝ }
+{
+    let from = residual_at(b.len() as u32);
+    let to = from + b.len();
+    write_padded(b, &mut work[from..to]);
+    work[0] = 1;
+    Counts {
+        degree: 0,
+        passes: 0,
+        applications: 0,
+    }
+}
+
+// Whether r is zero.
+fn is_settled(n: usize, work: &[u32]) -> bool
+    requires { ⌜ (n ≤ 4096) × (16 * n + 16 ≤ length (now work)) ⌝ }
+    ensures { λ r. ⌜ r ≡ isZero (part (residualAt n) n (now (work .entry))) ⌝ }
+{
+    let from = residual_at(n as u32);
+    let to = from + n;
+    is_zero(&work[from..to])
+}
+
+// The counts after a pass.
+fn count(c: Counts, q: Pass) -> Counts
+    requires { ⌜ (c .degree ≤ 4096) × (c .passes < 65536) × (c .applications < 4294967296) × (q .degree ≤ 8192) × (q .applications ≤ 16384) ⌝ }
+    ensures { λ r. ⌜ r ≡ counted c q ⌝ }
+{
+    Counts {
+        degree: c.degree + q.degree,
+        passes: c.passes + 1,
+        applications: c.applications + q.applications,
+    }
+}
+
+// While r is not zero, a pass with the next projection. A pass of a run's own state is never refused.
+fn run(
+    field: Field,
+    starts: &[u32],
+    columns: &[u32],
+    values: &[u32],
+    b: &[u32],
+    words: &[u32],
+    work: &mut [u32],
+) -> Counts
+    requires { ⌜ System (field .p) (matrix (now starts) (now columns) (now values)) (now b) ⌝ }
+    requires { ⌜ (wordsTaken (length (now starts) - 1) (now words) ≡ true) × (16 * (length (now starts) - 1) + 16 ≤ length (now work)) ⌝ }
+    ensures { λ c. ⌜ Finished (field .p) (matrix (now (starts .entry)) (now (columns .entry)) (now (values .entry)))
+        (now (b .entry)) (now (words .entry)) (now (work .exit)) c ⌝ }
+{
+    let n = starts.len() - 1;
+    let mut c = begin(b, work);
+    let mut j = 0;
+    while !is_settled(n, work) {
+        let answer = make_pass(field, starts, columns, values, words, j, c.degree, work);
+        let Passed::Made(q) = answer else {
+            return c;
+        };
+        c = count(c, q);
+        j += 1;
+    }
+    c
+}
+
+// ---- the end
+
+// The counts at the end: D − 1 applications more for G(A)b, where D is at least 1.
+fn closed(c: Counts) -> Counts
+    requires { ⌜ (c .degree ≤ 4096) × (c .applications ≤ 134217728) ⌝ }
+    ensures { λ r. ⌜ r ≡ closing c ⌝ }
+{
+    let d = c.degree;
+    let more = if d == 0 { 0 } else { d - 1 };
+    Counts {
+        degree: d,
+        passes: c.passes,
+        applications: c.applications + more as u64,
+    }
+}
+
+// When r is zero: F into the polynomial slice, and what it makes of b into the vector slice. G is F without its first coefficient.
+fn finish(
+    field: Field,
+    starts: &[u32],
+    columns: &[u32],
+    values: &[u32],
+    b: &[u32],
+    work: &mut [u32],
+    c: Counts,
+    vector: &mut [u32],
+    polynomial: &mut [u32],
+) -> Verdict
+    requires { ⌜ System (field .p) (matrix (now starts) (now columns) (now values)) (now b) ⌝ }
+    requires { ⌜ Closable (field .p) (matrix (now starts) (now columns) (now values)) (now work) c ⌝ }
+    requires { ⌜ (length (now vector) ≡ length (now starts) - 1) × (length (now polynomial) ≡ length (now starts) - 1 + 1) ⌝ }
+    ensures { λ r. ⌜ Closed (field .p) (matrix (now (starts .entry)) (now (columns .entry)) (now (values .entry)))
+        (now (b .entry)) (now (work .entry)) c r (now (vector .exit)) (now (polynomial .exit)) ⌝ }
+{
+    let front: usize = 0;
+    let one: usize = 1;
+    let d = c.degree;
+    let end = d + 1;
+    write_padded(&work[front..end], polynomial);
+    if d == 0 {
+        let n = b.len();
+        write_padded(&b[n..], vector);
+        return Verdict::Solved(closed(c));
+    }
+    apply(
+        field,
+        starts,
+        columns,
+        values,
+        &polynomial[one..end],
+        b,
+        vector,
+        work,
+    );
+    let constant = polynomial[front];
+    if constant == 0 {
+        return Verdict::Singular(closed(c));
+    }
+    divide(field.p, inverse_modulo(field.p, constant), vector);
+    Verdict::Solved(closed(c))
+}
+
+// Solves Ax = b, or finds a vector that is not zero and that A takes to zero, by passes with the random words and then the unit vectors. Whatever
+// the words are, kind, vector and polynomial are those of A and b.
+pub fn solve(
+    field: Field,
+    starts: &[u32],
+    columns: &[u32],
+    values: &[u32],
+    b: &[u32],
+    words: &[u32],
+    vector: &mut [u32],
+    polynomial: &mut [u32],
+    work: &mut [u32],
+) -> Verdict
+    ensures { λ r. ⌜ Solves (field .p) (matrix (now (starts .entry)) (now (columns .entry)) (now (values .entry))) (now (b .entry))
+        (now (words .entry)) (now (vector .entry)) (now (polynomial .entry)) (now (work .entry)) r
+        (now (vector .exit)) (now (polynomial .exit)) (now (work .exit)) ⌝ }
+{
+    let number = solver_refusal(
+        field.p,
+        starts,
+        columns,
+        values,
+        b,
+        words,
+        vector,
+        polynomial,
+        work,
+    );
+    if number != 0 {
+        return Verdict::Refused(number);
+    }
+    let c = run(field, starts, columns, values, b, words, work);
+    finish(
+        field,
+        starts,
+        columns,
+        values,
+        b,
+        work,
+        c,
+        vector,
+        polynomial,
+    )
+}

@@ -1,0 +1,151 @@
+#!/usr/bin/env python3
+"""Calls of the solver, and what they must answer and leave. ../test_io/generator.py says how it is run. The answers come from the reference program
+(evidence/reference.py), which was written from document 01 alone; where a system is solved or singular they are checked here against dense elimination.
+"""
+import pathlib
+import random
+import sys
+
+sys.dont_write_bytecode = True
+crates = pathlib.Path(__file__).resolve().parent.parent
+sys.path[:0] = [str(crates / 'test_io'), str(crates.parent / 'evidence')]
+import reference  # noqa: E402
+from generator import FREE, listed, printed, run, shown  # noqa: E402
+
+dice = random.Random(20261115)
+calls, answers = [], []
+
+
+def rank(p, rows):
+    rows, done = [list(r) for r in rows], 0
+    for k in range(len(rows[0]) if rows else 0):
+        pivot = next((i for i in range(done, len(rows)) if rows[i][k] % p), None)
+        if pivot is None:
+            continue
+        rows[done], rows[pivot] = rows[pivot], rows[done]
+        inverse = pow(rows[done][k], -1, p)
+        rows[done] = [x * inverse % p for x in rows[done]]
+        for i in range(len(rows)):
+            if i != done and rows[i][k]:
+                c = rows[i][k]
+                rows[i] = [(x - c * y) % p for x, y in zip(rows[i], rows[done])]
+        done += 1
+    return done
+
+
+def dense(starts, columns, values):
+    n = len(starts) - 1
+    rows = [[0] * n for _ in range(n)]
+    for i in range(n):
+        for k in range(starts[i], starts[i + 1]):
+            rows[i][columns[k]] = values[k]
+    return rows
+
+
+def add(p, starts, columns, values, b, words, vector=None, polynomial=None, work=None):
+    n = max(len(starts) - 1, 0)
+    vector = n if vector is None else vector
+    polynomial = n + 1 if polynomial is None else polynomial
+    work = 16 * n + 16 if work is None else work
+    calls.append([[p, vector, polynomial, work], starts, columns, values, b, words])
+    answer = reference.solve(p, starts, columns, values, b, words, [FREE] * vector, [FREE] * polynomial, [0] * work)
+    if answer[0] == 'refused':
+        answers.append(printed(answer[1]) + shown([FREE] * vector) + shown([FREE] * polynomial) + shown([FREE] * work))
+        return
+    _, kind, D, passes, applications, x, F = answer
+    answers.append(printed(0, kind == 'solved', D, passes, applications) + shown(x) + shown(F) + shown([]))
+    if n <= 24:
+        A = dense(starts, columns, values)
+        image = [sum(c * y for c, y in zip(row, x)) % p for row in A]
+        if kind == 'solved':
+            assert image == b
+        else:
+            assert any(x) and not any(image) and rank(p, A) < n
+
+
+def system(p, n, density, deficient=0):
+    rows = [{j: dice.randrange(1, p) for j in range(n) if dice.random() < density} for _ in range(n)]
+    for _ in range(deficient):
+        rows[dice.randrange(n)] = {}
+    starts, columns, values = [0], [], []
+    for row in rows:
+        for j in sorted(row):
+            columns.append(j)
+            values.append(row[j])
+        starts.append(len(columns))
+    return starts, columns, values
+
+
+def vector(p, n, zeros=0.0):
+    return [0 if dice.random() < zeros else dice.randrange(p) for _ in range(n)]
+
+
+def words_for(p, n):
+    """Words that leave restarts to the solver: none, zeros, multiples of p, repeated vectors, any."""
+    kind = dice.randrange(6)
+    if kind == 0:
+        return []
+    if kind == 1:
+        return [0] * n * dice.randrange(1, 4)
+    if kind == 2:
+        return [p * dice.randrange(4294967296 // p) for _ in range(n * dice.randrange(1, 4))]
+    if kind == 3:
+        return vector(p, n) * dice.randrange(1, 4)
+    return [dice.randrange(4294967296) for _ in range(n * dice.randrange(1, 4))]
+
+
+diag = ([0, 1, 2], [0, 1], [2, 3])
+upper = ([0, 1, 1], [1], [1])
+add(7, [0, 2, 3], [0, 1, 1], [2, 1, 3], [1, 1], [])
+for words in ([], [1, 1], [0, 0], [8, 8]):
+    add(7, *diag, [1, 1], words)
+add(7, *diag, [0, 1], [])
+add(7, *upper, [0, 1], [])
+add(7, *upper, [1, 0], [])
+add(7, *diag, [0, 0], [])
+add(7, *diag, [0, 0], [3, 4])
+add(2, [0, 1], [0], [1], [1], [])
+add(2147483647, *diag, [1, 1], [])
+add(2147483646, *diag, [1, 1], [])
+add(1, *diag, [1, 1], [])
+add(0, *diag, [1, 1], [])
+for count in (128, 127, 130, 126):
+    add(7, *diag, [1, 1], [dice.randrange(4294967296) for _ in range(count)])
+# what is refused, with the number of the first check
+add(7, [], [], [], [], [], 0, 1, 16)
+add(7, [0], [], [], [], [], 0, 1, 16)
+add(7, [1, 1, 2], [0, 1], [2, 3], [1, 1], [])
+add(7, [0, 2, 1], [0, 1], [2, 3], [1, 1], [])
+add(7, [0, 1, 1], [0, 1], [2, 3], [1, 1], [])
+add(7, [0, 1, 2], [0, 1], [2, 3, 4], [1, 1], [])
+add(7, [0, 2, 2], [1, 0], [2, 3], [1, 1], [])
+add(7, [0, 2, 2], [1, 1], [2, 3], [1, 1], [])
+add(7, [0, 1, 2], [0, 2], [2, 3], [1, 1], [])
+add(7, [0, 1, 2], [0, 1], [0, 3], [1, 1], [])
+add(7, [0, 1, 2], [0, 1], [7, 3], [1, 1], [])
+add(7, *diag, [1], [])
+add(7, *diag, [1, 1, 1], [])
+add(7, *diag, [1, 7], [])
+add(7, *diag, [7, 1], [1])
+add(7, *diag, [1, 1], [], 1)
+add(7, *diag, [1, 1], [], 3)
+add(7, *diag, [1, 1], [], 2, 2)
+add(7, *diag, [1, 1], [], 2, 4)
+add(7, *diag, [1, 1], [], 2, 3, 47)
+add(7, *diag, [1, 1], [], 2, 3, 49)
+# random systems, singular and not; many small ones over small fields, where restarts are common
+for p, count, most in ((2, 110, 24), (3, 90, 24), (7, 60, 24), (65537, 40, 20), (2147483647, 40, 20)):
+    for _ in range(count):
+        n = dice.randrange(1, most + 1)
+        deficient = dice.choice((0, 0, 0, 1, 2))
+        A = system(p, n, min(1.0, dice.choice((1.5, 3.0, 5.0)) / n), deficient)
+        add(p, *A, vector(p, n, dice.choice((0.0, 0.5, 0.9))), words_for(p, n))
+for p, n in ((2, 60), (3, 60), (7, 57), (65537, 60), (2147483647, 60), (2, 211), (65537, 256), (2147483647, 300)):
+    add(p, *system(p, n, 4.0 / n), vector(p, n), words_for(p, n) if n < 100 else [])
+
+
+def make():
+    return listed(calls), ''.join(a + '\n' for a in answers).encode(), '%d calls' % len(calls)
+
+
+run(__file__, make)

@@ -1,0 +1,86 @@
+-- `text_call_test::main` is safe and ends: each turn leaves fewer calls.
+use Prim.Native.Nat.{_-_, _≤_}
+use borrow.Author.Needs.{needs}
+use Rattle.text_call_test.proofs.main.Statement.{statement}
+use Rattle.text_call_test.proofs.main.Tie as tie
+
+abbrev Inv-loop : tie.InvT-loop
+Inv-loop memory lists calls from₀ k₀ from k = k ≤ calls
+
+abbrev μ-loop : tie.MeasureT-loop
+μ-loop memory lists calls from₀ k₀ from k = calls - k
+
+text-memory-requires : tie.Need-text-memory-requires Inv-loop μ-loop
+text-memory-requires c κs = search needs
+
+memory-requires : tie.Need-memory-requires Inv-loop μ-loop
+memory-requires c κs = search needs
+
+slice-aggregate-read-full : tie.Need-slice-aggregate-read-full Inv-loop μ-loop
+slice-aggregate-read-full c = search needs
+
+read-full-requires : tie.Need-read-full-requires Inv-loop μ-loop
+read-full-requires c κs = search needs
+
+slice-aggregate-memory : tie.Need-slice-aggregate-memory Inv-loop μ-loop
+slice-aggregate-memory c = search needs
+
+slice-aggregate-numbers-of : tie.Need-slice-aggregate-numbers-of Inv-loop μ-loop
+slice-aggregate-numbers-of c = search needs
+
+numbers-of-requires : tie.Need-numbers-of-requires Inv-loop μ-loop
+numbers-of-requires c κs = search needs
+
+slice-aggregate-lists : tie.Need-slice-aggregate-lists Inv-loop μ-loop
+slice-aggregate-lists c = search needs
+
+at-requires : tie.Need-at-requires Inv-loop μ-loop
+at-requires c κs = search needs
+
+loop-holds : tie.Need-loop-holds Inv-loop μ-loop
+loop-holds c = search needs
+
+list-requires : tie.Need-list-requires Inv-loop μ-loop
+list-requires c κs = search needs
+
+call-requires : tie.Need-call-requires Inv-loop μ-loop
+call-requires c κs = search needs
+
+after-requires : tie.Need-after-requires Inv-loop μ-loop
+after-requires c κs = search needs
+
+add-k : tie.Need-add-k Inv-loop μ-loop
+add-k c = search needs
+
+loop-less : tie.Need-loop-less Inv-loop μ-loop
+loop-less c = search needs
+
+loop-again : tie.Need-loop-again Inv-loop μ-loop
+loop-again c = search needs
+
+returns : tie.Need-returns Inv-loop μ-loop
+returns c = search needs
+
+pub main-spec : {M : Type 1} → statement M
+main-spec =
+    tie.close
+    (tie.spec
+    Inv-loop
+    μ-loop
+    text-memory-requires
+    memory-requires
+    slice-aggregate-read-full
+    read-full-requires
+    slice-aggregate-memory
+    slice-aggregate-numbers-of
+    numbers-of-requires
+    slice-aggregate-lists
+    at-requires
+    loop-holds
+    list-requires
+    call-requires
+    after-requires
+    add-k
+    loop-less
+    loop-again
+    returns)

@@ -1,0 +1,167 @@
+#!/usr/bin/env python3
+"""Calls of the text call and of the program's output, and what they must return and leave. ../test_io/generator.py says how it is run. The answers come
+from the reference program (evidence/reference.py), which was written from document 01 alone.
+"""
+import pathlib
+import random
+import sys
+
+sys.dont_write_bytecode = True
+crates = pathlib.Path(__file__).resolve().parent.parent
+sys.path[:0] = [str(crates / 'test_io'), str(crates.parent / 'evidence')]
+import reference  # noqa: E402
+from generator import FREE_BYTE, Texts, printed, run, shown_bytes  # noqa: E402
+
+LEAST = 4608
+dice = random.Random(20261116)
+calls, answers, numbers, texts = [], [], {}, Texts()
+
+
+def add(text, room=LEAST, letter='c'):
+    calls.append([['co'.index(letter), room, *texts.place(text)]])
+    lent = bytes([FREE_BYTE]) * room
+    if letter == 'o':
+        shown = reference.program(text) if room >= LEAST else b''
+        answers.append((printed(len(shown)) + shown_bytes(lent[len(shown):]) + '\n').encode() + shown)
+        return
+    answer = reference.text_call(text, lent)
+    number = answer[1] if answer[0] == 'refused' else 0
+    numbers[number] = numbers.get(number, 0) + 1
+    if number:
+        answers.append((printed(number) + shown_bytes(lent) + '\n').encode())
+        return
+    assert answer[1] > 18 and answer[2][answer[1]:] == lent[answer[1]:]
+    answers.append((printed(answer[1]) + shown_bytes(lent[answer[1]:]) + '\n').encode() + answer[2][:answer[1]])
+
+
+def text_of(p, n, a, b, count=None, end='end\n'):
+    rows = [('system', p, n, len(a) if count is None else count)] + [('a',) + e for e in a] + [('b',) + e for e in b]
+    return (''.join('\t'.join(str(x) for x in r) + '\n' for r in rows) + end).encode()
+
+
+def system(p, n, entries, zeros=0.0, empty=0, least=1):
+    """A random system: about so many entries, the share of zeros in b, rows left empty."""
+    rows = list(range(1, n + 1))
+    for i in dice.sample(rows, empty):
+        rows.remove(i)
+    places = [(i, j) for i in rows for j in range(1, n + 1)]
+    chosen = sorted(dice.sample(places, min(entries, len(places))))
+    a = [(i, j, dice.randrange(min(least, p - 1), p)) for i, j in chosen]
+    b = [(i, dice.randrange(1, p)) for i in range(1, n + 1) if dice.random() >= zeros]
+    return a, b
+
+
+first = text_of(7, 2, [(1, 1, 2), (1, 2, 1), (2, 2, 3)], [(1, 1), (2, 1)])
+diag = [(1, 1, 2), (2, 2, 3)]
+
+# document 01's cases
+for text in (
+    first,
+    text_of(7, 2, diag, [(1, 1), (2, 1)]),
+    text_of(7, 2, diag, [(2, 1)]),
+    text_of(7, 2, [(1, 2, 1)], [(2, 1)]),
+    text_of(7, 2, [(1, 2, 1)], [(1, 1)]),
+    text_of(7, 2, diag, []),
+    text_of(2, 1, [(1, 1, 1)], [(1, 1)]),
+    text_of(2147483647, 2, diag, [(1, 1), (2, 1)]),
+    text_of(2147483646, 2, diag, [(1, 1), (2, 1)]),
+    text_of(1, 2, diag, [(1, 1), (2, 1)]),
+):
+    add(text)
+    add(text, letter='o')
+
+# each size from 1 to 128; systems solved and singular, with restarts over small fields
+for n in range(1, 129):
+    p = dice.choice((2, 3, 7, 65537, 2147483647))
+    add(text_of(p, n, *system(p, n, 4, 0.8)))
+for p in (2, 3, 7, 65537, 2147483647):
+    for n in (1, 2, 3, 9, 10, 30):
+        for empty in (0, 1):
+            add(text_of(p, n, *system(p, n, 3 * n, dice.choice((0.0, 0.5)), empty if n > 1 else 0)))
+for p, n in ((2, 100), (3, 99), (7, 128), (65537, 127), (2147483647, 128)):
+    add(text_of(p, n, *system(p, n, 4 * n)))
+    add(text_of(p, n, *system(p, n, 4 * n, 0.5, 3)))
+
+# the limits: 128 rows and 1,024 entries are taken, one more of either gets 11; the longest answers
+high = 2147483647
+most = system(high, 128, 1024, least=10 ** 9)
+ring = [(i, i % 128 + 1, high - i) for i in range(1, 129)]
+add(text_of(high, 128, *most))
+add(text_of(high, 128, ring, [(1, high - 1)]))
+add(text_of(high, 128, ring, [(1, high - 1)]), letter='o')
+add(text_of(high, 128, *system(high, 128, 1025)))
+for n in (129, 130, 4096):
+    add(text_of(high, n, ring, [(1, 5)]))
+    add(text_of(high, n, ring, [(1, 5)]), letter='o')
+add(text_of(2, 128, [(i, j, 1) for i in range(1, 129) for j in range(1, 9)], [(128, 1)]))
+add(text_of(2, 128, [(i, j, 1) for i in range(1, 129) for j in range(1, 9)] + [(128, 128, 1)], [(128, 1)]))
+add(text_of(2, 128, [], [(128, 1)]))
+add(text_of(2, 128, [], []))
+
+# 24,576 bytes are read, 24,577 get 1, whatever they hold
+for size in (24576, 24577):
+    a, b = system(high, 128, 1200, least=10 ** 9)
+    while len(text_of(high, 128, a, b)) > size + 20:
+        a.pop()
+    for k in range(3):
+        excess = min(9, len(text_of(high, 128, a, b)) - size)
+        a[k] = a[k][:2] + (a[k][2] // 10 ** excess,)
+    assert len(text_of(high, 128, a, b)) == size
+    add(text_of(high, 128, a, b))
+    assert answers[-1].startswith(b' 11 ' if size == 24576 else b' 1 ')
+add(first * 463 + first[:37])
+add(first * 463 + first[:38])
+add(first * 463 + first[:38], 0)
+add(first * 463 + first[:38], letter='o')
+
+# the answer slice: at least 4,608 bytes, 11 after all other checks
+for room in (0, 1, 18, 48, 4607, 4608, 4609, 4700):
+    add(first, room)
+    add(first, room, 'o')
+for text in (
+    first[:-1],
+    text_of(9, 2, diag, []),
+    text_of(7, 0, [], []),
+    text_of(7, 2, diag, [], 3),
+    text_of(7, 2, diag[::-1], []),
+    text_of(7, 2, diag, [(1, 7)]),
+):
+    add(text, 4607)
+    add(text, 4700)
+    add(text, letter='o')
+
+# each refusal, and which comes first where two apply
+faults = {
+    2: lambda d: d.update(end='end'),
+    3: lambda d: d.update(p=8),
+    4: lambda d: d.update(n=4097),
+    5: lambda d: d.update(count=9),
+    6: lambda d: d.update(b=[(2, d['b'][0][1]), (2, 1)]),
+    7: lambda d: d.update(b=[(d['b'][0][0], 8)] + d['b'][1:]),
+    11: lambda d: d.update(n=max(129, d['n'])),
+}
+for i in faults:
+    for j in faults:
+        if i <= j:
+            d = dict(p=7, n=3, a=[(1, 1, 1), (2, 3, 5)], b=[(1, 6)], count=2, end='end\n')
+            faults[i](d)
+            faults[j](d)
+            add(text_of(**d))
+
+# a byte changed, dropped or doubled
+some = text_of(11, 3, [(1, 2, 10), (2, 1, 3), (3, 3, 4)], [(2, 5)])
+for _ in range(40):
+    i = dice.randrange(len(some))
+    byte = bytes([dice.choice(b'\t\n 0159absx\0\xff')])
+    add(dice.choice((some[:i] + byte + some[i + 1:], some[:i] + some[i + 1:], some[:i] + some[i:i + 1] + some[i:])))
+add(b'')
+add(b'', letter='o')
+
+assert set(numbers) == {0, 1, 2, 3, 4, 5, 6, 7, 11}, numbers
+
+
+def make():
+    return texts.behind(calls), b''.join(answers), '%d calls %s' % (len(calls), sorted(numbers.items()))
+
+
+run(__file__, make)
