@@ -29,7 +29,7 @@ fn numbers_of_system(reading: Reading) -> System
     ensures { λ r. ⌜ r ≡ systemOf (refusalOfRead reading) (modulusOfRead reading) (sizeOfRead reading) (countOfRead reading) ⌝ }
 {
     match reading {
-        Reading::System(modulus, size, entries) => System {
+        Reading::Read(modulus, size, entries) => System {
             refusal: 0,
             modulus,
             size,

@@ -11,7 +11,7 @@ use native.Mathlib.Omega.{arith}
 use native.Mathlib.Nat.{add-zero}
 use native.Mathlib.Numerals.{add-one}
 use lib.Dec.{eqb, ltb, leb}
-use lib.ListN.{getD, length, take, drop, set, replicate, length-append, length-drop, length-set, length-map, take-append-drop, drop-of-length-le, List·getD-map}
+use lib.ListN.{getD, length, take, drop, set, replicate, length-drop, length-set, length-map, take-append-drop, drop-of-length-le, List·getD-map}
 use lib.Seq.{sets, drop-cons, take-suc, take-length, length-take-le, set-at, append-snoc, drop-drop}
 use borrow.Author.Tests.{leb-true, le-leb, lt-leb, ltb-true, eqb-true, not-true}
 use Rattle.meaning.specs.List.{at, table, every, select, overwrite}
@@ -58,12 +58,6 @@ front-fill m (suc d) v g old l h =
     ∙ ap (λ t. sets t (suc m) (replicate d v)) (front-set m g old (omega arith))
     ∙ front-fill (suc m) d v g old (omega arith) (λ i a b. h i (omega arith) (omega arith))
     ∙ ap (λ j. table j g ++ drop j old) e
-
-pub length-front : (m : ℕ) (g : ℕ → ℕ) (old : List ℕ) → m ≤ length old → length (table m g ++ drop m old) ≡ length old
-length-front m g old l = length-append (table m g) (drop m old) ∙ omega (arith, length-table m g, length-drop m old)
-
-pub length-laid : (new old : List ℕ) (k : ℕ) → k ≤ length new → k ≤ length old → length (take k new ++ drop k old) ≡ length old
-length-laid new old k l m = length-append (take k new) (drop k old) ∙ omega (arith, length-take-le k new l, length-drop k old)
 
 -- ---- selections of lines
 

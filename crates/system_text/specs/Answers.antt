@@ -2,28 +2,30 @@
 --     refusalOfRead, modulusOfRead, sizeOfRead, countOfRead        what the reader answers
 --     refusalOfWritten, lengthOfWritten                            what the writer answers
 --     modulusOfDocument, .., rightOfSystem                         the parts of a document and of a system by name
+--     startsAfter, columnsAfter, valuesAfter, rightAfter           what the reader leaves in its slices
 use mathlib.Core.List.{List}
 use Prim.Native.Nat.{ℕ}
 use Rattle.meaning.specs.Text.{Document, System}
+use Rattle.meaning.specs.Calls.{readerAfter}
 use Rattle.system_text.specs.declared.reader.Reading.{Reading}
-use Rattle.system_text.specs.declared.reader.Reading.the-variants.{System as TheSystem, Refused}
+use Rattle.system_text.specs.declared.reader.Reading.the-variants.{Read, Refused}
 use Rattle.system_text.specs.declared.writer.Written.{Written}
 use Rattle.system_text.specs.declared.writer.Written.the-variants.{Length, Refused as RefusedWriting}
 
 abbrev pub refusalOfRead : Reading → ℕ
-refusalOfRead (TheSystem p n k) = 0
+refusalOfRead (Read p n k) = 0
 refusalOfRead (Refused number) = number
 
 abbrev pub modulusOfRead : Reading → ℕ
-modulusOfRead (TheSystem p n k) = p
+modulusOfRead (Read p n k) = p
 modulusOfRead (Refused number) = 0
 
 abbrev pub sizeOfRead : Reading → ℕ
-sizeOfRead (TheSystem p n k) = n
+sizeOfRead (Read p n k) = n
 sizeOfRead (Refused number) = 0
 
 abbrev pub countOfRead : Reading → ℕ
-countOfRead (TheSystem p n k) = k
+countOfRead (Read p n k) = k
 countOfRead (Refused number) = 0
 
 abbrev pub modulusOfDocument : Document → ℕ
@@ -46,6 +48,18 @@ valuesOfSystem s = s .matrix .values
 
 abbrev pub rightOfSystem : System → List ℕ
 rightOfSystem s = s .right
+
+abbrev pub startsAfter : List ℕ → List ℕ → List ℕ → List ℕ → List ℕ → List ℕ
+startsAfter text starts columns values right = readerAfter startsOfSystem starts text starts columns values right
+
+abbrev pub columnsAfter : List ℕ → List ℕ → List ℕ → List ℕ → List ℕ → List ℕ
+columnsAfter text starts columns values right = readerAfter columnsOfSystem columns text starts columns values right
+
+abbrev pub valuesAfter : List ℕ → List ℕ → List ℕ → List ℕ → List ℕ → List ℕ
+valuesAfter text starts columns values right = readerAfter valuesOfSystem values text starts columns values right
+
+abbrev pub rightAfter : List ℕ → List ℕ → List ℕ → List ℕ → List ℕ → List ℕ
+rightAfter text starts columns values right = readerAfter rightOfSystem right text starts columns values right
 
 abbrev pub refusalOfWritten : Written → ℕ
 refusalOfWritten (Length k) = 0

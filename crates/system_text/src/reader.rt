@@ -10,13 +10,14 @@ ghost use mathlib.Core.Bool.{_&&_};
 ghost use Prim.Native.Nat.{_+_};
 ghost use lib.Dec.{eqb, leb};
 ghost use Rattle.meaning.specs.Refusal.{within};
-ghost use Rattle.meaning.specs.Calls.{readerRefusal, readerAnswer, readerAfter};
+ghost use Rattle.meaning.specs.Calls.{readerRefusal, readerAnswer};
 ghost use Rattle.system_text.specs.Surveys.{surveyRefusal};
-ghost use Rattle.system_text.specs.Answers.{refusalOfRead, modulusOfRead, sizeOfRead, countOfRead, startsOfSystem, columnsOfSystem, valuesOfSystem, rightOfSystem, modulusOfDocument, sizeOfDocument, countOfDocument};
+ghost use Rattle.system_text.specs.Answers.{refusalOfRead, modulusOfRead, sizeOfRead, countOfRead, modulusOfDocument, sizeOfDocument, countOfDocument};
+ghost use Rattle.system_text.specs.Answers.{startsAfter, columnsAfter, valuesAfter, rightAfter};
 
 // The modulus, the size and the number of entries; or the number of the check that turned the text down.
 pub enum Reading {
-    System(u32, u32, u32),
+    Read(u32, u32, u32),
     Refused(u32),
 }
 
@@ -104,10 +105,10 @@ pub fn read(
     ensures { λ r. ⌜ modulusOfRead r ≡ readerAnswer modulusOfDocument (now (text .entry)) (now (starts .entry)) (now (columns .entry)) (now (values .entry)) (now (right .entry)) ⌝ }
     ensures { λ r. ⌜ sizeOfRead r ≡ readerAnswer sizeOfDocument (now (text .entry)) (now (starts .entry)) (now (columns .entry)) (now (values .entry)) (now (right .entry)) ⌝ }
     ensures { λ r. ⌜ countOfRead r ≡ readerAnswer countOfDocument (now (text .entry)) (now (starts .entry)) (now (columns .entry)) (now (values .entry)) (now (right .entry)) ⌝ }
-    ensures { λ _. ⌜ now (starts .exit) ≡ readerAfter startsOfSystem (now (starts .entry)) (now (text .entry)) (now (starts .entry)) (now (columns .entry)) (now (values .entry)) (now (right .entry)) ⌝ }
-    ensures { λ _. ⌜ now (columns .exit) ≡ readerAfter columnsOfSystem (now (columns .entry)) (now (text .entry)) (now (starts .entry)) (now (columns .entry)) (now (values .entry)) (now (right .entry)) ⌝ }
-    ensures { λ _. ⌜ now (values .exit) ≡ readerAfter valuesOfSystem (now (values .entry)) (now (text .entry)) (now (starts .entry)) (now (columns .entry)) (now (values .entry)) (now (right .entry)) ⌝ }
-    ensures { λ _. ⌜ now (right .exit) ≡ readerAfter rightOfSystem (now (right .entry)) (now (text .entry)) (now (starts .entry)) (now (columns .entry)) (now (values .entry)) (now (right .entry)) ⌝ }
+    ensures { λ _. ⌜ now (starts .exit) ≡ startsAfter (now (text .entry)) (now (starts .entry)) (now (columns .entry)) (now (values .entry)) (now (right .entry)) ⌝ }
+    ensures { λ _. ⌜ now (columns .exit) ≡ columnsAfter (now (text .entry)) (now (starts .entry)) (now (columns .entry)) (now (values .entry)) (now (right .entry)) ⌝ }
+    ensures { λ _. ⌜ now (values .exit) ≡ valuesAfter (now (text .entry)) (now (starts .entry)) (now (columns .entry)) (now (values .entry)) (now (right .entry)) ⌝ }
+    ensures { λ _. ⌜ now (right .exit) ≡ rightAfter (now (text .entry)) (now (starts .entry)) (now (columns .entry)) (now (values .entry)) (now (right .entry)) ⌝ }
 {
     let s = first_pass(text);
     let number = refusal(s, starts.len(), columns.len(), values.len(), right.len());
@@ -117,5 +118,5 @@ pub fn read(
     let n = wide(s.n);
     fill_entries(text, s.body, s.entries, n, starts, columns, values);
     fill_elements(text, s.right, s.elements, n, right);
-    Reading::System(s.p, s.n, s.count)
+    Reading::Read(s.p, s.n, s.count)
 }

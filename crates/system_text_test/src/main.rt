@@ -68,7 +68,7 @@ fn print_reading(
     sizes: &[u32],
 ) {
     match reading {
-        Reading::System(p, n, entries) => {
+        Reading::Read(p, n, entries) => {
             print(0);
             print(p as u64);
             print(n as u64);

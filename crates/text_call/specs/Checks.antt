@@ -4,7 +4,7 @@
 --     text-by-reader           textRefusal text room ≡ byReader text room (readerRefusal ..) for slices of 129, 1,024, 1,024 and 128 places
 --     byReader-long, byReader-refused, byReader-short, byReader-taken      its four cases
 --     text-refused, text-given what the call answers and leaves in either case
---     Taken text, text-taken   what textRefusal text room ≡ 0 says
+--     TextTaken text, text-taken      what textRefusal text room ≡ 0 says
 --     run-checked              a run without words on a system that passes the checks
 --     size-system              the matrix of a document has its size
 --     system-checked, solved-small      the system of a text that is taken, and the bounds of its run
@@ -151,13 +151,13 @@ run-checked p A b e =
     first-append-none (systemChecks p A b) (check 10 (not (wordsTaken (size A) [])) ∷ []) (numbered-system p A b) e
     ∙ first-pass 10 (wordsTaken (size A) []) [] (no-words (size A)) first-nil
 
-pub record Taken (text : List ℕ) : Type 0 where
+pub record TextTaken (text : List ℕ) : Type 0 where
   pub fits : length text ≤ 24576
   pub read : first (textChecks text) ≡ 0
   pub rows : document text .size ≤ 128
   pub entries : document text .count ≤ 1024
 
-pub text-taken : (text : List ℕ) (room : ℕ) → textRefusal text room ≡ 0 → Taken text × (4608 ≤ room)
+pub text-taken : (text : List ℕ) (room : ℕ) → textRefusal text room ≡ 0 → TextTaken text × (4608 ≤ room)
 unfolding textRefusal
 text-taken text room e =
     let n = document text .size in
@@ -180,7 +180,7 @@ pub size-system : (d : Document) → size (system d .matrix) ≡ d .size
 unfolding system
 size-system d = omega (arith, length-table (d .size + 1) (λ i. length (select (λ e. leb (row e) i) (d .entries))))
 
-module _ (text : List ℕ) (t : Taken text) where
+module _ (text : List ℕ) (t : TextTaken text) where
   abbrev s : System
   s = systemOf text
 

@@ -1,6 +1,6 @@
 -- A system in the leading parts of the arrays.
 --     loadedMatrix, loadedRight      the matrix of n rows and `count` entries, and b
---     outcomeOf                      the outcome of its run without words
+--     outcomeOf, loadedText          the outcome of its run without words, and the answer's text
 --     Loaded                         the arrays hold a system that is taken
 --     read-modulus, read-rows        the modulus and the size that the reader answers
 --     read-loaded                    .. after the reader took a text
@@ -10,7 +10,7 @@
 --     verdict-solved, verdict-singular, verdict-refused      .. by its cases
 --     said-answer, said-degree       .. where it says an outcome: answerText
 --     Ran                            what a run leaves in the arrays
---     loaded-rows, loaded-small, loaded-fits      the size, the run's bounds, and its text's length
+--     loaded-rows, loaded-small      the size, and the run's bounds
 --     ran-answer                     the answer's text, of what a run leaves
 --     loaded-taken, loaded-solved    the solver refuses nothing, and gives the outcome
 use mathlib.Core.Path.{_≡_, sym, ap, ap₂, subst, _∙_}
@@ -25,20 +25,20 @@ use borrow.Author.Tests.{leb-true, le-leb, eq-eqb}
 use Rattle.meaning.specs.List.{at, padded, overwrite, bytes, select}
 use Rattle.meaning.specs.Matrix.{Matrix, matrix, size}
 use Rattle.meaning.specs.Text.{Document, document, system, row, decimal, line}
-use Rattle.meaning.specs.Solver.{solved, singular, Outcome, passCount, applications, solve}
+use Rattle.meaning.specs.Solver.{Outcome, passCount, applications, solve}
 use Rattle.meaning.specs.Refusal.{check, first, unlessRefused}
 use Rattle.meaning.specs.Answer.{answerText}
 use Rattle.meaning.specs.Calls.{systemChecks, runChecks, textChecks, solverRefusal, readerRefusal, readerAnswer, readerAfter, solvedText}
 use Rattle.laws.specs.Bool.{and-right, and-both}
 use Rattle.laws.specs.List.{length-table, getD-table}
 use Rattle.laws.specs.Refusal.{first-nil, first-passed, first-pass, numbered-run, numbered-text, first-append-none, first-append-zero, unlessRefused-none}
-use Rattle.text_laws.specs.Accepted.{system-accepted, document-accepted, modulus-low, modulus-high}
+use Rattle.text_laws.specs.Accepted.{document-accepted, modulus-low}
 use Rattle.text_laws.specs.RoundTrip.{systemOf, read-and-written, text-accepted}
 use Rattle.solver.specs.declared.Counts.{Counts}
 use Rattle.solver.specs.declared.Verdict.{Verdict}
 use Rattle.solver.specs.declared.Verdict.the-variants.{Solved, Singular, Refused}
 use Rattle.solver.specs.Verdict.{Says, Solves}
-use Rattle.text_call.specs.Bounds.{Small, run-small, answer-fits}
+use Rattle.text_call.specs.Bounds.{Small, run-small}
 use Rattle.text_call.specs.Checks.{run-checked}
 use Rattle.text_call.specs.AnswerText.{elementLines, elementLines-ext, textOf, answer-solved, answer-singular}
 
@@ -47,6 +47,10 @@ loadedMatrix n count starts columns values = matrix (take (n + 1) starts) (take 
 
 abbrev pub outcomeOf : ℕ → ℕ → ℕ → List ℕ → List ℕ → List ℕ → List ℕ → Outcome
 outcomeOf p n count starts columns values right = solve p (loadedMatrix n count starts columns values) (take n right) []
+
+-- the answer's text of its run
+abbrev pub loadedText : ℕ → ℕ → ℕ → List ℕ → List ℕ → List ℕ → List ℕ → List ℕ
+loadedText p n count starts columns values right = answerText (outcomeOf p n count starts columns values right)
 
 pub record Loaded (p n count : ℕ) (starts columns values right : List ℕ) : Type 0 where
   pub rows : n ≤ 128
@@ -256,10 +260,6 @@ module _ (p n count : ℕ) (starts columns values right : List ℕ) (l : Loaded 
       (run-small p (loadedMatrix n count starts columns values) (take n right)
       (run-checked p (loadedMatrix n count starts columns values) (take n right) (l .checked))
       (omega (arith, loaded-rows, l .rows)))
-
-  pub loaded-fits : length (answerText o) ≤ 4608
-  loaded-fits =
-      answer-fits o p n loaded-small (modulus-high p (system-accepted p (loadedMatrix n count starts columns values) (take n right) (l .checked) .prime)) (l .rows)
 
   module _ (r : Verdict) (vector polynomial : List ℕ) (s : Ran p n count starts columns values right r vector polynomial) where
     pub ran-answer : (f x : List ℕ) → f ≡ take (n + 1) polynomial → x ≡ take n vector → (degreeOf r < length f) × (verdictText r f x ≡ answerText o)

@@ -38,7 +38,7 @@ pub fn put_answer(
     vector: &[u32],
 ) -> usize
     requires { ⌜ degree < length (now polynomial) ⌝ }
-    ensures { λ r. do let text = textOf (now (head .entry)) (now (word .entry)) degree passes applications (now (polynomial .entry)) (now (vector .entry)) in ⌜ Wrote (now (out .entry)) 0 text r (now (out .exit)) ⌝ }
+    ensures { λ r. ⌜ Wrote (now (out .entry)) 0 (textOf (now (head .entry)) (now (word .entry)) degree passes applications (now (polynomial .entry)) (now (vector .entry))) r (now (out .exit)) ⌝ }
 {
     let next = put_line(out, 0, head, &[degree as u64, passes, applications]);
     let next = put_elements(out, next, b"f", 0, polynomial, degree + 1);

@@ -8,10 +8,9 @@ use system_text::reader::read;
 ghost use mathlib.Core.Path.{_≡_};
 ghost use Prim.Native.Nat.{_+_, _≤_, _<_};
 ghost use lib.ListN.{length};
-ghost use Rattle.meaning.specs.Answer.{answerText};
 ghost use Rattle.meaning.specs.Calls.{textAnswer, textAfter};
 ghost use Rattle.line_writer.specs.Written.{Wrote};
-ghost use Rattle.text_call.specs.Loaded.{outcomeOf, Loaded, Ran, verdictText, degreeOf};
+ghost use Rattle.text_call.specs.Loaded.{Loaded, loadedText, Ran, verdictText, degreeOf};
 
 // Solves the system in the leading parts of the arrays.
 fn run(
@@ -91,7 +90,7 @@ fn put_solved(
 ) -> usize
     requires { ⌜ Loaded p n count (now starts) (now columns) (now values) (now right) ⌝ }
     requires { ⌜ (length (now vector) ≡ 128) × (length (now polynomial) ≡ 129) × (length (now work) ≡ 2064) ⌝ }
-    ensures { λ r. ⌜ Wrote (now (answer .entry)) 0 (answerText (outcomeOf p n count (now (starts .entry)) (now (columns .entry)) (now (values .entry)) (now (right .entry)))) r (now (answer .exit)) ⌝ }
+    ensures { λ r. ⌜ Wrote (now (answer .entry)) 0 (loadedText p n count (now (starts .entry)) (now (columns .entry)) (now (values .entry)) (now (right .entry))) r (now (answer .exit)) ⌝ }
 {
     let verdict = run(
         p,
@@ -139,7 +138,7 @@ pub fn answer_text(
     let reading = read(text, starts, columns, values, right);
     match reading {
         Reading::Refused(number) => number as u64,
-        Reading::System(p, n, count) => {
+        Reading::Read(p, n, count) => {
             if answer.len() < 4608 {
                 return 11;
             }

@@ -8,7 +8,7 @@
 --     whole l, sound l     both; fits unless it is broken
 --     textOf ls            the text of these lines, each ended
 --     blank                what stands after the last byte 10 of a text whose lines all end
---     has-form, has-form-of, has-form-other, has-form-fields, has-form-fits      what hasForm says
+--     has-form, has-form-other, has-form-fields, has-form-fits      what hasForm says
 --     form-of-word         a form's word and as many numerals as it has are a line of that form
 --     form-cases           a line that isn't broken has the form that formOf gives it
 --     line-of, word-free   the clause of lineOf; a form's word is without bytes 9 and 10
@@ -31,7 +31,7 @@ use borrow.Author.Tests.{not-true, le-leb, leb-true}
 use Rattle.meaning.specs.List.{every, equal, flat, bytes}
 use Rattle.meaning.specs.Text.{decimal, valueOf, isNumeral, line, parts, Form, header, entry, element, ending, nothing, broken, Line, hasForm, formOf, lineOf, lines, rank}
 use Rattle.laws.specs.Bool.{and-left, and-right, and-both, and-false-left, never}
-use Rattle.laws.specs.List.{every-nil, equal→≡, equal-refl}
+use Rattle.laws.specs.List.{every-nil, equal→≡}
 use Rattle.text_laws.specs.Lists.{flat-nil, flat-cons, every-head, every-tail, every-more, every-map, every-weaken}
 use Rattle.text_laws.specs.Numeral.{value-decimal, decimal-value, decimal-digits, decimal-numeral, numeral-bounded}
 use Rattle.text_laws.specs.Line.{free, joined, joined-one, joined-two, joined-parts, digits-free, line-parts, lines-parts, lines-nil, lines-line}
@@ -82,9 +82,6 @@ pub has-form : (word : List ℕ) (k : ℕ) (w : List ℕ) (ws : List (List ℕ))
     → hasForm word k (w ∷ ws) ≡ equal w word && eqb (length ws) k && every isNumeral ws
 unfolding hasForm
 has-form word k w ws = refl
-
-pub has-form-of : (w : List ℕ) (k : ℕ) (ws : List (List ℕ)) → eqb (length ws) k ≡ true → every isNumeral ws ≡ true → hasForm w k (w ∷ ws) ≡ true
-has-form-of w k ws e f = has-form w k w ws ∙ and-both (and-both (equal-refl w) e) f
 
 pub has-form-other : (v w : List ℕ) (k : ℕ) (ws : List (List ℕ)) → equal w v ≡ false → hasForm v k (w ∷ ws) ≡ false
 has-form-other v w k ws e =

@@ -9,12 +9,12 @@
 --     parts-joined         parts c (joined c (w ∷ ws)) ≡ w ∷ ws for parts without c
 --     parts-some           there is a part at least
 --     joined-parts         joined c (parts c l) ≡ l
---     digits-free, numeral-free      digits, and so a numeral, are without bytes 9 and 10 (and any below 48)
+--     digits-free          digits are without bytes 9 and 10 (and any below 48)
 --     line-joined          line (w ∷ ws) ≡ joined 9 (w ∷ ws) ++ (10 ∷ [])
 --     line-last, line-more, length-line-last, length-line-more      a line field by field, and its length
 --     line-two-words       a line whose first word is two, with a tab between them
 --     line-parts           line (parts 9 l) ≡ l ++ (10 ∷ [])
---     lines-parts, lines-nil, lines-cut, lines-last      the text cut into lines
+--     lines-parts, lines-nil, lines-cut      the text cut into lines
 --     lines-line           lines (line (w ∷ ws) ++ text) ≡ lineOf (w ∷ ws) ∷ lines text for fields without bytes 9 and 10
 use mathlib.Core.Path.{_≡_, refl, sym, ap, ap₂, _∙_}
 use mathlib.Core.Logic.{_⊎_, inl, inr}
@@ -26,10 +26,10 @@ use lib.Dec.{eqb}
 use lib.ListN.{length, length-append}
 use borrow.Author.Tests.{eqb-true, eq-eqb, ne-eqb, not-true}
 use Rattle.meaning.specs.List.{every, flat}
-use Rattle.meaning.specs.Text.{isDigit, isNumeral, line, onFirst, parts, lineOf, lines}
+use Rattle.meaning.specs.Text.{isDigit, line, onFirst, parts, lineOf, lines}
 use Rattle.laws.specs.Bool.{test-cases}
 use Rattle.text_laws.specs.Lists.{flat-nil, flat-cons, every-join, every-head, every-tail, every-more, every-weaken}
-use Rattle.text_laws.specs.Numeral.{digit-low, numeral-digits}
+use Rattle.text_laws.specs.Numeral.{digit-low}
 
 abbrev pub free : ℕ → List ℕ → Bool
 free c w = every (λ x. not (eqb x c)) w
@@ -125,9 +125,6 @@ digits-free c w h e =
     (λ x d. ap not (ne-eqb x c (λ z. omega (arith, digit-low x d))))
     e
 
-pub numeral-free : (c : ℕ) (w : List ℕ) → c < 48 → isNumeral w ≡ true → free c w ≡ true
-numeral-free c w h e = digits-free c w h (numeral-digits w e)
-
 -- ---- lines
 
 pub line-joined : (w : List ℕ) (ws : List (List ℕ)) → line (w ∷ ws) ≡ joined 9 (w ∷ ws) ++ (10 ∷ [])
@@ -180,10 +177,6 @@ pub lines-cut : (l text : List ℕ) → free 10 l ≡ true → lines (l ++ 10 �
 lines-cut l text e =
     lines-parts (l ++ 10 ∷ text) ∙ ap (map (λ l. lineOf (parts 9 l))) (parts-more 10 l text e)
     ∙ ap (λ r. lineOf (parts 9 l) ∷ r) (sym (lines-parts text))
-
--- what follows the last byte 10
-pub lines-last : (l : List ℕ) → free 10 l ≡ true → lines l ≡ lineOf (parts 9 l) ∷ []
-lines-last l e = lines-parts l ∙ ap (map (λ l. lineOf (parts 9 l))) (parts-free 10 l e)
 
 pub lines-line : (w : List ℕ) (ws : List (List ℕ)) (text : List ℕ) → every (free 9) (w ∷ ws) ≡ true → every (free 10) (w ∷ ws) ≡ true
     → lines (line (w ∷ ws) ++ text) ≡ lineOf (w ∷ ws) ∷ lines text

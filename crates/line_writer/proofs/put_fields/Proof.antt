@@ -1,12 +1,12 @@
 -- `line_writer::put_fields` meets its contract. The loop's invariant: the first i fields are written.
 use mathlib.Core.Path.{_≡_, refl, sym, ap, ap₂, _∙_}
-use mathlib.Core.List.{List, [], _∷_, _++_}
+use mathlib.Core.List.{List, [], _∷_}
 use Prim.Native.Nat.{ℕ, _+_, _-_, _≤_, _<_}
 use native.Mathlib.Omega.{arith}
-use lib.ListN.{length, take, set, getD, length-append, length-set}
+use lib.ListN.{length, take, getD, length-append, length-set}
 use lib.Seq.{take-all}
 use Rattle.meaning.specs.Text.{decimal}
-use Rattle.line_writer.specs.Placed.{placed, placed-nil, placed-one, placed-after, length-placed}
+use Rattle.line_writer.specs.Placed.{placed, placed-nil, placed-one, placed-after}
 use Rattle.line_writer.specs.Written.{fields, fields-nil, fields-more, fields-room}
 use borrow.Author.Needs.{needs}
 use Rattle.line_writer.proofs.put_fields.Statement.{statement}

@@ -1,10 +1,9 @@
 -- `line_writer::put_line` meets its contract.
-use mathlib.Core.Path.{_≡_, sym, ap, _∙_}
-use Prim.Native.Nat.{_+_, _-_, _≤_}
+use mathlib.Core.Path.{_≡_, sym, _∙_}
+use Prim.Native.Nat.{_+_, _-_}
 use native.Mathlib.Omega.{arith}
-use lib.ListN.{length, length-set}
-use Rattle.line_writer.specs.Placed.{length-placed}
-use Rattle.line_writer.specs.Written.{fields, line-end, line-test, line-room, line-placed, written-not}
+use lib.ListN.{length-set}
+use Rattle.line_writer.specs.Written.{line-end, line-test, line-room, line-placed, written-not}
 use borrow.Author.Needs.{needs}
 use Rattle.line_writer.proofs.put_line.Statement.{statement}
 use Rattle.line_writer.proofs.put_line.Tie as tie

@@ -1,5 +1,4 @@
 -- `fill::fill` meets its contract. The invariant: what is stored from `from` on is what was stored, and what is stored from i on.
--- Assumes nothing.
 use mathlib.Core.Path.{_≡_, sym, ap, _∙_}
 use Prim.Native.Nat.{_≤_, _+_, _-_, suc}
 use native.Mathlib.Omega.{arith}

@@ -1,4 +1,4 @@
--- `numeral::fields` meets its contract: a field, and then one fewer. The measure is the number of fields wanted. Assumes nothing.
+-- `numeral::fields` meets its contract: a field, and then one fewer. The measure is the number of fields wanted.
 use mathlib.Core.Path.{_≡_, sym, ap, _∙_, subst}
 use mathlib.Core.Logic.{inl}
 use mathlib.Core.Bool.{false, true≢false}

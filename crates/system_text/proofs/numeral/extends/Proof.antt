@@ -1,4 +1,4 @@
--- `numeral::extends` meets its contract: each way out has the tests that decide extendsBy. Assumes nothing.
+-- `numeral::extends` meets its contract: each way out has the tests that decide extendsBy.
 use borrow.Author.Needs.{needs}
 use borrow.Author.Tests.{lt-leb, le-leb, eq-eqb, ne-eqb}
 use mathlib.Core.Logic.{⊎-elim}

@@ -1,4 +1,4 @@
--- `numeral::line_end` meets its contract. Assumes nothing.
+-- `numeral::line_end` meets its contract.
 use mathlib.Core.Path.{sym}
 use mathlib.Core.Bool.{true≢false}
 use Rattle.system_text.specs.Fields.{end-here, end-past, end-none}

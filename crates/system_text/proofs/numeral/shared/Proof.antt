@@ -1,4 +1,4 @@
--- `numeral::shared` meets its contract. The invariant: what is shared is what was passed and what is shared from there on. Assumes nothing.
+-- `numeral::shared` meets its contract. The invariant: what is shared is what was passed and what is shared from there on.
 use mathlib.Core.Path.{_≡_, sym, ap, _∙_}
 use Prim.Native.Nat.{_<_, _≤_, _+_, _-_}
 use native.Mathlib.Nat.{add-zero, zero-add}

@@ -1,8 +1,7 @@
 -- `output::row_lines` meets its contract. The invariant: the lines of the entries below k are written.
-use mathlib.Core.Path.{_≡_, sym, ap, _∙_}
+use mathlib.Core.Path.{_≡_, ap}
 use Prim.Native.Nat.{_+_, _-_, _≤_, _<_}
 use native.Mathlib.Omega.{arith}
-use lib.ListN.{length}
 use Rattle.line_writer.specs.Written.{Wrote, wrote-line, wrote-as, wrote-rows-none, wrote-rows-more}
 use Rattle.system_text.specs.Writes.{rowText, entryLine, entry-line}
 use borrow.Author.Needs.{needs}

@@ -1,4 +1,4 @@
--- `reader::count_taken` meets its contract. Assumes nothing.
+-- `reader::count_taken` meets its contract.
 use mathlib.Core.Path.{sym, _∙_}
 use borrow.Author.Tests.{eq-eqb, ne-eqb}
 use borrow.Author.Needs.{needs}

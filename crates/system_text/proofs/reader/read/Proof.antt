@@ -1,4 +1,4 @@
--- `reader::read` meets its contract. Assumes nothing.
+-- `reader::read` meets its contract.
 use mathlib.Core.Path.{_≡_, sym, ap, _∙_, subst}
 use Prim.Native.Nat.{_+_, _≤_}
 use lib.ListN.{length}

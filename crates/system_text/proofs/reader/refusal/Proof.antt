@@ -1,4 +1,4 @@
--- `reader::refusal` meets its contract: each way out has passed the checks before. Assumes nothing.
+-- `reader::refusal` meets its contract: each way out has passed the checks before.
 use mathlib.Core.Path.{sym, _∙_}
 use borrow.Author.Tests.{not-true, not-false}
 use Rattle.meaning.specs.Refusal.{first}

@@ -1,4 +1,4 @@
--- `reader::room` meets its contract. Assumes nothing.
+-- `reader::room` meets its contract.
 use mathlib.Core.Path.{sym, ap, _∙_, subst}
 use Prim.Native.Nat.{_+_, _<_, _≤_}
 use lib.Dec.{leb}

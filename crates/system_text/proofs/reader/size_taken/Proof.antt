@@ -1,4 +1,4 @@
--- `reader::size_taken` meets its contract. Assumes nothing.
+-- `reader::size_taken` meets its contract.
 use borrow.Author.Tests.{lt-leb, le-leb}
 use Rattle.system_text.proofs.reader.size_taken.Statement.{statement}
 use Rattle.system_text.proofs.reader.size_taken.Tie as tie

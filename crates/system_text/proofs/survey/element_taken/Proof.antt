@@ -1,4 +1,4 @@
--- `survey::element_taken` meets its contract. Assumes nothing.
+-- `survey::element_taken` meets its contract.
 use borrow.Author.Tests.{lt-leb, le-leb}
 use Rattle.system_text.proofs.survey.element_taken.Statement.{statement}
 use Rattle.system_text.proofs.survey.element_taken.Tie as tie

@@ -1,4 +1,4 @@
--- `survey::entry_taken` meets its contract: each way out has the tests that decide it. Assumes nothing.
+-- `survey::entry_taken` meets its contract: each way out has the tests that decide it.
 use borrow.Author.Tests.{lt-leb, le-leb, lt-ltb, le-ltb, eq-eqb, ne-eqb}
 use Rattle.system_text.proofs.survey.entry_taken.Statement.{statement}
 use Rattle.system_text.proofs.survey.entry_taken.Tie as tie

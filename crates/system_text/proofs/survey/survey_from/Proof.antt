@@ -1,4 +1,4 @@
--- `survey::survey_from` meets its contract. Assumes nothing.
+-- `survey::survey_from` meets its contract.
 use Rattle.system_text.specs.Surveys.{surveyed-from}
 use borrow.Author.Needs.{needs}
 use Rattle.system_text.proofs.survey.survey_from.Statement.{statement}

@@ -1,4 +1,4 @@
--- `survey::value_taken` meets its contract. Assumes nothing.
+-- `survey::value_taken` meets its contract.
 use borrow.Author.Tests.{lt-leb, le-leb}
 use Rattle.system_text.proofs.survey.value_taken.Statement.{statement}
 use Rattle.system_text.proofs.survey.value_taken.Tie as tie

@@ -1,8 +1,7 @@
 -- `answer::put_elements` meets its contract. The invariant: the lines of the first i elements are written.
 use mathlib.Core.Path.{_≡_, ap}
-use Prim.Native.Nat.{_+_, _-_, _≤_, _<_}
+use Prim.Native.Nat.{_-_, _≤_}
 use native.Mathlib.Omega.{arith}
-use lib.ListN.{length}
 use Rattle.line_writer.specs.Written.{Wrote, wrote-line, wrote-as, wrote-rows-none, wrote-rows-more}
 use Rattle.text_call.specs.AnswerText.{elementLine, elementLines}
 use borrow.Author.Needs.{needs}

@@ -1,4 +1,4 @@
--- `text_call::call::run` meets its contract. Assumes nothing.
+-- `text_call::call::run` meets its contract.
 use mathlib.Core.Path.{_≡_, refl, ap, _∙_}
 use Prim.Native.Nat.{_+_, _-_, _≤_}
 use native.Mathlib.Omega.{arith}
