@@ -104,48 +104,44 @@ fn word(seed: u32, base: u32, i: u32) -> u32 {
     ((x / 65536 * 48271 + x) % 4294967296) as u32
 }
 
-fn start(even: u32, i: u32) -> u32 {
-    let first = i / 2 % 65536 * 32;
-    if i % 2 == 0 { first } else { first + even % 64 }
-}
-
-fn column(even: u32, k: u32) -> u32 {
-    let row = k / 32 * 2 % 128;
-    let j = k % 32;
-    if j < even {
-        j * 128 + row
-    } else {
-        (j - even) * 128 + (row + 1)
-    }
-}
-
-fn value(p: u32, seed: u32, k: u32) -> u32 {
+fn value(p: u32, seed: u32, j: u32) -> u32 {
     if p == 0 {
         return 0;
     }
-    let a = below(word(seed, 0, k / 2), p - 1) + 1;
-    if k % 2 == 0 { a } else { p - a }
-}
-
-fn element(p: u32, seed: u32, base: u32, i: u32) -> u32 {
-    if seed == 0 {
-        1
-    } else {
-        below(word(seed, base, i), p)
-    }
+    let a = below(word(seed, 0, j / 2), p - 1) + 1;
+    if j % 2 == 0 { a } else { p - a }
 }
 
 // Element j of a list.
 fn made(head: &[u32], list: u32, j: u32) -> u32 {
     let p = at(head, 0);
-    let even = at(head, 3);
+    let even = at(head, 3) % 64;
     let seed = at(head, 4);
+    let row = j / 32 * 2 % 128;
     match list {
         0 => at(head, j as usize),
-        1 => start(even, j),
-        2 => column(even, j),
+        1 => {
+            if j % 2 == 0 {
+                j / 2 % 65536 * 32
+            } else {
+                j / 2 % 65536 * 32 + even
+            }
+        }
+        2 => {
+            if j % 32 < even {
+                j % 32 * 128 + row
+            } else {
+                (j % 32 - even) * 128 + (row + 1)
+            }
+        }
         3 => value(p, seed, j),
-        _ => element(p, seed, at(head, list as usize + 8), j),
+        _ => {
+            if seed == 0 {
+                1
+            } else {
+                below(word(seed, at(head, list as usize + 8), j), p)
+            }
+        }
     }
 }
 

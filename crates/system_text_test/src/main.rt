@@ -21,16 +21,6 @@ use test_io::text_part;
 
 // ---- the writer
 
-fn print_written(written: Written) {
-    match written {
-        Written::Length(length) => {
-            print(0);
-            print(length as u64);
-        }
-        Written::Refused(number) => print(number as u64),
-    }
-}
-
 // Into the text slice of place i.
 fn write(
     p: u32,
@@ -44,7 +34,13 @@ fn write(
     let size = place(sizes, i);
     let mut out = test_io::lent_text();
     let text = test_io::text_front(&mut out, size);
-    print_written(system_text::writer::write(p, starts, columns, values, b, text));
+    match system_text::writer::write(p, starts, columns, values, b, text) {
+        Written::Length(length) => {
+            print(0);
+            print(length as u64);
+        }
+        Written::Refused(number) => print(number as u64),
+    }
     test_io::show_text(&out, 0, size);
 }
 
@@ -120,27 +116,23 @@ fn below(x: usize, m: usize) -> usize
     if m == 0 { 0 } else { x % m }
 }
 
-// Where byte i of a long text stands in the text.
-fn source(head: &[u32], i: usize) -> usize {
+// Byte i of a long text.
+fn long_byte(text: &[u8], head: &[u32], i: usize) -> u8 {
     let first = place(head, 7);
     let skip = place(head, 10);
-    if i < first {
-        return i;
+    let mut from = i;
+    if first <= i && i < place(head, 9) {
+        from = first + below(i - first, place(head, 8));
+    } else if first <= i && skip <= i {
+        from = i - skip;
     }
-    if i < place(head, 9) {
-        return first + below(i - first, place(head, 8));
-    }
-    if i < skip { i } else { i - skip }
-}
-
-fn byte(text: &[u8], i: usize) -> u8 {
-    if i < text.len() { text[i] } else { 0 }
+    if from < text.len() { text[from] } else { 0 }
 }
 
 fn lengthen(text: &[u8], head: &[u32], long: &mut [u8]) {
     let mut i = 0;
     while i < long.len() {
-        long[i] = byte(text, source(head, i));
+        long[i] = long_byte(text, head, i);
         i += 1;
     }
 }

@@ -16,11 +16,8 @@ abbrev μ-loop : tie.MeasureT-loop
 loop-holds : tie.Need-loop-holds Inv-loop μ-loop
 loop-holds c = search needs
 
-source-requires : tie.Need-source-requires Inv-loop μ-loop
-source-requires c κs = search needs
-
-byte-requires : tie.Need-byte-requires Inv-loop μ-loop
-byte-requires c κs = search needs
+long-byte-requires : tie.Need-long-byte-requires Inv-loop μ-loop
+long-byte-requires c κs = search needs
 
 slice-write-long : tie.Need-slice-write-long Inv-loop μ-loop
 slice-write-long c = search needs
@@ -47,8 +44,7 @@ lengthen-spec =
     Inv-loop
     μ-loop
     loop-holds
-    source-requires
-    byte-requires
+    long-byte-requires
     slice-write-long
     add-i
     loop-less
