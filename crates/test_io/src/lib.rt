@@ -52,9 +52,7 @@ fn with_digit(value: u32, byte: u8) -> u32
 // The decimal numbers of a text, each with one byte after it, up to the first letter, into the first places; how many there are. They are taken
 // modulo 2^32; what stands behind them is kept, and numbers that find no place are left out.
 pub fn numbers_of(text: &[u8], s: &mut [u32]) -> usize
-    ensures { λ r. ⌜ r ≤ length (now (s .entry)) ⌝ }
-    ensures { λ _. ⌜ length (now (s .exit)) ≡ length (now (s .entry)) ⌝ }
-    ensures { λ r. ⌜ drop r (now (s .exit)) ≡ drop r (now (s .entry)) ⌝ }
+    ensures { λ r. ⌜ (r ≤ length (now (s .entry))) × (length (now (s .exit)) ≡ length (now (s .entry))) × (drop r (now (s .exit)) ≡ drop r (now (s .entry))) ⌝ }
 {
     let mut count = 0;
     let mut value = 0;
@@ -81,9 +79,7 @@ pub fn numbers_of(text: &[u8], s: &mut [u32]) -> usize
 
 // The numbers of standard input.
 pub fn read_numbers(s: &mut [u32]) -> usize
-    ensures { λ r. ⌜ r ≤ length (now (s .entry)) ⌝ }
-    ensures { λ _. ⌜ length (now (s .exit)) ≡ length (now (s .entry)) ⌝ }
-    ensures { λ r. ⌜ drop r (now (s .exit)) ≡ drop r (now (s .entry)) ⌝ }
+    ensures { λ r. ⌜ (r ≤ length (now (s .entry))) × (length (now (s .exit)) ≡ length (now (s .entry))) × (drop r (now (s .exit)) ≡ drop r (now (s .entry))) ⌝ }
 {
     let mut text = text_memory();
     let n = io::read_full(STDIN_FILENO, &mut text);

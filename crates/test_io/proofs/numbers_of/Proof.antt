@@ -25,10 +25,12 @@ add-i : tie.Need-add-i Inv-loop μ-loop
 add-i c = search needs
 
 same-length : tie.Need-same-length Inv-loop μ-loop
-same-length c = search needs
+same-length c = c .before .before .before .loop .inv .2
 
 returns : tie.Need-returns Inv-loop μ-loop
-returns c = search needs
+returns c =
+    let h = c .before .before .before .loop .inv in
+    (omega (arith, h .1, h .2), h .2, h .3)
 
 with-digit-requires : tie.Need-with-digit-requires Inv-loop μ-loop
 with-digit-requires c κs = search needs
@@ -37,13 +39,17 @@ loop-less : tie.Need-loop-less Inv-loop μ-loop
 loop-less c = search needs
 
 loop-again : tie.Need-loop-again Inv-loop μ-loop
-loop-again c = search needs
+loop-again c =
+    let h = c .before .before .before .before .before .loop .inv in
+    (omega (arith, c .before .before .before .before .loop-test .taken), h .1, h .2, h .3)
 
 same-length-2 : tie.Need-same-length-2 Inv-loop μ-loop
-same-length-2 c = search needs
+same-length-2 c = c .before .before .before .before .before .loop .inv .2
 
 returns-2 : tie.Need-returns-2 Inv-loop μ-loop
-returns-2 c = search needs
+returns-2 c =
+    let h = c .before .before .before .before .before .loop .inv in
+    (omega (arith, h .1, h .2), h .2, h .3)
 
 mul-s : tie.Need-mul-s Inv-loop μ-loop
 mul-s c = search needs
@@ -64,10 +70,12 @@ loop-again-2 c =
     (omega arith, rw length-set (omega arith), length-set (l .s) (l .count) (l .value) ∙ l .inv .2, kept-past (l .s) (now (a .s)) (l .count) (l .value) (l .inv .3))
 
 same-length-3 : tie.Need-same-length-3 Inv-loop μ-loop
-same-length-3 c = search needs
+same-length-3 c = c .before .loop .inv .2
 
 returns-3 : tie.Need-returns-3 Inv-loop μ-loop
-returns-3 c = search needs
+returns-3 c =
+    let h = c .before .loop .inv in
+    (omega (arith, h .1, h .2), h .2, h .3)
 
 pub numbers-of-spec : {M : Type 1} → statement M
 numbers-of-spec =
