@@ -1,11 +1,11 @@
 -- What the writing functions leave.
---     entryLine, rowText, rowsText, elementsText       the lines of an entry, of a row, of all rows, of the elements
+--     headerText, entryLine, rowText, rowsText, rightText      the `system` line; the lines of an entry, of a row, of all rows; of the elements, and the end
 --     Rows                 the starts divide the entries into rows
 -- Laws: header-line, entry-line, element-none, element-line, ending-line, row-text, whole-text: what is written is the meaning's;
 -- accepted-rows: the rows of a system that the checks take; writer-system, writer-short, writer-fits, writer-text: the writer's refusal and what it leaves.
 use mathlib.Core.Path.{_≡_, refl, sym, ap, ap₂, _∙_}
 use mathlib.Core.Bool.{not, cond}
-use mathlib.Core.List.{List, [], _∷_, _++_}
+use mathlib.Core.List.{List, [], _∷_, _++_, append-assoc}
 use Prim.Native.Nat.{ℕ, _+_, _-_, _≤_, _<_}
 use native.Mathlib.Omega.{arith}
 use lib.Dec.{leb}
@@ -31,8 +31,11 @@ rowText columns values i from n = flat (table n (entryLine columns values i from
 abbrev pub rowsText : List ℕ → List ℕ → List ℕ → List ℕ
 rowsText starts columns values = flat (table (length starts - 1) (writeRow (matrix starts columns values)))
 
-abbrev pub elementsText : List ℕ → List ℕ
-elementsText right = flat (table (length right) (writeElement right))
+abbrev pub rightText : List ℕ → List ℕ
+rightText right = flat (table (length right) (writeElement right)) ++ line (bytes "end" ∷ [])
+
+abbrev pub headerText : ℕ → ℕ → ℕ → List ℕ
+headerText p n k = line (bytes "system" ∷ decimal p ∷ decimal n ∷ decimal k ∷ [])
 
 pub record Rows (starts columns values : List ℕ) : Type 0 where
   pub some : 1 ≤ length starts
@@ -43,7 +46,7 @@ pub record Rows (starts columns values : List ℕ) : Type 0 where
 
 -- ---- the words as the code writes them
 
-pub header-line : (p n k : ℕ) → line ((115 ∷ 121 ∷ 115 ∷ 116 ∷ 101 ∷ 109 ∷ []) ∷ decimal p ∷ decimal n ∷ decimal k ∷ []) ≡ line (bytes "system" ∷ decimal p ∷ decimal n ∷ decimal k ∷ [])
+pub header-line : (p n k : ℕ) → line ((115 ∷ 121 ∷ 115 ∷ 116 ∷ 101 ∷ 109 ∷ []) ∷ decimal p ∷ decimal n ∷ decimal k ∷ []) ≡ headerText p n k
 unfolding bytes
 header-line p n k = refl
 
@@ -76,13 +79,12 @@ element-line right i v n e =
     ∙ sym (ap (λ t. cond t [] (line ((98 ∷ []) ∷ decimal (i + 1) ∷ decimal (at right i) ∷ []))) (ne-eqb (at right i) 0 n))
 
 pub whole-text : (p : ℕ) (starts columns values right : List ℕ) → length right ≡ length starts - 1
-    → line (bytes "system" ∷ decimal p ∷ decimal (length starts - 1) ∷ decimal (length columns) ∷ [])
-    ++ rowsText starts columns values ++ elementsText right ++ line (bytes "end" ∷ [])
-    ≡ write p (matrix starts columns values) right
+    → headerText p (length starts - 1) (length columns) ++ rowsText starts columns values ++ rightText right ≡ write p (matrix starts columns values) right
 unfolding write
 whole-text p starts columns values right e =
-    ap (λ n. line (bytes "system" ∷ decimal p ∷ decimal (length starts - 1) ∷ decimal (length columns) ∷ [])
-    ++ rowsText starts columns values ++ flat (table n (writeElement right)) ++ line (bytes "end" ∷ [])) e
+    let front = headerText p (length starts - 1) (length columns) ++ rowsText starts columns values in
+    sym (append-assoc front (flat (table (length right) (writeElement right))) (line (bytes "end" ∷ [])))
+    ∙ ap (λ n. front ++ flat (table n (writeElement right)) ++ line (bytes "end" ∷ [])) e
 
 pub accepted-rows : (p : ℕ) (starts columns values right : List ℕ) → AcceptedSystem p (matrix starts columns values) right → Rows starts columns values
 accepted-rows p starts columns values right a =

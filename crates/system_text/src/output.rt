@@ -6,7 +6,7 @@ ghost use lib.ListN.{length};
 ghost use Rattle.meaning.specs.Matrix.{matrix};
 ghost use Rattle.meaning.specs.Text.{write};
 ghost use Rattle.line_writer.specs.Written.{Wrote};
-ghost use Rattle.system_text.specs.Writes.{Rows, rowText, rowsText, elementsText};
+ghost use Rattle.system_text.specs.Writes.{Rows, headerText, rowText, rowsText, rightText};
 use crate::fill::wide;
 use line_writer::put_line;
 
@@ -63,9 +63,9 @@ pub(crate) fn all_rows(
     next
 }
 
-// The `b` lines: the elements that are not 0.
-pub(crate) fn all_elements(out: &mut [u8], at: usize, right: &[u32]) -> usize
-    ensures { λ r. ⌜ Wrote (now (out .entry)) at (elementsText (now (right .entry))) r (now (out .exit)) ⌝ }
+// The `b` lines, for the elements that are not 0, and the end.
+pub(crate) fn right_side(out: &mut [u8], at: usize, right: &[u32]) -> usize
+    ensures { λ r. ⌜ Wrote (now (out .entry)) at (rightText (now (right .entry))) r (now (out .exit)) ⌝ }
 {
     let mut next = at;
     let mut i: usize = 0;
@@ -77,7 +77,14 @@ pub(crate) fn all_elements(out: &mut [u8], at: usize, right: &[u32]) -> usize
         }
         next = put_line(out, next, b"b", &[i as u64, long(value)]);
     }
-    next
+    put_line(out, next, b"end", &[])
+}
+
+// The `system` line.
+pub(crate) fn header(out: &mut [u8], p: u32, n: u64, entries: u64) -> usize
+    ensures { λ r. ⌜ Wrote (now (out .entry)) 0 (headerText p n entries) r (now (out .exit)) ⌝ }
+{
+    put_line(out, 0, b"system", &[p as u64, n, entries])
 }
 
 // The whole text.
@@ -94,8 +101,7 @@ pub(crate) fn whole_text(
     ensures { λ r. ⌜ Wrote (now (out .entry)) 0 (write p (matrix (now (starts .entry)) (now (columns .entry)) (now (values .entry))) (now (right .entry))) r (now (out .exit)) ⌝ }
 {
     let n = (starts.len() - 1) as u64;
-    let next = put_line(out, 0, b"system", &[p as u64, n, columns.len() as u64]);
+    let next = header(out, p, n, columns.len() as u64);
     let next = all_rows(out, next, starts, columns, values);
-    let next = all_elements(out, next, right);
-    put_line(out, next, b"end", &[])
+    right_side(out, next, right)
 }

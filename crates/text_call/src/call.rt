@@ -37,7 +37,7 @@ fn run(
         &columns[z..count],
         &values[z..count],
         &right[z..n],
-        &right[z..z],
+        &[],
         &mut vector[z..n],
         &mut polynomial[z..m],
         work,

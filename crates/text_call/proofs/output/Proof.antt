@@ -1,4 +1,5 @@
 -- `text_call::output` meets its contract.
+use mathlib.Core.Path.{_∙_}
 use native.Mathlib.Omega.{arith}
 use Rattle.line_writer.specs.Written.{wrote-line, wrote-as}
 use Rattle.text_call.specs.AnswerText.{refused-line}
@@ -25,7 +26,7 @@ put-line-requires : tie.Need-put-line-requires
 put-line-requires c κs = search needs
 
 same-length : tie.Need-same-length
-same-length c = search needs
+same-length c = c .before .before .before .filzeur-text .kept .1 .0
 
 returns-2 : tie.Need-returns-2
 returns-2 c =
@@ -35,7 +36,7 @@ returns-2 c =
     printed-answer (a .text .now) (a .out .now) (omega (arith, i .if1 .left)) (f .filzeur-text .result) (f .filzeur-text .last .1 .0) (f .filzeur-text .ensures .0) (f .filzeur-text .ensures .1) (c .if2 .taken)
 
 same-length-2 : tie.Need-same-length-2
-same-length-2 c = search needs
+same-length-2 c = c .before .before .put-line .kept .0 ∙ c .before .before .before .before .before .before .before .before .before .filzeur-text .kept .1 .0
 
 returns-3 : tie.Need-returns-3
 returns-3 c =

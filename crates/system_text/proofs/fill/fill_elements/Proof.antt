@@ -1,5 +1,5 @@
 -- `fill::fill_elements` meets its contract. The invariant is ElementsFilled.
-use mathlib.Core.Path.{sym, subst}
+use mathlib.Core.Path.{sym, subst, _∙_}
 use Prim.Native.Nat.{_-_, _+_, _≤_}
 use native.Mathlib.Omega.{arith}
 use lib.ListN.{set}
@@ -73,7 +73,7 @@ loop-again c =
     (subst (λ m. d .args .n ≤ m) (sym (f .kept .0)) (d .pre .1)))
 
 same-length : tie.Need-same-length Inv-loop μ-loop
-same-length c = search needs
+same-length c = c .before .loop .inv .rightLength ∙ c .before .before .before .before .fill .kept .0
 
 returns : tie.Need-returns Inv-loop μ-loop
 returns c =

@@ -110,13 +110,13 @@ fill-requires-2 : tie.Need-fill-requires-2 Inv-loop μ-loop
 fill-requires-2 c κs = search needs
 
 same-length : tie.Need-same-length Inv-loop μ-loop
-same-length c = search needs
+same-length c = c .before .before .fill2 .kept .0 ∙ c .before .before .before .before .before .loop .inv .startsLength
 
 same-length-2 : tie.Need-same-length-2 Inv-loop μ-loop
-same-length-2 c = search needs
+same-length-2 c = c .before .before .before .before .before .loop .inv .columnsLength
 
 same-length-3 : tie.Need-same-length-3 Inv-loop μ-loop
-same-length-3 c = search needs
+same-length-3 c = c .before .before .before .before .before .loop .inv .valuesLength
 
 returns : tie.Need-returns Inv-loop μ-loop
 returns c =

@@ -69,7 +69,7 @@ whole-text-requires-2 c κs =
     (accepted-rows (a .p) (a .starts .now) (a .columns .now) (a .values .now) (a .right .now) s, s .right-length)
 
 same-length : tie.Need-same-length
-same-length c = search needs
+same-length c = c .before .before .whole-text2 .kept .0
 
 returns-3 : tie.Need-returns-3
 returns-3 c =

@@ -1,12 +1,13 @@
 -- `call::answer_text` meets its contract: the checks in order, and what the run gives where none turns the text down.
-use mathlib.Core.Path.{_≡_, sym, ap, _∙_}
-use native.Mathlib.Omega.{arith}
+use mathlib.Core.Path.{_≡_, sym, ap, subst, _∙_}
+use Prim.Native.Nat.{_≤_}
 use lib.ListN.{length}
 use Rattle.meaning.specs.Calls.{readerRefusal}
 use Rattle.line_writer.specs.Written.{wrote-start, wrote-as}
 use Rattle.system_text.specs.Answers.{refusalOfRead, modulusOfRead, sizeOfRead, countOfRead}
 use Rattle.text_call.specs.Checks.{text-by-reader, byReader-long, byReader-refused, byReader-short, byReader-taken, text-refused, text-given, text-taken, solved-fits}
 use Rattle.text_call.specs.Loaded.{refused-number, read-loaded, read-rows, read-outcome}
+use Rattle.text_call.proofs.Parts.{some, answer-ends, answer-room}
 use borrow.Author.Needs.{needs}
 use Rattle.text_call.proofs.call.answer_text.Statement.{statement}
 use Rattle.text_call.proofs.call.answer_text.Tie as tie
@@ -23,7 +24,7 @@ returns c =
     let lengths = d .pre .0 in
     let by-reader = text-by-reader text starts columns values right (lengths .0) (lengths .1) (lengths .2) (lengths .3) (length answer) in
     let refusal = readerRefusal text starts columns values right in
-    text-refused text answer 1 (by-reader ∙ byReader-long text (length answer) refusal (c .if1 .taken)) (omega arith)
+    text-refused text answer 1 (by-reader ∙ byReader-long text (length answer) refusal (c .if1 .taken)) (some 0)
 
 read-requires : tie.Need-read-requires
 read-requires c κs = search needs
@@ -38,16 +39,16 @@ enum-known-reading-2 : tie.Need-enum-known-reading-2
 enum-known-reading-2 c = search needs
 
 same-length : tie.Need-same-length
-same-length c = search needs
+same-length c = c .before .before .before .before .before .before .before .before .before .before .before .before .read .kept .1 .0
 
 same-length-2 : tie.Need-same-length-2
-same-length-2 c = search needs
+same-length-2 c = c .before .before .before .before .before .before .before .before .before .before .before .before .read .kept .1 .1 .0
 
 same-length-3 : tie.Need-same-length-3
-same-length-3 c = search needs
+same-length-3 c = c .before .before .before .before .before .before .before .before .before .before .before .before .read .kept .1 .1 .1 .0
 
 same-length-4 : tie.Need-same-length-4
-same-length-4 c = search needs
+same-length-4 c = c .before .before .before .before .before .before .before .before .before .before .before .before .read .kept .1 .1 .1 .1 .0
 
 returns-2 : tie.Need-returns-2
 returns-2 c =
@@ -65,7 +66,7 @@ returns-2 c =
     let refusal = readerRefusal text starts columns values right in
     let e : refusal ≡ 0 = sym (r .read .ensures .0) ∙ ap refusalOfRead (m .reading2 .given .1) in
     let fits = r .before .before .before .before .before .if1 .left in
-    text-refused text answer 11 (by-reader ∙ byReader-short text (length answer) refusal (omega (arith, fits)) e (omega (arith, c .if2 .taken))) (omega arith)
+    text-refused text answer 11 (by-reader ∙ byReader-short text (length answer) refusal fits e (c .if2 .taken)) (some 10)
 
 wide-requires : tie.Need-wide-requires
 wide-requires c κs = search needs
@@ -105,16 +106,16 @@ put-solved-requires c κs =
     (read-loaded text starts columns values right taken p n count starts′ columns′ values′ right′ ep en ek es ec ev er rows, d .pre .1)
 
 same-length-5 : tie.Need-same-length-5
-same-length-5 c = search needs
+same-length-5 c = c .before .before .before .before .before .before .before .before .before .before .before .read .kept .1 .0
 
 same-length-6 : tie.Need-same-length-6
-same-length-6 c = search needs
+same-length-6 c = c .before .before .before .before .before .before .before .before .before .before .before .read .kept .1 .1 .0
 
 same-length-7 : tie.Need-same-length-7
-same-length-7 c = search needs
+same-length-7 c = c .before .before .before .before .before .before .before .before .before .before .before .read .kept .1 .1 .1 .0
 
 same-length-8 : tie.Need-same-length-8
-same-length-8 c = search needs
+same-length-8 c = c .before .before .before .before .before .before .before .before .before .before .before .read .kept .1 .1 .1 .1 .0
 
 returns-3 : tie.Need-returns-3
 returns-3 c =
@@ -133,34 +134,34 @@ returns-3 c =
     let number = m .reading .given .0 .0 in
     let arm = m .reading .given .1 in
     let e : number ≡ refusal = sym (ap refusalOfRead arm) ∙ r .read .ensures .0 in
-    let some = refused-number text starts columns values right number e (sym (ap modulusOfRead arm) ∙ r .read .ensures .1 .0) in
+    let from-one = refused-number text starts columns values right number e (sym (ap modulusOfRead arm) ∙ r .read .ensures .1 .0) in
     let fits = r .before .before .before .before .before .if1 .left in
     text-refused text answer number
-    (by-reader ∙ byReader-refused text (length answer) refusal (omega (arith, fits)) (omega (arith, e, some)) ∙ sym e) some
+    (by-reader ∙ byReader-refused text (length answer) refusal fits (subst (λ k. 1 ≤ k) e from-one) ∙ sym e) from-one
 
 same-length-9 : tie.Need-same-length-9
-same-length-9 c = search needs
+same-length-9 c = c .before .before .before .before .before .before .before .before .put-solved .kept .1 .1 .1 .0
 
 same-length-10 : tie.Need-same-length-10
-same-length-10 c = search needs
+same-length-10 c = c .before .before .before .before .before .before .before .before .before .before .before .before .before .before .before .before .before .before .before .before .before .before .before .before .before .before .before .before .before .before .before .read .kept .1 .0
 
 same-length-11 : tie.Need-same-length-11
-same-length-11 c = search needs
+same-length-11 c = c .before .before .before .before .before .before .before .before .before .before .before .before .before .before .before .before .before .before .before .before .before .before .before .before .before .before .before .before .before .before .before .read .kept .1 .1 .0
 
 same-length-12 : tie.Need-same-length-12
-same-length-12 c = search needs
+same-length-12 c = c .before .before .before .before .before .before .before .before .before .before .before .before .before .before .before .before .before .before .before .before .before .before .before .before .before .before .before .before .before .before .before .read .kept .1 .1 .1 .0
 
 same-length-13 : tie.Need-same-length-13
-same-length-13 c = search needs
+same-length-13 c = c .before .before .before .before .before .before .before .before .before .before .before .before .before .before .before .before .before .before .before .before .before .before .before .before .before .before .before .before .before .before .before .read .kept .1 .1 .1 .1 .0
 
 same-length-14 : tie.Need-same-length-14
-same-length-14 c = search needs
+same-length-14 c = c .before .before .before .before .before .before .before .before .put-solved .kept .1 .1 .1 .1 .1 .1 .1 .1 .0
 
 same-length-15 : tie.Need-same-length-15
-same-length-15 c = search needs
+same-length-15 c = c .before .before .before .before .before .before .before .before .put-solved .kept .1 .1 .1 .1 .1 .1 .1 .1 .1 .0
 
 same-length-16 : tie.Need-same-length-16
-same-length-16 c = search needs
+same-length-16 c = c .before .before .before .before .before .before .before .before .put-solved .kept .1 .1 .1 .1 .1 .1 .1 .1 .1 .1 .0
 
 returns-4 : tie.Need-returns-4
 returns-4 c =
@@ -196,15 +197,15 @@ returns-4 c =
     let by-reader = text-by-reader text starts columns values right (lengths .0) (lengths .1) (lengths .2) (lengths .3) (length answer) in
     let refusal = readerRefusal text starts columns values right in
     let fits = r .before .before .before .before .before .if1 .left in
-    let none = by-reader ∙ byReader-taken text (length answer) refusal (omega (arith, fits)) taken (omega (arith, i .if2 .left)) in
+    let none = by-reader ∙ byReader-taken text (length answer) refusal fits taken (i .if2 .left) in
     let call = text-given text answer none in
     let room = text-taken text (length answer) none in
     let short = solved-fits text (room .0) in
     let put =
     wrote-start
     (wrote-as (read-outcome text starts columns values right taken p n count starts′ columns′ values′ right′ ep en ek es ec ev er) (c .before .before .before .before .before .before .before .before .put-solved .ensures))
-    (omega (arith, short)) in
-    (put .0 ∙ call .0, put .1 (omega (arith, short, room .1)) ∙ call .1)
+    (answer-ends short) in
+    (put .0 ∙ call .0, put .1 (answer-room short (room .1)) ∙ call .1)
 
 pub answer-text-spec : {M : Type 1} → statement M
 answer-text-spec =

@@ -5,6 +5,7 @@ use native.Mathlib.Omega.{arith}
 use lib.ListN.{take}
 use Rattle.line_writer.specs.Written.{wrote-as}
 use Rattle.text_call.specs.Loaded.{ran-answer}
+use Rattle.text_call.proofs.Parts.{none-fits, low, whole}
 use borrow.Author.Needs.{needs}
 use Rattle.text_call.proofs.call.put_solved.Statement.{statement}
 use Rattle.text_call.proofs.call.put_solved.Tie as tie
@@ -16,25 +17,25 @@ add-m : tie.Need-add-m
 add-m c = search needs
 
 mul-put-verdict : tie.Need-mul-put-verdict
-mul-put-verdict c = search needs
+mul-put-verdict c = none-fits
 
 sub-put-verdict : tie.Need-sub-put-verdict
-sub-put-verdict c = search needs
+sub-put-verdict c = low _
 
 part-put-verdict-start : tie.Need-part-put-verdict-start
-part-put-verdict-start c = search needs
+part-put-verdict-start c = low _
 
 part-put-verdict-end : tie.Need-part-put-verdict-end
 part-put-verdict-end c = search needs
 
 mul-put-verdict-2 : tie.Need-mul-put-verdict-2
-mul-put-verdict-2 c = search needs
+mul-put-verdict-2 c = none-fits
 
 sub-put-verdict-2 : tie.Need-sub-put-verdict-2
-sub-put-verdict-2 c = search needs
+sub-put-verdict-2 c = low _
 
 part-put-verdict-start-2 : tie.Need-part-put-verdict-start-2
-part-put-verdict-start-2 c = search needs
+part-put-verdict-start-2 c = low _
 
 part-put-verdict-end-2 : tie.Need-part-put-verdict-end-2
 part-put-verdict-end-2 c = search needs
@@ -47,24 +48,24 @@ put-verdict-requires c κs =
     let n = a .n in
     let polynomial = r .run .last .1 .1 .1 .1 .1 .1 .1 .1 .0 in
     let vector = r .run .last .1 .1 .1 .1 .1 .1 .1 .0 in
-    let m : n + 1 - 0 ≡ n + 1 = omega arith in
-    let k : n - 0 ≡ n = omega arith in
+    let m = whole (n + 1) in
+    let k = whole n in
     let text =
     ran-answer (a .p) n (a .count) (a .starts .now) (a .columns .now) (a .values .now) (a .right .now) (d .pre .0) (r .run .result) vector polynomial (r .run .ensures)
     (take (n + 1 - 0) polynomial) (take (n - 0) vector) (ap (λ i. take i polynomial) m) (ap (λ i. take i vector) k) in
     text .0
 
 same-length : tie.Need-same-length
-same-length c = search needs
+same-length c = c .before .before .put-verdict .kept .0
 
 same-length-2 : tie.Need-same-length-2
-same-length-2 c = search needs
+same-length-2 c = c .before .before .before .before .before .before .before .before .before .before .before .before .before .before .run .kept .1 .1 .1 .1 .1 .1 .1 .0
 
 same-length-3 : tie.Need-same-length-3
-same-length-3 c = search needs
+same-length-3 c = c .before .before .before .before .before .before .before .before .before .before .before .before .before .before .run .kept .1 .1 .1 .1 .1 .1 .1 .1 .0
 
 same-length-4 : tie.Need-same-length-4
-same-length-4 c = search needs
+same-length-4 c = c .before .before .before .before .before .before .before .before .before .before .before .before .before .before .run .kept .1 .1 .1 .1 .1 .1 .1 .1 .1 .0
 
 returns : tie.Need-returns
 returns c =
@@ -74,8 +75,8 @@ returns c =
     let n = a .n in
     let polynomial = r .run .last .1 .1 .1 .1 .1 .1 .1 .1 .0 in
     let vector = r .run .last .1 .1 .1 .1 .1 .1 .1 .0 in
-    let m : n + 1 - 0 ≡ n + 1 = omega arith in
-    let k : n - 0 ≡ n = omega arith in
+    let m = whole (n + 1) in
+    let k = whole n in
     let text =
     ran-answer (a .p) n (a .count) (a .starts .now) (a .columns .now) (a .values .now) (a .right .now) (d .pre .0) (r .run .result) vector polynomial (r .run .ensures)
     (take (n + 1 - 0) polynomial) (take (n - 0) vector) (ap (λ i. take i polynomial) m) (ap (λ i. take i vector) k) in

@@ -1,22 +1,22 @@
--- `output::all_elements` meets its contract. The invariant: the lines of the elements below i are written.
-use mathlib.Core.Path.{_≡_, sym, ap}
+-- `output::right_side` meets its contract. The invariant: the lines of the elements below i are written.
+use mathlib.Core.Path.{_≡_, sym, ap, _∙_}
 use Prim.Native.Nat.{_-_, _≤_}
 use native.Mathlib.Omega.{arith}
 use lib.ListN.{length}
 use Rattle.meaning.specs.List.{flat, table}
 use Rattle.meaning.specs.Text.{writeElement}
-use Rattle.line_writer.specs.Written.{last, Wrote, wrote-line, wrote-none, wrote-as, wrote-rows-none, wrote-rows-more}
-use Rattle.system_text.specs.Writes.{element-none, element-line}
+use Rattle.line_writer.specs.Written.{last, Wrote, wrote-line, wrote-none, wrote-as, wrote-then, wrote-rows-none, wrote-rows-more}
+use Rattle.system_text.specs.Writes.{element-none, element-line, ending-line}
 use borrow.Author.Needs.{needs}
-use Rattle.system_text.proofs.output.all_elements.Statement.{statement}
-use Rattle.system_text.proofs.output.all_elements.Tie as tie
+use Rattle.system_text.proofs.output.right_side.Statement.{statement}
+use Rattle.system_text.proofs.output.right_side.Tie as tie
 
 abbrev Inv-loop : tie.InvT-loop
-Inv-loop out₀ at right next₀ i₀ numbers out next i =
+Inv-loop out₀ at right next₀ i₀ numbers end none out next i =
     (i ≤ length right) × (next ≤ last) × Wrote out₀ at (flat (table i (writeElement right))) next out
 
 abbrev μ-loop : tie.MeasureT-loop
-μ-loop out₀ at right next₀ i₀ numbers out next i = length right - i
+μ-loop out₀ at right next₀ i₀ numbers end none out next i = length right - i
 
 loop-holds : tie.Need-loop-holds Inv-loop μ-loop
 loop-holds c =
@@ -75,18 +75,29 @@ loop-again-2 c =
           (wrote-as (element-line right i (u .long .result) (f .if1 .left) (u .long .ensures .0)) (wrote-line (e .ensures .0) (e .ensures .1))),
     )
 
+slice-aggregate-put-line-3 : tie.Need-slice-aggregate-put-line-3 Inv-loop μ-loop
+slice-aggregate-put-line-3 c = search needs
+
+slice-aggregate-put-line-4 : tie.Need-slice-aggregate-put-line-4 Inv-loop μ-loop
+slice-aggregate-put-line-4 c = search needs
+
+put-line-requires-2 : tie.Need-put-line-requires-2 Inv-loop μ-loop
+put-line-requires-2 c κs = search needs
+
 same-length : tie.Need-same-length Inv-loop μ-loop
-same-length c = c .before .loop .inv .2 .same
+same-length c = c .before .before .put-line2 .kept .0 ∙ c .before .before .before .before .before .before .before .loop .inv .2 .same
 
 returns : tie.Need-returns Inv-loop μ-loop
 returns c =
-    let b = c .before in
+    let e = c .before .before .put-line2 in
+    let o = c .before .before .before .before .before .before in
+    let b = o .before in
     let right = b .before .before .before .args .right .now in
-    let q : b .loop .i ≡ length right = omega (arith, c .loop-test .left, b .loop .inv .0) in
-    wrote-as (ap (λ m. flat (table m (writeElement right))) q) (b .loop .inv .2)
+    let q : b .loop .i ≡ length right = omega (arith, o .loop-test .left, b .loop .inv .0) in
+    wrote-then (wrote-as (ap (λ m. flat (table m (writeElement right))) q) (b .loop .inv .2)) (wrote-as ending-line (wrote-line (e .ensures .0) (e .ensures .1)))
 
-pub all-elements-spec : {M : Type 1} → statement M
-all-elements-spec =
+pub right-side-spec : {M : Type 1} → statement M
+right-side-spec =
     tie.close
     (tie.spec
     Inv-loop
@@ -103,5 +114,8 @@ all-elements-spec =
     put-line-requires
     loop-less-2
     loop-again-2
+    slice-aggregate-put-line-3
+    slice-aggregate-put-line-4
+    put-line-requires-2
     same-length
     returns)
