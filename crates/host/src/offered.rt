@@ -37,7 +37,8 @@ pub extern "C" fn filzeur_takes(
     x: &[u32],
     b: &[u32],
 ) -> Yes
-    ensures { λ r. ⌜ r ≡ yesOf (takesRefusal p (matrix (now (starts .entry)) (now (columns .entry)) (now (values .entry))) (now (x .entry)) (now (b .entry))) (takesAnswer p (matrix (now (starts .entry)) (now (columns .entry)) (now (values .entry))) (now (x .entry)) (now (b .entry))) ⌝ }
+    ensures { λ r. ⌜ r ≡ yesOf (takesRefusal p (matrix (now (starts .entry)) (now (columns .entry)) (now (values .entry))) (now (x .entry))
+        (now (b .entry))) (takesAnswer p (matrix (now (starts .entry)) (now (columns .entry)) (now (values .entry))) (now (x .entry)) (now (b .entry))) ⌝ }
 {
     numbers_of(takes(Field { p }, starts, columns, values, x, b))
 }
@@ -50,7 +51,8 @@ pub extern "C" fn filzeur_is_null(
     values: &[u32],
     w: &[u32],
 ) -> Yes
-    ensures { λ r. ⌜ r ≡ yesOf (isNullRefusal p (matrix (now (starts .entry)) (now (columns .entry)) (now (values .entry))) (now (w .entry))) (isNullAnswer p (matrix (now (starts .entry)) (now (columns .entry)) (now (values .entry))) (now (w .entry))) ⌝ }
+    ensures { λ r. ⌜ r ≡ yesOf (isNullRefusal p (matrix (now (starts .entry)) (now (columns .entry)) (now (values .entry))) (now (w .entry)))
+        (isNullAnswer p (matrix (now (starts .entry)) (now (columns .entry)) (now (values .entry))) (now (w .entry))) ⌝ }
 {
     numbers_of(is_null(Field { p }, starts, columns, values, w))
 }

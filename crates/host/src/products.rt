@@ -63,8 +63,10 @@ pub extern "C" fn filzeur_apply(
     work: &mut [u32],
 ) -> u32
     ensures { λ r. ⌜ r ≡ applyRefusal p (matrix (now (starts .entry)) (now (columns .entry)) (now (values .entry))) (now (g .entry)) (now (v .entry)) (now (out .entry)) (now (work .entry)) ⌝ }
-    ensures { λ _. ⌜ now (out .exit) ≡ applyAfter p (matrix (now (starts .entry)) (now (columns .entry)) (now (values .entry))) (now (g .entry)) (now (v .entry)) (now (out .entry)) (now (work .entry)) ⌝ }
-    ensures { λ _. ⌜ (applyRefusal p (matrix (now (starts .entry)) (now (columns .entry)) (now (values .entry))) (now (g .entry)) (now (v .entry)) (now (out .entry)) (now (work .entry)) ≢ 0 → now (work .exit) ≡ now (work .entry)) ⌝ }
+    ensures { λ _. ⌜ now (out .exit) ≡ applyAfter p (matrix (now (starts .entry)) (now (columns .entry)) (now (values .entry))) (now (g .entry))
+        (now (v .entry)) (now (out .entry)) (now (work .entry)) ⌝ }
+    ensures { λ _. ⌜ (applyRefusal p (matrix (now (starts .entry)) (now (columns .entry)) (now (values .entry))) (now (g .entry)) (now (v .entry))
+        (now (out .entry)) (now (work .entry)) ≢ 0 → now (work .exit) ≡ now (work .entry)) ⌝ }
 {
     number_of(apply(Field { p }, starts, columns, values, g, v, out, work))
 }

@@ -38,7 +38,8 @@ pub extern "C" fn filzeur_recurrence(
     polynomial: &mut [u32],
     work: &mut [u32],
 ) -> Degree
-    ensures { λ r. ⌜ r ≡ degreeOf (recurrenceRefusal p (now (s .entry)) (now (polynomial .entry)) (now (work .entry))) (recurrenceAnswer p (now (s .entry)) (now (polynomial .entry)) (now (work .entry))) ⌝ }
+    ensures { λ r. ⌜ r ≡ degreeOf (recurrenceRefusal p (now (s .entry)) (now (polynomial .entry)) (now (work .entry))) (recurrenceAnswer p (now (s .entry))
+        (now (polynomial .entry)) (now (work .entry))) ⌝ }
     ensures { λ _. ⌜ now (polynomial .exit) ≡ recurrenceAfter p (now (s .entry)) (now (polynomial .entry)) (now (work .entry)) ⌝ }
     ensures { λ r. ⌜ (r .refusal ≢ 0 → now (work .exit) ≡ now (work .entry)) ⌝ }
     ensures { λ r. ⌜ (r .refusal ≡ 0 → IsShortest p (now (s .entry)) (r .degree) (take (r .degree + 1) (now (polynomial .exit)))) ⌝ }

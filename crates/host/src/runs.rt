@@ -64,11 +64,16 @@ pub extern "C" fn filzeur_solve(
     polynomial: &mut [u32],
     work: &mut [u32],
 ) -> Verdict
-    ensures { λ r. ⌜ r ≡ verdictOf (solverRefusal p (matrix (now (starts .entry)) (now (columns .entry)) (now (values .entry))) (now (b .entry)) (now (words .entry)) (now (vector .entry)) (now (polynomial .entry)) (now (work .entry))) (meaning.solve p (matrix (now (starts .entry)) (now (columns .entry)) (now (values .entry))) (now (b .entry)) (now (words .entry))) ⌝ }
-    ensures { λ _. ⌜ now (vector .exit) ≡ vectorAfter p (matrix (now (starts .entry)) (now (columns .entry)) (now (values .entry))) (now (b .entry)) (now (words .entry)) (now (vector .entry)) (now (polynomial .entry)) (now (work .entry)) ⌝ }
-    ensures { λ _. ⌜ now (polynomial .exit) ≡ polynomialAfter p (matrix (now (starts .entry)) (now (columns .entry)) (now (values .entry))) (now (b .entry)) (now (words .entry)) (now (vector .entry)) (now (polynomial .entry)) (now (work .entry)) ⌝ }
+    ensures { λ r. ⌜ r ≡ verdictOf (solverRefusal p (matrix (now (starts .entry)) (now (columns .entry)) (now (values .entry))) (now (b .entry))
+        (now (words .entry)) (now (vector .entry)) (now (polynomial .entry)) (now (work .entry))) (meaning.solve p (matrix (now (starts .entry))
+        (now (columns .entry)) (now (values .entry))) (now (b .entry)) (now (words .entry))) ⌝ }
+    ensures { λ _. ⌜ now (vector .exit) ≡ vectorAfter p (matrix (now (starts .entry)) (now (columns .entry)) (now (values .entry))) (now (b .entry))
+        (now (words .entry)) (now (vector .entry)) (now (polynomial .entry)) (now (work .entry)) ⌝ }
+    ensures { λ _. ⌜ now (polynomial .exit) ≡ polynomialAfter p (matrix (now (starts .entry)) (now (columns .entry)) (now (values .entry))) (now (b .entry))
+        (now (words .entry)) (now (vector .entry)) (now (polynomial .entry)) (now (work .entry)) ⌝ }
     ensures { λ r. ⌜ (r .refusal ≢ 0 → now (work .exit) ≡ now (work .entry)) ⌝ }
-    ensures { λ r. ⌜ (r .refusal ≡ 0 → ThirdCondition p (matrix (now (starts .entry)) (now (columns .entry)) (now (values .entry))) (now (b .entry)) (now (words .entry)) (meaning.solve p (matrix (now (starts .entry)) (now (columns .entry)) (now (values .entry))) (now (b .entry)) (now (words .entry)))) ⌝ }
+    ensures { λ r. ⌜ (r .refusal ≡ 0 → ThirdCondition p (matrix (now (starts .entry)) (now (columns .entry)) (now (values .entry))) (now (b .entry))
+        (now (words .entry)) (meaning.solve p (matrix (now (starts .entry)) (now (columns .entry)) (now (values .entry))) (now (b .entry)) (now (words .entry)))) ⌝ }
 {
     numbers_of(solve(
         Field { p },

@@ -7,7 +7,8 @@ ghost use mathlib.Core.Path.{_≡_};
 ghost use Prim.Native.Nat.{_≤_};
 ghost use Rattle.meaning.specs.Matrix.{matrix};
 ghost use Rattle.meaning.specs.Calls.{readerRefusal, readerAnswer, readerAfter, writerRefusal, writerAnswer, writerAfter, textAnswer, textAfter};
-ghost use Rattle.system_text.specs.Answers.{refusalOfRead, modulusOfRead, sizeOfRead, countOfRead, startsOfSystem, columnsOfSystem, valuesOfSystem, rightOfSystem, modulusOfDocument, sizeOfDocument, countOfDocument, refusalOfWritten, lengthOfWritten};
+ghost use Rattle.system_text.specs.Answers.{refusalOfRead, modulusOfRead, sizeOfRead, countOfRead, startsOfSystem, columnsOfSystem};
+ghost use Rattle.system_text.specs.Answers.{valuesOfSystem, rightOfSystem, modulusOfDocument, sizeOfDocument, countOfDocument, refusalOfWritten, lengthOfWritten};
 ghost use Rattle.host.specs.Answers.{systemOf, lengthOf};
 ghost use lib.ListN.{length};
 
@@ -66,11 +67,19 @@ pub extern "C" fn filzeur_read(
     values: &mut [u32],
     right: &mut [u32],
 ) -> System
-    ensures { λ r. ⌜ r ≡ systemOf (readerRefusal (now (text .entry)) (now (starts .entry)) (now (columns .entry)) (now (values .entry)) (now (right .entry))) (readerAnswer modulusOfDocument (now (text .entry)) (now (starts .entry)) (now (columns .entry)) (now (values .entry)) (now (right .entry))) (readerAnswer sizeOfDocument (now (text .entry)) (now (starts .entry)) (now (columns .entry)) (now (values .entry)) (now (right .entry))) (readerAnswer countOfDocument (now (text .entry)) (now (starts .entry)) (now (columns .entry)) (now (values .entry)) (now (right .entry))) ⌝ }
-    ensures { λ _. ⌜ now (starts .exit) ≡ readerAfter startsOfSystem (now (starts .entry)) (now (text .entry)) (now (starts .entry)) (now (columns .entry)) (now (values .entry)) (now (right .entry)) ⌝ }
-    ensures { λ _. ⌜ now (columns .exit) ≡ readerAfter columnsOfSystem (now (columns .entry)) (now (text .entry)) (now (starts .entry)) (now (columns .entry)) (now (values .entry)) (now (right .entry)) ⌝ }
-    ensures { λ _. ⌜ now (values .exit) ≡ readerAfter valuesOfSystem (now (values .entry)) (now (text .entry)) (now (starts .entry)) (now (columns .entry)) (now (values .entry)) (now (right .entry)) ⌝ }
-    ensures { λ _. ⌜ now (right .exit) ≡ readerAfter rightOfSystem (now (right .entry)) (now (text .entry)) (now (starts .entry)) (now (columns .entry)) (now (values .entry)) (now (right .entry)) ⌝ }
+    ensures { λ r. ⌜ r ≡ systemOf (readerRefusal (now (text .entry)) (now (starts .entry)) (now (columns .entry)) (now (values .entry))
+        (now (right .entry))) (readerAnswer modulusOfDocument (now (text .entry)) (now (starts .entry)) (now (columns .entry)) (now (values .entry))
+        (now (right .entry))) (readerAnswer sizeOfDocument (now (text .entry)) (now (starts .entry)) (now (columns .entry)) (now (values .entry))
+        (now (right .entry))) (readerAnswer countOfDocument (now (text .entry)) (now (starts .entry)) (now (columns .entry)) (now (values .entry))
+        (now (right .entry))) ⌝ }
+    ensures { λ _. ⌜ now (starts .exit) ≡ readerAfter startsOfSystem (now (starts .entry)) (now (text .entry)) (now (starts .entry)) (now (columns .entry))
+        (now (values .entry)) (now (right .entry)) ⌝ }
+    ensures { λ _. ⌜ now (columns .exit) ≡ readerAfter columnsOfSystem (now (columns .entry)) (now (text .entry)) (now (starts .entry)) (now (columns .entry))
+        (now (values .entry)) (now (right .entry)) ⌝ }
+    ensures { λ _. ⌜ now (values .exit) ≡ readerAfter valuesOfSystem (now (values .entry)) (now (text .entry)) (now (starts .entry)) (now (columns .entry))
+        (now (values .entry)) (now (right .entry)) ⌝ }
+    ensures { λ _. ⌜ now (right .exit) ≡ readerAfter rightOfSystem (now (right .entry)) (now (text .entry)) (now (starts .entry)) (now (columns .entry))
+        (now (values .entry)) (now (right .entry)) ⌝ }
 {
     numbers_of_system(read(text, starts, columns, values, right))
 }
@@ -84,7 +93,8 @@ pub extern "C" fn filzeur_write(
     b: &[u32],
     text: &mut [u8],
 ) -> Length
-    ensures { λ r. ⌜ r ≡ lengthOf (writerRefusal p (matrix (now (starts .entry)) (now (columns .entry)) (now (values .entry))) (now (b .entry)) (now (text .entry))) (writerAnswer p (matrix (now (starts .entry)) (now (columns .entry)) (now (values .entry))) (now (b .entry)) (now (text .entry))) ⌝ }
+    ensures { λ r. ⌜ r ≡ lengthOf (writerRefusal p (matrix (now (starts .entry)) (now (columns .entry)) (now (values .entry))) (now (b .entry))
+        (now (text .entry))) (writerAnswer p (matrix (now (starts .entry)) (now (columns .entry)) (now (values .entry))) (now (b .entry)) (now (text .entry))) ⌝ }
     ensures { λ _. ⌜ now (text .exit) ≡ writerAfter p (matrix (now (starts .entry)) (now (columns .entry)) (now (values .entry))) (now (b .entry)) (now (text .entry)) ⌝ }
 {
     numbers_of_length(write(p, starts, columns, values, b, text))

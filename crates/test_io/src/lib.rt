@@ -110,20 +110,21 @@ pub fn text_part(s: &[u8], from: usize, to: usize) -> &[u8]
     &s[start..end]
 }
 
-pub fn front(s: &mut [u32], count: usize) -> &mut [u32]
-    ensures { λ r. ⌜ now r ≡ take count (now (s .entry)) ⌝ }
+// What is done to the part is its holder's matter, so the slice is free, as a work slice is.
+pub fn front(work: &mut [u32], count: usize) -> &mut [u32]
+    ensures { λ r. ⌜ now r ≡ take count (now (work .entry)) ⌝ }
 {
-    let end = least(count, s.len());
+    let end = least(count, work.len());
     let z: usize = 0;
-    &mut s[z..end]
+    &mut work[z..end]
 }
 
-pub fn text_front(s: &mut [u8], count: usize) -> &mut [u8]
-    ensures { λ r. ⌜ now r ≡ take count (now (s .entry)) ⌝ }
+pub fn text_front(work: &mut [u8], count: usize) -> &mut [u8]
+    ensures { λ r. ⌜ now r ≡ take count (now (work .entry)) ⌝ }
 {
-    let end = least(count, s.len());
+    let end = least(count, work.len());
     let z: usize = 0;
-    &mut s[z..end]
+    &mut work[z..end]
 }
 
 // ---- what stands in a slice
@@ -167,7 +168,9 @@ pub fn after(s: &[u32], from: usize, count: usize) -> usize
 }
 
 // List `k` of those from `from` on.
-pub fn list(s: &[u32], from: usize, k: usize) -> &[u32] {
+pub fn list(s: &[u32], from: usize, k: usize) -> &[u32]
+    ensures { λ r. ⌜ length (now r) ≤ length (now (s .entry)) ⌝ }
+{
     let start = after(s, from, k);
     let end = next(s, start);
     part(s, least(start + 1, end), end)
@@ -208,12 +211,16 @@ fn text_hash(s: &[u8]) -> u32 {
     h
 }
 
-pub fn print(x: u64) {
+pub fn print(x: u64)
+    ensures { λ _. ⊤ₛ }
+{
     io::write_all(STDOUT_FILENO, b" ");
     io::print_decimal(STDOUT_FILENO, x);
 }
 
-pub fn end_line() {
+pub fn end_line()
+    ensures { λ _. ⊤ₛ }
+{
     io::write_all(STDOUT_FILENO, b"\n");
 }
 
@@ -236,7 +243,9 @@ fn behind(size: usize) -> usize {
 }
 
 // Of a slice whose first `size` places were lent, the elements from `from` on, and of two places behind them; of more than 12 their hash.
-pub fn show(s: &[u32], from: usize, size: usize) {
+pub fn show(s: &[u32], from: usize, size: usize)
+    ensures { λ _. ⊤ₛ }
+{
     let shown = part(s, from, behind(size));
     if shown.len() > 12 {
         print_hash(hash(shown));
@@ -246,6 +255,8 @@ pub fn show(s: &[u32], from: usize, size: usize) {
 }
 
 // The hash of the same in bytes.
-pub fn show_text(s: &[u8], from: usize, size: usize) {
+pub fn show_text(s: &[u8], from: usize, size: usize)
+    ensures { λ _. ⊤ₛ }
+{
     print_hash(text_hash(text_part(s, from, behind(size))));
 }

@@ -1,4 +1,3 @@
--- `field::are_elements` meets its contract. Assumes nothing.
 use borrow.Author.Tests.{lt-ltb, le-ltb}
 use Rattle.field.proofs.are_elements.Statement.{statement}
 use Rattle.field.proofs.are_elements.Tie as tie

@@ -1,4 +1,3 @@
--- `field::difference_below` meets its contract. Assumes nothing.
 use mathlib.Core.Path.{sym}
 use native.Mathlib.Omega.{arith}
 use Rattle.meaning.specs.Field.{minus}

@@ -1,4 +1,3 @@
--- `field::inverse_refusal` meets its contract. Assumes nothing.
 use mathlib.Core.Path.{sym, _∙_}
 use Rattle.field.proofs.Refusals.{inverse-operation, inverse-of-zero, inverse-taken}
 use borrow.Author.Needs.{needs}

@@ -1,4 +1,3 @@
--- `field::operation_refusal` meets its contract. Assumes nothing.
 use mathlib.Core.Path.{sym, _∙_}
 use borrow.Author.Tests.{not-true, not-false}
 use Rattle.field.proofs.Refusals.{operation-modulus, operation-operand, operation-taken}

@@ -1,4 +1,4 @@
--- `field::product_below` meets its contract: the product of two numbers below 2³¹ fits 64 bits, and its remainder is below p. Assumes nothing.
+-- `field::product_below` meets its contract: the product of two numbers below 2³¹ fits 64 bits, and its remainder is below p.
 use mathlib.Core.Path.{refl}
 use Prim.Native.Nat.{_*_}
 use native.Mathlib.Nat.{mul-le-mul, mod-lt}

@@ -1,4 +1,4 @@
--- `field::sum_below` meets its contract: a sum below 2p is reduced by one difference. Assumes nothing.
+-- `field::sum_below` meets its contract: a sum below 2p is reduced by one difference.
 use mathlib.Core.Path.{sym}
 use Prim.Native.Nat.{_+_}
 use native.Mathlib.Nat.{mod-eq-of-lt}

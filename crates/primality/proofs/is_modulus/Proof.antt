@@ -1,4 +1,4 @@
--- `primality::is_modulus` meets its contract: 2 and 3 by the definition, what 2 or 3 divides is not prime, and the rest is the wheel's or the table's. Assumes nothing.
+-- `primality::is_modulus` meets its contract: 2 and 3 by the definition, what 2 or 3 divides is not prime, and the rest is the wheel's or the table's.
 use mathlib.Core.Path.{_≡_, sym, _∙_}
 use mathlib.Core.Bool.{true}
 use Prim.Native.Nat.{ℕ, _≤_, _<_}

@@ -11,16 +11,16 @@ least-requires c κs = search needs
 sub-result : tie.Need-sub-result
 sub-result c = search needs
 
-part-s-start : tie.Need-part-s-start
-part-s-start c = search needs
+part-work-start : tie.Need-part-work-start
+part-work-start c = search needs
 
-part-s-end : tie.Need-part-s-end
-part-s-end c = search needs
+part-work-end : tie.Need-part-work-end
+part-work-end c = search needs
 
 returns : tie.Need-returns
 returns c =
     let a = c .before .before .before .args in
-    front-of (now (a .s)) (a .count) (c .before .least .result) (c .before .least .ensures .0)
+    front-of (now (a .work)) (a .count) (c .before .least .result) (c .before .least .ensures .0)
 
 pub text-front-spec : {M : Type 1} → statement M
-text-front-spec = tie.close (tie.spec least-requires sub-result part-s-start part-s-end returns)
+text-front-spec = tie.close (tie.spec least-requires sub-result part-work-start part-work-end returns)

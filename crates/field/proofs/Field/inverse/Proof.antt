@@ -1,4 +1,3 @@
--- `field::Field::inverse` meets its contract. Assumes nothing.
 use Rattle.meaning.specs.Field.{inverse}
 use Rattle.field.proofs.Refusals.{gives-element, gives-refused}
 use borrow.Author.Needs.{needs}

@@ -1,4 +1,3 @@
--- `field::Field::new` meets its contract. Assumes nothing.
 use mathlib.Core.Path.{refl, sym, _∙_}
 use native.Mathlib.Omega.{arith}
 use Rattle.field.proofs.Refusals.{field-taken, field-refused}

@@ -1,4 +1,3 @@
--- `field::Field::product` meets its contract. Assumes nothing.
 use mathlib.Core.Path.{sym, _∙_}
 use Rattle.meaning.specs.Field.{times}
 use Rattle.field.proofs.Refusals.{operation-accepted, gives-element, gives-refused}

@@ -1,5 +1,5 @@
 -- `field::euclid::inverse_modulo` meets its contract. The loop's invariant is the Euclidean algorithm's (proofs/Cofactors.antt), with u above 1; the measure
--- is v. Assumes nothing.
+-- is v.
 use mathlib.Core.Path.{_≡_, sym}
 use Prim.Native.Nat.{ℕ, _*_, _%_, _<_}
 use native.Mathlib.Nat.{mod-lt}

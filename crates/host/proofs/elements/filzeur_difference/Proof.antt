@@ -1,4 +1,3 @@
--- `host::elements::filzeur_difference` meets its contract. Assumes nothing.
 use borrow.Author.Needs.{needs}
 use Rattle.host.proofs.elements.filzeur_difference.Statement.{statement}
 use Rattle.host.proofs.elements.filzeur_difference.Tie as tie

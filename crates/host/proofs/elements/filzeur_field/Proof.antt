@@ -1,4 +1,3 @@
--- `host::elements::filzeur_field` meets its contract. Assumes nothing.
 use borrow.Author.Needs.{needs}
 use Rattle.host.proofs.elements.filzeur_field.Statement.{statement}
 use Rattle.host.proofs.elements.filzeur_field.Tie as tie

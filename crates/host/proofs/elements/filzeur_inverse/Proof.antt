@@ -1,4 +1,3 @@
--- `host::elements::filzeur_inverse` meets its contract. Assumes nothing.
 use borrow.Author.Needs.{needs}
 use Rattle.host.proofs.elements.filzeur_inverse.Statement.{statement}
 use Rattle.host.proofs.elements.filzeur_inverse.Tie as tie

@@ -1,4 +1,3 @@
--- `host::elements::filzeur_product_of` meets its contract. Assumes nothing.
 use borrow.Author.Needs.{needs}
 use Rattle.host.proofs.elements.filzeur_product_of.Statement.{statement}
 use Rattle.host.proofs.elements.filzeur_product_of.Tie as tie

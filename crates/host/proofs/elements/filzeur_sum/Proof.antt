@@ -1,4 +1,3 @@
--- `host::elements::filzeur_sum` meets its contract. Assumes nothing.
 use borrow.Author.Needs.{needs}
 use Rattle.host.proofs.elements.filzeur_sum.Statement.{statement}
 use Rattle.host.proofs.elements.filzeur_sum.Tie as tie

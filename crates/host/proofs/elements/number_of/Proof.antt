@@ -1,4 +1,3 @@
--- `host::elements::number_of` meets its contract. Assumes nothing.
 use mathlib.Core.Path.{sym, subst}
 use Rattle.field.specs.Answer.{Makes}
 use borrow.Author.Needs.{needs}

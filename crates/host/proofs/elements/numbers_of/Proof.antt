@@ -1,4 +1,3 @@
--- `host::elements::numbers_of` meets its contract. Assumes nothing.
 use mathlib.Core.Path.{sym, ap₂, subst}
 use Rattle.field.specs.Answer.{Gives}
 use Rattle.host.specs.Answers.{elementOf}

@@ -1,4 +1,3 @@
--- `host::offered::filzeur_is_null` meets its contract. Assumes nothing.
 use borrow.Author.Needs.{needs}
 use Rattle.host.proofs.offered.filzeur_is_null.Statement.{statement}
 use Rattle.host.proofs.offered.filzeur_is_null.Tie as tie

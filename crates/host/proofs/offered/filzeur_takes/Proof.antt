@@ -1,4 +1,3 @@
--- `host::offered::filzeur_takes` meets its contract. Assumes nothing.
 use borrow.Author.Needs.{needs}
 use Rattle.host.proofs.offered.filzeur_takes.Statement.{statement}
 use Rattle.host.proofs.offered.filzeur_takes.Tie as tie

@@ -1,4 +1,3 @@
--- `host::offered::numbers_of` meets its contract. Assumes nothing.
 use mathlib.Core.Path.{sym, ap₂, subst}
 use Rattle.wiedemann.specs.Answers.{Decides}
 use Rattle.host.specs.Answers.{yesOf}

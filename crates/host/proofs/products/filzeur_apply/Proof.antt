@@ -1,4 +1,3 @@
--- `host::products::filzeur_apply` meets its contract. Assumes nothing.
 use borrow.Author.Needs.{needs}
 use Rattle.host.proofs.products.filzeur_apply.Statement.{statement}
 use Rattle.host.proofs.products.filzeur_apply.Tie as tie

@@ -1,4 +1,3 @@
--- `host::products::filzeur_product` meets its contract. Assumes nothing.
 use borrow.Author.Needs.{needs}
 use Rattle.host.proofs.products.filzeur_product.Statement.{statement}
 use Rattle.host.proofs.products.filzeur_product.Tie as tie

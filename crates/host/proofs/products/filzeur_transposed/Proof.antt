@@ -1,4 +1,3 @@
--- `host::products::filzeur_transposed` meets its contract. Assumes nothing.
 use borrow.Author.Needs.{needs}
 use Rattle.host.proofs.products.filzeur_transposed.Statement.{statement}
 use Rattle.host.proofs.products.filzeur_transposed.Tie as tie

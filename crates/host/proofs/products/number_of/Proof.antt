@@ -1,4 +1,3 @@
--- `host::products::number_of` meets its contract. Assumes nothing.
 use mathlib.Core.Path.{sym, subst}
 use Rattle.wiedemann.specs.Answers.{Writes}
 use borrow.Author.Needs.{needs}

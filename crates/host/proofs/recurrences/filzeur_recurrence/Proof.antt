@@ -1,4 +1,3 @@
--- `host::recurrences::filzeur_recurrence` meets its contract. Assumes nothing.
 use mathlib.Core.Path.{_≡_, sym, ap, subst, _∙_}
 use Prim.Native.Nat.{_+_, _≤_}
 use lib.ListN.{take}

@@ -1,4 +1,3 @@
--- `host::recurrences::numbers_of` meets its contract. Assumes nothing.
 use mathlib.Core.Path.{sym, ap₂, subst}
 use native.Mathlib.Omega.{arith}
 use Rattle.wiedemann.specs.Recurrence.{GivesDegree}

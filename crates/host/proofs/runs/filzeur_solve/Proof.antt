@@ -1,4 +1,3 @@
--- `host::runs::filzeur_solve` meets its contract. Assumes nothing.
 use mathlib.Core.Path.{_≡_, sym, ap, _∙_}
 use Rattle.meaning.specs.Matrix.{matrix}
 use Rattle.meaning.specs.Solver.{solve}

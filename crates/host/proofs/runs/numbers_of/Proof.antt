@@ -1,4 +1,3 @@
--- `host::runs::numbers_of` meets its contract. Assumes nothing.
 use mathlib.Core.Path.{subst, _∙_}
 use Rattle.meaning.specs.Solver.{solved, singular}
 use Rattle.solver.specs.Verdict.{Says}

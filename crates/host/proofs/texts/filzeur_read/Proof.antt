@@ -1,4 +1,3 @@
--- `host::texts::filzeur_read` meets its contract. Assumes nothing.
 use mathlib.Core.Path.{_∙_}
 use Rattle.host.proofs.Laid.{system-same}
 use borrow.Author.Needs.{needs}

@@ -1,4 +1,3 @@
--- `host::texts::filzeur_write` meets its contract. Assumes nothing.
 use mathlib.Core.Path.{ap₂, sym, subst, _∙_}
 use Prim.Native.Nat.{_≤_}
 use denote.Ref.{now}

@@ -1,4 +1,3 @@
--- `host::texts::numbers_of_length` meets its contract. Assumes nothing.
 use mathlib.Core.Path.{sym, ap}
 use native.Mathlib.Omega.{arith}
 use Rattle.system_text.specs.Answers.{refusalOfWritten, lengthOfWritten}

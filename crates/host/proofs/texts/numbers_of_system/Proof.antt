@@ -1,4 +1,3 @@
--- `host::texts::numbers_of_system` meets its contract. Assumes nothing.
 use mathlib.Core.Path.{sym, ap}
 use Rattle.system_text.specs.Answers.{refusalOfRead, modulusOfRead, sizeOfRead, countOfRead}
 use Rattle.host.specs.Answers.{systemOf}

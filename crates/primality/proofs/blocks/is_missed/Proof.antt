@@ -1,4 +1,3 @@
--- `primality::blocks::is_missed` meets its contract. Assumes nothing.
 use mathlib.Core.Path.{ap}
 use lib.Dec.{ltb}
 use borrow.Author.Needs.{needs}

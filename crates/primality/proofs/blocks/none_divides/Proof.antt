@@ -1,4 +1,4 @@
--- `primality::blocks::none_divides` meets its contract. The loop's invariant: the answer so far is that of the first j inverses. Assumes nothing.
+-- `primality::blocks::none_divides` meets its contract. The loop's invariant: the answer so far is that of the first j inverses.
 use mathlib.Core.Path.{_≡_, refl, sym, ap, _∙_}
 use mathlib.Core.Bool.{Bool, true, false, _&&_}
 use mathlib.Core.List.{List}

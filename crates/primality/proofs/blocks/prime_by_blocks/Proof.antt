@@ -1,4 +1,4 @@
--- `primality::blocks::prime_by_blocks` meets its contract. The loop's invariant: no number from 2 up to the start of block i divides p. Assumes nothing.
+-- `primality::blocks::prime_by_blocks` meets its contract. The loop's invariant: no number from 2 up to the start of block i divides p.
 use mathlib.Core.Path.{_≡_, sym, subst, _∙_}
 use Prim.Native.Nat.{_-_, _≤_}
 use native.Mathlib.Nat.{mul-le-mul}

@@ -1,4 +1,4 @@
--- `primality::blocks::prime_by_table` meets its contract: that the tables satisfy their rule is computed. Assumes nothing.
+-- `primality::blocks::prime_by_table` meets its contract: that the tables satisfy their rule is computed.
 use mathlib.Core.Path.{refl}
 use Rattle.primality.specs.Blocks.{inverts, smallPrimes, divided, walk, block, blocks}
 use borrow.Author.Needs.{needs}

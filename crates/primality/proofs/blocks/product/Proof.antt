@@ -1,4 +1,4 @@
--- `primality::blocks::product` meets its contract: a product of two numbers below 2³² fits 64 bits. Assumes nothing.
+-- `primality::blocks::product` meets its contract: a product of two numbers below 2³² fits 64 bits.
 use native.Mathlib.Nat.{mul-le-mul}
 use native.Mathlib.Omega.{arith}
 use borrow.Author.Needs.{needs}

@@ -1,5 +1,5 @@
 -- `primality::wheel::prime_by_wheel` meets its contract. The loop's invariant: d leaves 5 modulo 6, is at most 6 past the root of the largest modulus, and no
--- 6k ± 1 from 5 to d − 1 divides p. Assumes nothing.
+-- 6k ± 1 from 5 to d − 1 divides p.
 use mathlib.Core.Path.{_≡_, sym}
 use Prim.Native.Nat.{ℕ, _+_, _*_, _-_, _%_, _≤_, _<_}
 use native.Mathlib.Nat.{mul-le-mul, mul-le-mul-left}
