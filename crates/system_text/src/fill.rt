@@ -7,12 +7,7 @@ ghost use Rattle.meaning.specs.List.{overwrite};
 ghost use Rattle.system_text.specs.Places.{entriesOf, elementsOf};
 ghost use Rattle.system_text.specs.Fill.{startsOf, columnsOf, valuesOf, rightOf, EntriesAhead, ElementsAhead};
 use crate::line::line;
-
-pub(crate) fn wide(x: u32) -> usize
-    ensures { λ r. ⌜ (r ≡ x) × (r ≤ 4294967295) ⌝ }
-{
-    x as usize
-}
+use checks::wide;
 
 // One value from a place to another.
 pub(crate) fn fill(a: &mut [u32], from: usize, to: usize, value: u32)

@@ -7,7 +7,7 @@ ghost use Rattle.meaning.specs.Matrix.{matrix};
 ghost use Rattle.meaning.specs.Text.{write};
 ghost use Rattle.line_writer.specs.Written.{Wrote};
 ghost use Rattle.system_text.specs.Writes.{Rows, headerText, rowText, rowsText, rightText};
-use crate::fill::wide;
+use checks::wide;
 use line_writer::put_line;
 
 fn long(x: u32) -> u64

@@ -1,9 +1,9 @@
 // The reader: checks 2 to 7 and 11, each over the whole text before the next, and then the slices.
 use crate::fill::fill_elements;
 use crate::fill::fill_entries;
-use crate::fill::wide;
 use crate::survey::Survey;
 use crate::survey::first_pass;
+use checks::wide;
 use field::is_modulus;
 ghost use mathlib.Core.Path.{_≡_};
 ghost use mathlib.Core.Bool.{_&&_};

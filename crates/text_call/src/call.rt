@@ -1,5 +1,6 @@
 // The call on its arrays: the reader, the solver, the answer's writer.
 use crate::answer::put_answer;
+use checks::wide;
 use field::Field;
 use solver::Verdict;
 use solver::solve;
@@ -107,12 +108,6 @@ fn put_solved(
     let z: usize = 0;
     let m = n + 1;
     put_verdict(answer, verdict, &polynomial[z..m], &vector[z..n])
-}
-
-fn wide(x: u32) -> usize
-    ensures { λ r. ⌜ (r ≡ x) × (r ≤ 4294967295) ⌝ }
-{
-    x as usize
 }
 
 // The text call, on arrays for 128 rows and 1,024 entries.
