@@ -1,6 +1,5 @@
 #include "kernel.h"
 
-#include <string.h>
 
 #ifdef __clang__
 #define COMPILER "clang " __clang_version__
@@ -58,10 +57,14 @@ static void step(struct modulus m, uint32_t c, const uint32_t *x, const struct p
 void kernel_apply(const struct plain_matrix *a, const uint32_t *g, size_t degree, const uint32_t *v,
                   uint32_t *out, uint32_t *power) {
     struct modulus m = modulus_of(a->p);
+    /* by turns between the two slices, so that nothing is copied and the last step lands in out: as ours does */
+    uint32_t *from = degree % 2 ? power : out, *to = degree % 2 ? out : power;
     for (size_t i = 0; i < a->n; i++)
-        out[i] = remainder_of(m, (uint64_t)g[degree] * v[i]);
+        from[i] = remainder_of(m, (uint64_t)g[degree] * v[i]);
     while (degree-- > 0) {
-        memcpy(power, out, a->n * sizeof *out);
-        step(m, g[degree], v, a, power, out);
+        step(m, g[degree], v, a, from, to);
+        uint32_t *next = from;
+        from = to;
+        to = next;
     }
 }
