@@ -2,5 +2,8 @@
 pub mod Accepted
 pub mod Bool
 pub mod List
+pub mod Written
+pub mod Part
+pub mod Lent
 pub mod Refusal
 pub mod Solver

@@ -47,8 +47,8 @@ use Rattle.checks.specs.Matrix.{vectorChecks, all-elements}
 use Rattle.wiedemann.specs.declared.pass.Pass.{Pass as CodePass}
 use Rattle.wiedemann.specs.declared.pass.Passed.{Passed}
 use Rattle.wiedemann.specs.declared.pass.Passed.the-variants.{Made, Refused}
-use Rattle.wiedemann.specs.Region.{part, at-part, part-ext}
-use Rattle.wiedemann.specs.Lent.{lent, length-lent, part-lent, part-at, part-cons}
+use Rattle.laws.specs.Part.{part, at-part, part-ext}
+use Rattle.laws.specs.Lent.{lent, length-lent, part-lent, part-at, part-cons}
 use Rattle.wiedemann.specs.Turns.{monic-leading}
 use Rattle.wiedemann.specs.Pass.{residualAt, held, passOf, passRefusal, Passes, refused-state, state-0}
 use Rattle.solver.specs.declared.Counts.{Counts}

@@ -28,8 +28,8 @@ use Rattle.bridge.specs.ThirdCondition.{everyRun, everyTwoRuns}
 use Rattle.solver.specs.declared.Counts.{Counts}
 use Rattle.solver.specs.declared.Verdict.{Verdict}
 use Rattle.solver.specs.declared.Verdict.the-variants.{Solved, Singular, Refused}
-use Rattle.wiedemann.specs.Region.{part, at-part, length-part}
-use Rattle.wiedemann.specs.Lent.{part-of-take, take-padded}
+use Rattle.laws.specs.Part.{part, at-part, length-part}
+use Rattle.laws.specs.Lent.{part-of-take, take-padded}
 use Rattle.wiedemann.specs.Pass.{held}
 use Rattle.laws.specs.Bool.{and-both}
 use Rattle.laws.specs.List.{length-table, getD-table}

@@ -14,7 +14,7 @@ ghost use Rattle.meaning.specs.Matrix.{matrix};
 ghost use Rattle.meaning.specs.Refusal.{wordsTaken};
 ghost use Rattle.meaning.specs.Solver.{begin};
 ghost use Rattle.checks.specs.Valid.{Vector};
-ghost use Rattle.wiedemann.specs.Region.{part};
+ghost use Rattle.laws.specs.Part.{part};
 ghost use Rattle.wiedemann.specs.Pass.{residualAt, held};
 ghost use Rattle.solver.specs.Run.{System, none, counted, Finished, Closable};
 ghost use Rattle.solver.specs.Verdict.{closing, Closed, Solves};

@@ -26,7 +26,7 @@ use Rattle.residue.specs.Lists.{reduced-getD}
 use Rattle.bridge.specs.Recurrence.{step-zero, step-stay, step-grow, steps-zero, steps-reduced, steps-within, steps-above}
 use Rattle.wiedemann.specs.declared.sums.Total.{Total}
 use Rattle.wiedemann.specs.declared.recurrence.Register.{Register}
-use Rattle.wiedemann.specs.Written.{Written}
+use Rattle.laws.specs.Written.{Written}
 use Rattle.wiedemann.specs.Sums.{number, Summed}
 use Rattle.wiedemann.specs.Projection.{sumFrom-zero}
 use Rattle.wiedemann.specs.Convolution.{cross, Crossing, nothing}

@@ -18,7 +18,7 @@ use Rattle.meaning.specs.Field.{minus, times, inverse}
 use Rattle.meaning.specs.Recurrence.{Steps, start, update}
 use Rattle.residue.specs.Inverse.{inverse-is}
 use Rattle.wiedemann.specs.declared.recurrence.Register.{Register}
-use Rattle.wiedemann.specs.Written.{Written}
+use Rattle.laws.specs.Written.{Written}
 use Rattle.wiedemann.specs.Recurrence.{Places, HoldsSteps, shifted, lengthened}
 use Rattle.wiedemann.proofs.Elements.{lt-or-ge, times-zero, minus-zero}
 use Rattle.wiedemann.proofs.Update.{at-update}

@@ -20,7 +20,7 @@ use Rattle.laws.specs.List.{table-of}
 use Rattle.residue.specs.Prime.{isModulus-Prime, isModulus-le}
 use Rattle.bridge.specs.Recurrence.{degree-within, length-generator, isShortest}
 use Rattle.checks.specs.Recurrence.{Accepted}
-use Rattle.wiedemann.specs.Written.{Written}
+use Rattle.laws.specs.Written.{Written}
 use Rattle.wiedemann.specs.Recurrence.{Ready, HoldsGenerator, Recurred}
 use Rattle.wiedemann.specs.declared.recurrence.Answer.the-variants.{Degree, Refused}
 use Rattle.wiedemann.proofs.HoldsGenerator.{generator-at}

@@ -23,9 +23,9 @@ use Rattle.laws.specs.List.{sum-ext, sum-zeros, table-of}
 use Rattle.wiedemann.specs.declared.sums.Total.{Total}
 use Rattle.wiedemann.specs.Sums.{number, Summed, sumFrom-split, sumFrom-ext}
 use Rattle.wiedemann.specs.Convolution.{cross, Crossing, nothing}
-use Rattle.wiedemann.specs.Region.{part, length-part, at-part}
+use Rattle.laws.specs.Part.{part, length-part, at-part}
 use Rattle.wiedemann.specs.Projection.{sumFrom-zero}
-use Rattle.wiedemann.specs.Lent.{lent, length-lent, part-lent, inner-lent, drop-lent, part-at, part-of-part, same-after, drop-ext}
+use Rattle.laws.specs.Lent.{lent, length-lent, part-lent, inner-lent, drop-lent, part-at, part-of-part, same-after, drop-ext}
 
 -- F, degree d, and f, degree t
 pub record Factors (p : ℕ) (W : List ℕ) (d f t : ℕ) : Type 0 where

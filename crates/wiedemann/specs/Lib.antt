@@ -2,14 +2,12 @@
 pub mod Modulus
 pub mod Sums
 pub mod Convolution
-pub mod Written
 pub mod Region
 pub mod Horner
 pub mod Transposed
 pub mod Offered
 pub mod Answers
 pub mod Recurrence
-pub mod Lent
 pub mod Projection
 pub mod Factor
 pub mod Turns

@@ -39,8 +39,8 @@ use Rattle.wiedemann.specs.declared.pass.Pass.{Pass as CodePass}
 use Rattle.wiedemann.specs.declared.pass.Passed.{Passed}
 use Rattle.wiedemann.specs.declared.pass.Passed.the-variants.{Made, Refused}
 use Rattle.wiedemann.specs.Projection.{Words}
-use Rattle.wiedemann.specs.Region.{part, length-part, at-part}
-use Rattle.wiedemann.specs.Lent.{lent, length-lent, take-lent, inner-lent, part-at, part-of-part, same-take, same-drop}
+use Rattle.laws.specs.Part.{part, length-part, at-part}
+use Rattle.laws.specs.Lent.{lent, length-lent, take-lent, inner-lent, part-at, part-of-part, same-take, same-drop}
 use Rattle.wiedemann.specs.Turns.{Shortened}
 use Rattle.wiedemann.specs.Factor.{Factors, Multiplied}
 

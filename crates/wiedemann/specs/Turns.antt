@@ -33,12 +33,13 @@ use Rattle.laws.specs.List.{table-of}
 use Rattle.residue.specs.Prime.{Prime, isModulus-Prime}
 use Rattle.bridge.specs.Recurrence.{steps-within, length-generator, isShortest}
 use Rattle.checks.specs.Valid.{Valid, Vector}
-use Rattle.wiedemann.specs.Written.{Written}
-use Rattle.wiedemann.specs.Region.{part, Apart, Regions, length-part, at-part, part-ext, written-part}
-use Rattle.wiedemann.specs.Region as region
+use Rattle.laws.specs.Written.{Written}
+use Rattle.laws.specs.Part.{part, Apart, length-part, at-part, part-ext, written-part}
+use Rattle.wiedemann.specs.Region.{Regions}
+use Rattle.laws.specs.Part as region
 use Rattle.wiedemann.specs.Horner.{step, stepAt, table-step, step-product, power-zero, power-suc, apply-one, apply-cons, vector-table, vector-product}
 use Rattle.wiedemann.specs.Recurrence.{HoldsGenerator}
-use Rattle.wiedemann.specs.Lent.{part-at, part-cons, lent, length-lent, take-lent, inner-lent, same-take, same-drop, written-take, written-drop, take-padded}
+use Rattle.laws.specs.Lent.{part-at, part-cons, lent, length-lent, take-lent, inner-lent, same-take, same-drop, written-take, written-drop, take-padded}
 
 pub data Seat (n a : ℕ) : Type 0 where
   origin : a ≡ 0 → Seat n a

@@ -10,7 +10,7 @@ ghost use Rattle.meaning.specs.Matrix.{matrix};
 ghost use Rattle.meaning.specs.Solver.{projections, dot};
 ghost use Rattle.wiedemann.specs.Modulus.{Modular};
 ghost use Rattle.checks.specs.Valid.{Valid, Vector};
-ghost use Rattle.wiedemann.specs.Region.{part};
+ghost use Rattle.laws.specs.Part.{part};
 ghost use Rattle.wiedemann.specs.Projection.{Words};
 ghost use Rattle.wiedemann.specs.Turns.{Seat, Other, Turning, Advanced, Sequenced, Leading, Applied, Generated, Shortened};
 ghost use Rattle.wiedemann.specs.Factor.{Factors, productAt, Multiplied};

@@ -17,7 +17,7 @@ ghost use lib.ListN.{length};
 ghost use Rattle.meaning.specs.List.{at};
 ghost use Rattle.meaning.specs.Field.{minus, times};
 ghost use Rattle.wiedemann.specs.Modulus.{Modular};
-ghost use Rattle.wiedemann.specs.Written.{Written};
+ghost use Rattle.laws.specs.Written.{Written};
 ghost use Rattle.wiedemann.specs.Recurrence.{Ready, BeforeStep, AfterSteps, HoldsGenerator, Recurred, Reversed, shifted, lengthened};
 
 // What the steps keep beside the regions.

@@ -4,7 +4,7 @@ ghost use mathlib.Core.Logic.{_⊎_};
 ghost use Prim.Native.Nat.{_+_, _≤_};
 ghost use lib.ListN.{length};
 ghost use Rattle.meaning.specs.List.{at, isZero};
-ghost use Rattle.wiedemann.specs.Written.{Written};
+ghost use Rattle.laws.specs.Written.{Written};
 
 // Element i of v, 0 past its end.
 pub fn element(v: &[u32], i: usize) -> u32

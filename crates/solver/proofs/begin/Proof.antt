@@ -1,5 +1,5 @@
 use Rattle.solver.specs.Run.{begun}
-use Rattle.wiedemann.specs.Region.{length-part}
+use Rattle.laws.specs.Part.{length-part}
 use Rattle.meaning.specs.List.{padded}
 use denote.Ref.{now}
 use lib.ListN.{length}

@@ -1,7 +1,7 @@
 use Rattle.solver.specs.Verdict.{constant, image}
 use Rattle.wiedemann.specs.Horner.{vector-apply}
-use Rattle.wiedemann.specs.Lent.{part-at}
-use Rattle.wiedemann.specs.Region.{part}
+use Rattle.laws.specs.Lent.{part-at}
+use Rattle.laws.specs.Part.{part}
 use Rattle.bridge.specs.ThirdCondition.{verdict-zero, verdict-singular, verdict-solved}
 use Rattle.checks.specs.Valid.{Vector}
 use Rattle.meaning.specs.Field.{minus, times, inverse}

@@ -1,5 +1,5 @@
 use Rattle.wiedemann.specs.Pass.{residualAt}
-use Rattle.wiedemann.specs.Lent.{part-at}
+use Rattle.laws.specs.Lent.{part-at}
 use Rattle.meaning.specs.List.{isZero}
 use denote.Ref.{now}
 use native.Mathlib.Omega.{arith}

@@ -1,5 +1,5 @@
-use Rattle.wiedemann.specs.Written.{Written, written-none, written-all}
-use Rattle.wiedemann.specs.Region.{written-next, written-table}
+use Rattle.laws.specs.Written.{Written, written-none, written-all}
+use Rattle.laws.specs.Part.{written-next, written-table}
 use Rattle.meaning.specs.List.{at}
 use denote.Ref.{now}
 use lib.ListN.{length}

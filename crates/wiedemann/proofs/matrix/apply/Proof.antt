@@ -8,7 +8,7 @@ use Rattle.meaning.specs.Matrix.{matrix, apply}
 use Rattle.meaning.specs.Calls.{applyRefusal}
 use Rattle.checks.specs.Matrix.{Applicable, apply-accepted}
 use Rattle.wiedemann.specs.Answers.{writes-refused, writes-done}
-use Rattle.wiedemann.specs.Region.{length-part}
+use Rattle.laws.specs.Part.{length-part}
 use borrow.Author.Needs.{needs}
 use Rattle.wiedemann.proofs.matrix.apply.Statement.{statement}
 use Rattle.wiedemann.proofs.matrix.apply.Tie as tie

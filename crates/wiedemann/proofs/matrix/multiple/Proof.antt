@@ -4,8 +4,8 @@ use native.Mathlib.Omega.{arith}
 use lib.ListN.{length, getD}
 use denote.Ref.{now}
 use Rattle.meaning.specs.Field.{times}
-use Rattle.wiedemann.specs.Written.{Written, written-none, written-all}
-use Rattle.wiedemann.specs.Region.{written-next, written-table}
+use Rattle.laws.specs.Written.{Written, written-none, written-all}
+use Rattle.laws.specs.Part.{written-next, written-table}
 use borrow.Author.Needs.{needs}
 use Rattle.wiedemann.proofs.matrix.multiple.Statement.{statement}
 use Rattle.wiedemann.proofs.matrix.multiple.Tie as tie

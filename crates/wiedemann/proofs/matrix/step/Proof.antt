@@ -5,8 +5,8 @@ use lib.ListN.{length, getD}
 use denote.Ref.{now}
 use Rattle.meaning.specs.Matrix.{matrix}
 use Rattle.checks.specs.Valid.{valid-entries}
-use Rattle.wiedemann.specs.Written.{Written, written-none, written-all}
-use Rattle.wiedemann.specs.Region.{written-next, written-table}
+use Rattle.laws.specs.Written.{Written, written-none, written-all}
+use Rattle.laws.specs.Part.{written-next, written-table}
 use Rattle.wiedemann.specs.Horner.{stepAt, table-step, row-bounds, row-reduced}
 use borrow.Author.Needs.{needs}
 use Rattle.wiedemann.proofs.matrix.step.Statement.{statement}

@@ -6,8 +6,9 @@ use lib.ListN.{length, getD}
 use denote.Ref.{now}
 use Rattle.meaning.specs.Matrix.{matrix}
 use Rattle.checks.specs.Valid.{Entries, valid-entries}
-use Rattle.wiedemann.specs.Written.{Written, written-none, written-more, written-all}
-use Rattle.wiedemann.specs.Region.{part, apart-shorter, at-part, vector-part, written-other-at, written-other}
+use Rattle.laws.specs.Written.{Written, written-none, written-more, written-all}
+use Rattle.laws.specs.Part.{part, apart-shorter, at-part, written-other-at, written-other}
+use Rattle.wiedemann.specs.Region.{vector-part}
 use Rattle.wiedemann.specs.Horner.{stepAt, row-bounds, row-reduced}
 use borrow.Author.Needs.{needs}
 use Rattle.wiedemann.proofs.matrix.step_within.Statement.{statement}

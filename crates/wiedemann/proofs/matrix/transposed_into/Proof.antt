@@ -6,7 +6,7 @@ use denote.Ref.{now}
 use Rattle.meaning.specs.List.{zeros}
 use Rattle.meaning.specs.Matrix.{matrix}
 use Rattle.checks.specs.Valid.{Vector}
-use Rattle.wiedemann.specs.Region.{written-table}
+use Rattle.laws.specs.Part.{written-table}
 use Rattle.wiedemann.specs.Horner.{row-bounds}
 use Rattle.wiedemann.specs.Transposed.{gathered, gathered-none, gathered-next, gathered-all, vector-gathered}
 use borrow.Author.Needs.{needs}

@@ -1,7 +1,7 @@
 use Rattle.wiedemann.specs.Pass.{residualAt, held, stateChecks, Narrowed, narrowed-from, narrowed-factors, made, refused-matrix, refused-state, State, state-of}
 use Rattle.wiedemann.specs.Factor.{multiplied-lent}
-use Rattle.wiedemann.specs.Lent.{lent, part-at, part-of-part}
-use Rattle.wiedemann.specs.Region.{part, length-part}
+use Rattle.laws.specs.Lent.{lent, part-at, part-of-part}
+use Rattle.laws.specs.Part.{part, length-part}
 use Rattle.residue.specs.Prime.{isModulus-Prime}
 use Rattle.checks.specs.Valid.{Valid, Vector}
 use Rattle.checks.specs.Matrix.{matrix-valid, matrix-modulus}

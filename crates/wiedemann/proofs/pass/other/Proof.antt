@@ -1,4 +1,4 @@
-use Rattle.wiedemann.specs.Region as region
+use Rattle.laws.specs.Part as region
 use Rattle.wiedemann.specs.Turns.{Seat, Other}
 use Rattle.wiedemann.specs.Turns as turns
 use native.Mathlib.Omega.{arith}

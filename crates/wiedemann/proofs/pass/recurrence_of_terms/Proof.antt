@@ -1,5 +1,5 @@
 use Rattle.wiedemann.specs.Turns.{generated}
-use Rattle.wiedemann.specs.Region.{length-part, at-part}
+use Rattle.laws.specs.Part.{length-part, at-part}
 use denote.Ref.{now}
 use lib.ListN.{length}
 use native.Mathlib.Omega.{arith}

@@ -1,5 +1,5 @@
 use Rattle.wiedemann.specs.Pass.{residualAt, heldElements, state-8, state-10, state-11, state-9, state-0}
-use Rattle.wiedemann.specs.Lent.{part-at}
+use Rattle.laws.specs.Lent.{part-at}
 use Rattle.meaning.specs.Refusal.{elements, wordsTaken}
 use Rattle.laws.specs.Bool.{not-both}
 use denote.Ref.{now}

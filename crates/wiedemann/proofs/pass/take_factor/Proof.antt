@@ -1,9 +1,9 @@
-use Rattle.wiedemann.specs.Lent.{same-take}
+use Rattle.laws.specs.Lent.{same-take}
 use Rattle.wiedemann.specs.Turns.{shortened, vector-terms}
 use Rattle.checks.specs.Valid.{Vector}
 use Rattle.meaning.specs.Matrix.{matrix}
 use Rattle.meaning.specs.Solver.{projections}
-use Rattle.wiedemann.specs.Region.{part}
+use Rattle.laws.specs.Part.{part}
 use denote.Ref.{now}
 use lib.ListN.{length, getD}
 use native.Mathlib.Omega.{arith}

@@ -1,5 +1,5 @@
-use Rattle.wiedemann.specs.Lent.{part-at}
-use Rattle.wiedemann.specs.Region.{part, length-part}
+use Rattle.laws.specs.Lent.{part-at}
+use Rattle.laws.specs.Part.{part, length-part}
 use Rattle.meaning.specs.Solver.{dot, projections}
 use denote.Ref.{now}
 use mathlib.Core.List.{List, []}

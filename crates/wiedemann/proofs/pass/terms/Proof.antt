@@ -1,6 +1,6 @@
 use Rattle.wiedemann.specs.Turns.{seat-low, vector-power, Iterated, iterated-none, iterated-more, iterated-from, iterated-all}
 use Rattle.wiedemann.specs.Horner.{vector-step}
-use Rattle.wiedemann.specs.Region.{part}
+use Rattle.laws.specs.Part.{part}
 use Rattle.checks.specs.Valid.{Vector}
 use Rattle.meaning.specs.Solver.{dot, projections}
 use Rattle.meaning.specs.Matrix.{matrix}

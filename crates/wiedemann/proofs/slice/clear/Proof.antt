@@ -3,7 +3,7 @@ use mathlib.Core.Path.{refl}
 use Prim.Native.Nat.{_-_, _≤_}
 use native.Mathlib.Omega.{arith}
 use borrow.Author.Needs.{needs}
-use Rattle.wiedemann.specs.Written.{Written, written-more, written-all}
+use Rattle.laws.specs.Written.{Written, written-more, written-all}
 use Rattle.wiedemann.proofs.slice.clear.Statement.{statement}
 use Rattle.wiedemann.proofs.slice.clear.Tie as tie
 

@@ -1,4 +1,4 @@
-use Rattle.wiedemann.specs.Written.{Written, written-more, written-all}
+use Rattle.laws.specs.Written.{Written, written-more, written-all}
 use Rattle.meaning.specs.List.{at}
 use mathlib.Core.Logic.{⊎-elim}
 use native.Mathlib.Omega.{arith}

@@ -4,7 +4,7 @@ use Prim.Native.Nat.{_+_, _-_, _≤_}
 use native.Mathlib.Omega.{arith}
 use borrow.Author.Needs.{needs}
 use Rattle.meaning.specs.List.{at}
-use Rattle.wiedemann.specs.Written.{Written, written-more, written-all}
+use Rattle.laws.specs.Written.{Written, written-more, written-all}
 use Rattle.wiedemann.proofs.slice.transfer.Statement.{statement}
 use Rattle.wiedemann.proofs.slice.transfer.Tie as tie
 

@@ -5,7 +5,6 @@
 --     part-of-take, part-of-drop, part-of-part      a part of a leading part, of a rest, of a part
 --     part-cons              a part by its first element
 --     part-at                the same part, its bounds written otherwise
---     part-zero              a leading part
 --     same-take, same-drop   parts that stay where a leading part, or a rest, stays
 --     same-after             places that stay where a rest stays
 --     take-ext, drop-ext     a leading part, a rest, by its places
@@ -18,15 +17,12 @@ use native.Mathlib.Omega.{arith}
 use lib.ListN.{length, take, drop, length-append, length-drop}
 use lib.Seq.{ext-getD, getD-take, getD-drop, length-take-le, drop-drop, take-at, drop-at, drop-cons}
 use Rattle.meaning.specs.List.{at, padded}
 use Rattle.laws.specs.List.{length-table, getD-table}
-use Rattle.wiedemann.specs.Written.{Written}
-use Rattle.wiedemann.specs.Region.{part, part-ext}
+use Rattle.laws.specs.Written.{Written}
+use Rattle.laws.specs.Part.{part, part-ext}
 
 abbrev pub lent : List ℕ → ℕ → ℕ → List ℕ → List ℕ
 lent W a n Y = take a W ++ (Y ++ drop n (drop a W))
-
-pub part-zero : (n : ℕ) (W : List ℕ) → part 0 n W ≡ take n W
-part-zero n W = refl
 
 pub part-of-take : (a n m : ℕ) (W : List ℕ) → a + n ≤ m → m ≤ length W → part a n (take m W) ≡ part a n W
 part-of-take a n m W l k =
