@@ -4,7 +4,6 @@
 --     coef-nil, coef-one, coef-shift      no element; one element; 0 before a list is z times it
 --     mk-dot-mod       a sum of products modulo p
 --     mk-times, mk-difference      the product and the difference of numbers, through mk
---     times-lt, minus-lt       both are below p
 use mathlib.Core.Path.{_≡_, sym, ap, fun-ext, _∙_}
 use mathlib.Core.Bool.{true}
 use mathlib.Core.List.{List, [], _∷_}
@@ -77,11 +76,3 @@ module _ (p : ℕ) (h : Prime p) where
   unfolding minus
   mk-difference a b l =
       mk-mod p h (a + (p - b)) ∙ ap (λ x. mk p h (a + (p - x))) (sym (mod-eq-of-lt l)) ∙ mk-sub p h a b
-
-  pub times-lt : (a b : ℕ) → times p a b < p
-  unfolding times
-  times-lt a b = mod-lt (a * b) (omega (arith, h .two-le))
-
-  pub minus-lt : (a b : ℕ) → minus p a b < p
-  unfolding minus
-  minus-lt a b = mod-lt (a + (p - b)) (omega (arith, h .two-le))

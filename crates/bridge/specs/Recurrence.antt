@@ -1,15 +1,9 @@
 -- The meaning's shortest recurrence is the theory's over the residues modulo p, and so it is a shortest recurrence.
---     step-zero, step-grow, step-stay      the cases of the meaning's step: the discrepancy is 0; it is not and 2·L < r; it is not and r ≤ 2·L
---     steps-zero, steps-suc    the clauses of the meaning's steps
---     discrepancy-lt           the discrepancy is below p
---     StepsReduced p c         every element of q and of t is below p, and e is
---     reduced-update, steps-reduced      q′ is so; the steps keep it
 --     state c                  q, t, L and e as the theory's: lists by coef, e by mk
 --     mk-discrepancy, coef-update, state-start, state-step      through it the meaning's are the theory's
 --     state-steps              and so are r steps, of any list s
---     steps-within, steps-above      L ≤ r; q is 0 above L
 --     degree-is, coef-generator      L and f are the theory's
---     degree-within, length-generator, reduced-generator, generator-monic      L ≤ N; f has L + 1 elements, all below p; it is monic
+--     reduced-generator, generator-monic     f's elements are below p; it is monic
 --     IsMonic p d f, monic-to, monic-from        what isMonic tests
 --     recurs-to, recurs-from   what recurs tests
 --     generator-shortest       f is the theory's shortest recurrence of the list's terms
@@ -25,99 +19,28 @@ use native.Mathlib.Decide.{decLt, ℕ-discrete}
 use native.Mathlib.Omega.{arith}
 use lib.Dec.{eqb, ltb}
 use lib.ListN.{length}
-use borrow.Author.Tests.{eqb-true, eq-eqb, ne-eqb, lt-ltb, le-ltb}
+use borrow.Author.Tests.{eqb-true, eq-eqb}
 use Rattle.meaning.specs.List.{at, sum as sumℕ, every}
 use Rattle.meaning.specs.Field.{minus, times, inverse}
 use Rattle.meaning.specs.Recurrence.{isMonic, recurs, IsShortest, Steps, start, discrepancy, update, step, steps, reversed, degree, generator}
 use Rattle.laws.specs.Bool.{and-left, and-right, and-both}
-use Rattle.laws.specs.List.{length-table, all-at, all-of}
+use Rattle.laws.specs.List.{all-at, all-of}
+use Rattle.laws.specs.Recurrence.{times-lt, step-zero, step-grow, step-stay, steps-zero, steps-suc, discrepancy-lt, length-generator, generator-below}
 use Rattle.algebra.specs.Ring.{Ring, Field, ring-laws}
 use Rattle.algebra.specs.Sum.{sum, sum-ext}
 use Rattle.algebra.specs.Polynomial.{Below, Monic, Recurs, Shortest, shift, const}
 use Rattle.algebra.specs.Polynomial as polynomial
 use Rattle.residue.specs.Prime.{Prime}
 use Rattle.residue.specs.Residue.{residues, mk, mk-zero, mk-one, mk-inj, mk-zero-iff, mk-inv}
-use Rattle.residue.specs.Lists.{Reduced, reduced-getD, reduced-table, coef, coef-below, coef-ext}
+use Rattle.residue.specs.Lists.{Reduced, coef, coef-below, coef-ext}
 use Rattle.sequence.specs.Reversal.{reverse, reverse-within, reverse-above}
 use Rattle.sequence.specs.Steps.{State, advance-zero, advance-grow, advance-stay, next-q}
 use Rattle.sequence.specs.Steps as theory
-use Rattle.sequence.specs.Invariant.{invariant}
 use Rattle.sequence.specs.Shortest as shortest
-use Rattle.bridge.specs.Lists.{every-reduced, reduced-every, table-coef, coef-nil, coef-one, coef-shift, mk-dot-mod, mk-times, mk-difference, times-lt, minus-lt}
+use Rattle.bridge.specs.Lists.{every-reduced, reduced-every, table-coef, coef-nil, coef-one, coef-shift, mk-dot-mod, mk-times, mk-difference}
 
--- ---- the meaning's step by its cases
-
-module _ (p : ℕ) (s : List ℕ) where
-  pub step-zero : (r : ℕ) (c : Steps) → discrepancy p s r c ≡ 0 → step p s r c ≡ record { q = c .q; t = 0 ∷ c .t; L = c .L; e = c .e }
-  unfolding step
-  step-zero r c z = rw (eq-eqb (discrepancy p s r c) 0 z)
-
-  pub step-grow : (r : ℕ) (c : Steps) → discrepancy p s r c ≢ 0 → 2 * c .L < r
-      → step p s r c ≡ record { q = update p (discrepancy p s r c) c; t = c .q; L = r - c .L; e = discrepancy p s r c }
-  unfolding step
-  step-grow r c z l = rw (ne-eqb (discrepancy p s r c) 0 z, lt-ltb (2 * c .L) r l)
-
-  pub step-stay : (r : ℕ) (c : Steps) → discrepancy p s r c ≢ 0 → r ≤ 2 * c .L
-      → step p s r c ≡ record { q = update p (discrepancy p s r c) c; t = 0 ∷ c .t; L = c .L; e = c .e }
-  unfolding step
-  step-stay r c z l = rw (ne-eqb (discrepancy p s r c) 0 z, le-ltb (2 * c .L) r l)
-
-  pub steps-zero : steps p s 0 ≡ start
-  unfolding steps
-  steps-zero = refl
-
-  pub steps-suc : (r : ℕ) → steps p s (suc r) ≡ step p s (suc r) (steps p s r)
-  unfolding steps
-  steps-suc r = refl
-
-  pub discrepancy-lt : 0 < p → (r : ℕ) (c : Steps) → discrepancy p s r c < p
-  unfolding discrepancy
-  discrepancy-lt k r c = mod-lt (sumℕ (c .L + 1) (λ i. at (c .q) i * at s (r - 1 - i))) k
-
--- ---- elements below p
-
-pub record StepsReduced (p : ℕ) (c : Steps) : Type 0 where
-  pub q : Reduced p (c .q)
-  pub t : Reduced p (c .t)
-  pub e : c .e < p
-
-module _ (p : ℕ) (h : Prime p) where
-  reduced-cons : (a : ℕ) (l : List ℕ) → a < p → Reduced p l → Reduced p (a ∷ l)
-  reduced-cons a l k r zero i = k
-  reduced-cons a l k r (suc j) i = r j (omega arith)
-
-  reduced-nil : Reduced p []
-  reduced-nil i k = absurd (omega arith)
-
-  positive : 0 < p
-  positive = omega (arith, h .two-le)
-
-  pub reduced-update : (d : ℕ) (c : Steps) → Reduced p (update p d c)
-  unfolding update
-  reduced-update d c =
-      reduced-table p (max (length (c .q)) (length (c .t) + 1)) (λ i. minus p (at (c .q) i) (times p (times p d (inverse p (c .e))) (at (0 ∷ c .t) i)))
-      (λ i k. minus-lt p h (at (c .q) i) (times p (times p d (inverse p (c .e))) (at (0 ∷ c .t) i)))
-
-  start-reduced : StepsReduced p start
-  unfolding start
-  start-reduced = record { q = reduced-cons 1 [] (h .two-le) reduced-nil; t = reduced-nil; e = h .two-le }
-
-  step-reduced : (s : List ℕ) (r : ℕ) (c : Steps) → StepsReduced p c → StepsReduced p (step p s r c)
-  step-reduced s r c I =
-      elim (ℕ-discrete d 0) [
-        | yes z ↦ rw (step-zero p s r c z) (record { q = I .q; t = reduced-cons 0 (c .t) positive (I .t); e = I .e })
-        | no z ↦ elim (decLt (2 * c .L) r) [
-          | yes l ↦ rw (step-grow p s r c z l) (record { q = reduced-update d c; t = I .q; e = discrepancy-lt p s positive r c })
-          | no l ↦ rw (step-stay p s r c z (omega arith)) (record { q = reduced-update d c; t = reduced-cons 0 (c .t) positive (I .t); e = I .e })
-        ]
-      ]
-    where
-      d : ℕ
-      d = discrepancy p s r c
-
-  pub steps-reduced : (s : List ℕ) (r : ℕ) → StepsReduced p (steps p s r)
-  steps-reduced s zero = rw steps-zero start-reduced
-  steps-reduced s (suc r) = rw steps-suc (step-reduced s (suc r) (steps p s r) (steps-reduced s r))
+positive : (p : ℕ) → Prime p → 0 < p
+positive p h = omega (arith, h .two-le)
 
 -- ---- the steps
 
@@ -164,7 +87,7 @@ module _ (p : ℕ) (h : Prime p) where
 
       place : (i : ℕ) → mk p h (f i) ≡ next-q (residues p h) (state c) (mk p h d) i
       place i =
-          mk-difference p h (at (c .q) i) (times p (times p d (inverse p (c .e))) (at (0 ∷ c .t) i)) (times-lt p h (times p d (inverse p (c .e))) (at (0 ∷ c .t) i))
+          mk-difference p h (at (c .q) i) (times p (times p d (inverse p (c .e))) (at (0 ∷ c .t) i)) (times-lt p (times p d (inverse p (c .e))) (at (0 ∷ c .t) i) (positive p h))
           ∙ ap (λ x. coef p h (c .q) i ⊕ ⊖ x)
           (mk-times p h (times p d (inverse p (c .e))) (at (0 ∷ c .t) i)
           ∙ ap₂ _⊗_ (mk-times p h d (inverse p (c .e)) ∙ ap (λ x. mk p h d ⊗ x) (mk-inv p h (c .e))) (shifted i))
@@ -203,39 +126,14 @@ module _ (p : ℕ) (h : Prime p) where
       ap state (steps-suc p s r) ∙ state-step s r (steps p s r) ∙ ap (theory.step (residues p h) (coef p h s) r) (state-steps s r)
       ∙ sym (theory.steps-suc (residues p h) (coef p h s) r)
 
-  -- ---- what the theory knows of the steps
-
-  pub steps-within : (s : List ℕ) (r : ℕ) → steps p s r .L ≤ r
-  steps-within s r = subst (λ st. st .L ≤ r) (sym (state-steps s r)) (invariant (residues p h) (coef p h s) r .within)
-
-  pub steps-above : (s : List ℕ) (r i : ℕ) → steps p s r .L < i → at (steps p s r .q) i ≡ 0
-  steps-above s r i l =
-      mk-inj p h (at (steps p s r .q) i) 0 (reduced-getD p (steps p s r .q) (positive p h) (steps-reduced p h s r .q) i) (positive p h)
-      (below i l ∙ sym (mk-zero p h))
-    where
-      below : Below R (suc (steps p s r .L)) (coef p h (steps p s r .q))
-      below =
-          subst (λ st. Below R (suc (st .L)) (st .q)) (sym (state-steps s r)) (invariant (residues p h) (coef p h s) r .gap .below)
-
   -- ---- the generator
 
-  pub length-generator : (s : List ℕ) → length (generator p s) ≡ degree p s + 1
-  unfolding generator reversed
-  length-generator s = length-table (degree p s + 1) (λ i. at (steps p s (length s) .q) (degree p s - i))
-
   pub reduced-generator : (s : List ℕ) → Reduced p (generator p s)
-  unfolding generator reversed
-  reduced-generator s =
-      reduced-table p (degree p s + 1) (λ i. at (steps p s (length s) .q) (degree p s - i))
-      (λ i k. reduced-getD p (steps p s (length s) .q) (positive p h) (steps-reduced p h s (length s) .q) (degree p s - i))
+  reduced-generator s i k = generator-below p (h .two-le) s i
 
   pub degree-is : (s : List ℕ) → degree p s ≡ theory.steps (residues p h) (coef p h s) (length s) .L
   unfolding degree
   degree-is s = ap (λ st. st .L) (state-steps s (length s))
-
-  pub degree-within : (s : List ℕ) → degree p s ≤ length s
-  unfolding degree
-  degree-within s = steps-within s (length s)
 
   coef-reversed : (L : ℕ) (q : List ℕ) → coef p h (reversed L q) ≡ reverse R L (coef p h q)
   unfolding reversed
@@ -306,7 +204,7 @@ module _ (p : ℕ) (h : Prime p) where
 
   pub generator-monic : (s : List ℕ) → IsMonic (degree p s) (generator p s)
   generator-monic s =
-      record { size = length-generator p h s; reduced = reduced-generator p h s; monic = generator-shortest p h s .monic }
+      record { size = length-generator p s; reduced = reduced-generator p h s; monic = generator-shortest p h s .monic }
 
   pub isShortest : (s : List ℕ) → IsShortest p s (degree p s) (generator p s)
   isShortest s =
@@ -322,7 +220,7 @@ module _ (p : ℕ) (h : Prime p) where
 
       only : 2 * degree p s ≤ length s → (g : List ℕ) → isMonic p (degree p s) g ≡ true → recurs p s (degree p s) g ≡ true → g ≡ generator p s
       only l g m e =
-          coef-ext p h g (generator p s) (M .reduced) (reduced-generator p h s) (M .size ∙ sym (length-generator p h s))
+          coef-ext p h g (generator p s) (M .reduced) (reduced-generator p h s) (M .size ∙ sym (length-generator p s))
           (λ i k. ap (λ (f : ℕ → C). f i) (shortest.unique (residues p h) (length s) (coef p h s) (degree p s) (coef p h (generator p s)) l S (coef p h g) (M .monic) (recurs-to s (degree p s) g e)))
         where
           M : IsMonic (degree p s) g

@@ -29,6 +29,7 @@ use Rattle.meaning.specs.Matrix.{Matrix, size, apply}
 use Rattle.meaning.specs.Recurrence.{degree, generator}
 use Rattle.meaning.specs.Solver.{units, multiply, Pass, Run, begin, passTerms, pass, run, spent}
 use Rattle.meaning.specs.ThirdCondition.{termCost}
+use Rattle.laws.specs.Recurrence.{length-generator}
 use Rattle.laws.specs.Bool.{test-cases}
 use Rattle.laws.specs.Solver.{length-units, getD-units, spent-nil, spent-snoc}
 use Rattle.algebra.specs.Ring.{Ring, Field}
@@ -42,7 +43,7 @@ use Rattle.krylov.specs.Operator as theory
 use Rattle.krylov.specs.Run.{Reached, Kept, kept, kept-units}
 use Rattle.krylov.specs.Run as reach
 use Rattle.bridge.specs.Lists.{coef-one}
-use Rattle.bridge.specs.Recurrence.{length-generator, generator-shortest}
+use Rattle.bridge.specs.Recurrence.{generator-shortest}
 use Rattle.bridge.specs.Operator.{operator, operator-linear, coef-apply, length-apply, reduced-apply, coef-terms, length-terms, coef-multiply, length-multiply, reduced-multiply, unitVector, coef-unit, null-isZero}
 
 -- ---- the terms' cost
@@ -179,7 +180,7 @@ module _ (p : ℕ) (h : Prime p) (A : Matrix) (b : List ℕ) where
         q = record { left = left; degree = t; applications = 2 * left - 1 + t }
 
         size-f : length f ≡ t + 1
-        size-f = length-generator p h s
+        size-f = length-generator p s
 
         applied : coef p h (apply p A f (c .residual)) ≡ theory.apply R (operator p h A) (suc t) (coef p h f) (coef p h (c .residual))
         applied =

@@ -17,7 +17,7 @@ use Rattle.meaning.specs.Refusal.{check, first, elements}
 use Rattle.meaning.specs.Calls.{recurrenceRefusal, recurrenceAnswer, systemChecks, writerRefusal, writerAnswer}
 use Rattle.laws.specs.Refusal.{first-passed, numbered-system, first-append-zero}
 use Rattle.residue.specs.Prime.{isModulus-Prime}
-use Rattle.bridge.specs.Recurrence.{degree-within}
+use Rattle.laws.specs.Recurrence.{degree-within}
 use Rattle.text_laws.specs.Accepted.{system-accepted}
 use Rattle.text_laws.specs.Length.{write-within}
 
@@ -34,7 +34,7 @@ module _ (p : ℕ) (s polynomial work : List ℕ) where
       omega (
         arith,
         ap (λ t. cond t (degree p s) 0) (eq-eqb (recurrenceRefusal p s polynomial work) 0 e),
-        degree-within p (isModulus-Prime p (taken e .0)) s,
+        degree-within p (isModulus-Prime p (taken e .0) .two-le) s,
         leb-true (length s) 8192 (taken e .1),
       )
 

@@ -5,5 +5,6 @@ pub mod List
 pub mod Written
 pub mod Part
 pub mod Lent
+pub mod Recurrence
 pub mod Refusal
 pub mod Solver

@@ -21,9 +21,7 @@ use Rattle.meaning.specs.List.{at, sum, sumFrom}
 use Rattle.meaning.specs.Field.{minus, times}
 use Rattle.meaning.specs.Recurrence.{Steps, discrepancy, update, steps}
 use Rattle.laws.specs.List.{sum-ext}
-use Rattle.residue.specs.Prime.{Prime, isModulus-Prime, isModulus-le}
-use Rattle.residue.specs.Lists.{reduced-getD}
-use Rattle.bridge.specs.Recurrence.{step-zero, step-stay, step-grow, steps-zero, steps-reduced, steps-within, steps-above}
+use Rattle.laws.specs.Recurrence.{times-lt, step-zero, step-stay, step-grow, steps-zero, steps-at, Regular, steps-regular}
 use Rattle.wiedemann.specs.declared.sums.Total.{Total}
 use Rattle.wiedemann.specs.declared.recurrence.Register.{Register}
 use Rattle.laws.specs.Written.{Written}
@@ -31,8 +29,6 @@ use Rattle.wiedemann.specs.Sums.{number, Summed}
 use Rattle.wiedemann.specs.Projection.{sumFrom-zero}
 use Rattle.wiedemann.specs.Convolution.{cross, Crossing, nothing}
 use Rattle.wiedemann.specs.Recurrence.{Ready, HoldsSteps, BeforeStep, shifted, lengthened, AfterSteps}
-use Rattle.wiedemann.proofs.Elements.{times-lt}
-use Rattle.wiedemann.proofs.Update.{steps-at}
 use Rattle.wiedemann.proofs.HoldsSteps.{fresh, t-within, spare-within, holds-start, holds-copied, holds-zero, holds-stay, holds-grow}
 
 pub front : (m : ℕ) (W W′ : List ℕ) → length W′ ≡ length W → m ≤ length W → ((k : ℕ) → k < m → at W′ k ≡ at W k) → take m W′ ≡ take m W
@@ -58,7 +54,7 @@ after-start p count W W₁ ready w =
           take-set-le (count + 2) W₁ (count + 2) 1 (omega arith) ∙ written-front (count + 2) w (omega (arith, ready .room)) (omega arith);
       holds =
           rw steps-zero
-          (holds-start p count (set W₁ (count + 2) 1) (isModulus-Prime p (ready .modulus) .two-le)
+          (holds-start p count (set W₁ (count + 2) 1) (ready .two)
           (getD-set-same W₁ (count + 2) 1 0 (omega (arith, w .same-length, ready .room)))
           (λ i l l′. getD-set-other W₁ (count + 2) (count + 2 + i) 1 0 (omega arith) ∙ w .inside i l′));
     }
@@ -88,7 +84,8 @@ before-step {p} {count} {r} {W} {W′} {c} ready a l =
     record {
       ready =
           record {
-            modulus = ready .modulus;
+            two = ready .two;
+            small = ready .small;
             few = ready .few;
             room = omega (arith, a .room, ready .room);
             elements = λ i b. subst (λ x. x < p) (sym (same i b)) (ready .elements i b);
@@ -117,29 +114,23 @@ module _ {p count r : ℕ} {W : List ℕ} {c : Register} (ask : BeforeStep p cou
   abbrev st : Steps
   st = steps p s (r - 1)
 
-  prime : Prime p
-  prime = isModulus-Prime p (ready .modulus)
+  regular : Regular p (r - 1) st
+  regular = steps-regular p (ready .two) s (r - 1)
 
   positive : 0 < p
-  positive = omega (arith, prime .two-le)
-
-  most : p ≤ 2147483647
-  most = isModulus-le p (ready .modulus)
+  positive = omega (arith, ready .two)
 
   pub within : c .length ≤ r - 1
-  within = subst (λ x. x ≤ r - 1) (sym (holds .L)) (steps-within p prime s (r - 1))
+  within = subst (λ x. x ≤ r - 1) (sym (holds .L)) (regular .within)
 
   pub shift-few : c .shift < 16384
   shift-few = omega (arith, holds .t-short, high, ready .few)
 
-  element : (i : ℕ) → at (st .q) i < p
-  element = reduced-getD p (st .q) positive (steps-reduced p prime s (r - 1) .q)
-
   past : (i : ℕ) → c .length < i → at (st .q) i ≡ 0
-  past i l = steps-above p prime s (r - 1) i (subst (λ x. x < i) (holds .L) l)
+  past i l = regular .q-end i (subst (λ x. x < i) (holds .L) l)
 
   q-element : (i : ℕ) → i < count + 2 → at W (count + 2 + i) < p
-  q-element i l = subst (λ x. x < p) (sym (holds .q i l)) (element i)
+  q-element i l = subst (λ x. x < p) (sym (holds .q i l)) (regular .element i)
 
   -- ---- the discrepancy
 
@@ -151,8 +142,8 @@ module _ {p count r : ℕ} {W : List ℕ} {c : Register} (ask : BeforeStep p cou
         front = omega (arith, within, high, ready .room);
         back = omega (arith, within, low);
         room = omega (arith, high, ready .room);
-        left = λ i a l. omega (arith, q-element i (omega (arith, l, within, high)), most);
-        right = λ i a l. omega (arith, ready .elements (r - 1 - i) (omega (arith, low, high)), most);
+        left = λ i a l. omega (arith, q-element i (omega (arith, l, within, high)), ready .small);
+        right = λ i a l. omega (arith, ready .elements (r - 1 - i) (omega (arith, low, high)), ready .small);
       }
 
   discrepancy-is : (T : Total) (d : ℕ) → Summed nothing T 0 (c .length + 1) (cross W (count + 2) (r - 1)) → d ≡ number T % p
@@ -206,7 +197,7 @@ module _ {p count r : ℕ} {W : List ℕ} {c : Register} (ask : BeforeStep p cou
           (λ i l.
               let e : count + 2 + (c .shift + i) ≡ count + 2 + c .shift + i = omega arith in
               subst (λ x. at W₁ x < p) e
-              (subst (λ x. x < p) (sym (kept .before .holds .q (c .shift + i) (omega (arith, l, holds .t-short, low, high)))) (element (c .shift + i)))),
+              (subst (λ x. x < p) (sym (kept .before .holds .q (c .shift + i) (omega (arith, l, holds .t-short, low, high)))) (regular .element (c .shift + i)))),
         )
 
   next : r ≡ r - 1 + 1
@@ -242,12 +233,12 @@ module _ {p count r : ℕ} {W : List ℕ} {c : Register} (ask : BeforeStep p cou
           ending W′ (shifted c) (record { q = update p d st; t = 0 ∷ st .t; L = st .L; e = st .e }) same-length same-front
           (steps-at p s r low ∙ step-stay p s r st (λ z. nonzero (e ∙ z)) (subst (λ x. r ≤ 2 * x) (holds .L) long)
           ∙ ap {B = Steps} (λ x. record { q = update p x st; t = 0 ∷ st .t; L = st .L; e = st .e }) (sym e))
-          (holds-stay p count (r - 1) W₁ c st (kept .before .holds) d k W′ positive (omega (arith, low, high)) element constant w r next)
+          (holds-stay p count (r - 1) W₁ c st (kept .before .holds) d k W′ positive (omega (arith, low, high)) (regular .element) constant w r next)
 
       pub after-grow : 2 * c .length < r → AfterSteps p count r W W′ (lengthened p r d c)
       after-grow short =
           ending W′ (lengthened p r d c) (record { q = update p d st; t = st .q; L = r - st .L; e = d }) same-length same-front
           (steps-at p s r low ∙ step-grow p s r st (λ z. nonzero (e ∙ z)) (subst (λ x. 2 * x < r) (holds .L) short)
           ∙ ap {B = Steps} (λ x. record { q = update p x st; t = st .q; L = r - st .L; e = x }) (sym e))
-          (holds-grow p count (r - 1) W₁ c st (kept .before .holds) d k W′ positive (omega (arith, low, high)) element constant w r next
+          (holds-grow p count (r - 1) W₁ c st (kept .before .holds) d k W′ positive (omega (arith, low, high)) (regular .element) constant w r next
           (omega (arith, within, low)) (λ i l. kept .copy short i l ∙ holds .q i (omega (arith, l, within, high))) past)

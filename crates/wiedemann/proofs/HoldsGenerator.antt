@@ -13,11 +13,10 @@ use lib.Seq.{getD-take, getD-drop, length-take-le}
 use Rattle.meaning.specs.List.{at}
 use Rattle.meaning.specs.Recurrence.{steps, reversed, degree, generator}
 use Rattle.laws.specs.List.{table-of, getD-table, getD-table-past}
-use Rattle.residue.specs.Prime.{Prime, isModulus-Prime}
-use Rattle.bridge.specs.Recurrence.{steps-above, steps-within}
+use Rattle.laws.specs.Recurrence.{Regular, steps-regular}
 use Rattle.wiedemann.specs.declared.recurrence.Register.{Register}
 use Rattle.wiedemann.specs.Recurrence.{Ready, AfterSteps, Reversed, HoldsGenerator}
-use Rattle.wiedemann.proofs.Elements.{lt-or-ge}
+use Rattle.wiedemann.proofs.HoldsSteps.{lt-or-ge}
 use Rattle.wiedemann.proofs.AfterSteps.{front}
 
 module _ (p : ℕ) (s : List ℕ) (n : ℕ) (e : length s ≡ n) where
@@ -60,17 +59,17 @@ holds-generator {p} {count} {r} {W} {W₁} {W′} {c} ready end b turned =
     room : length W′ ≡ length W
     room = turned .same-length ∙ a .room
 
-    prime : Prime p
-    prime = isModulus-Prime p (ready .modulus)
+    regular : Regular p count (steps p s count)
+    regular = steps-regular p (ready .two) s count
 
     within : c .length ≤ count
-    within = subst (λ x. x ≤ count) (sym (a .holds .L)) (steps-within p prime s count)
+    within = subst (λ x. x ≤ count) (sym (a .holds .L)) (regular .within)
 
     place : (i : ℕ) → i < count + 2 → at W′ (count + 2 + i) ≡ at (generator p s) i
     place i l =
         ⊎-elim
         (λ past. turned .after (count + 2 + i) (omega arith) ∙ a .holds .q i l
-        ∙ steps-above p prime s count i (subst (λ x. x < i) (a .holds .L) past)
+        ∙ regular .q-end i (subst (λ x. x < i) (a .holds .L) past)
         ∙ sym (at-generator-past p s count size i (subst (λ x. x < i) (a .holds .L) past)))
         (λ inside. turned .inside i inside ∙ a .holds .q (c .length - i) (omega (arith, within))
         ∙ ap (λ k. at (steps p s count .q) (k - i)) (a .holds .L)

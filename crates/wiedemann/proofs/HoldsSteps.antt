@@ -1,4 +1,5 @@
 -- The regions and the register keep up with document 01's steps: `HoldsSteps` after the start and after each case of a step.
+--     lt-or-ge               one number is below the other, or not
 --     fresh                  the register of L = 0, e = 1 and t = 0
 --     holds-start            q = 1, t = 0, L = 0, e = 1 in regions of which the second is cleared
 --     t-within, spare-within     both regions lie after q's
@@ -8,20 +9,27 @@
 --     holds-stay             d is not 0 and the length stays
 --     holds-grow             d is not 0 and the length grows: t is the copy of q
 use mathlib.Core.Path.{_≡_, refl, sym, ap, ap₂, _∙_}
-use mathlib.Core.Logic.{inl, inr, ⊎-elim}
+use mathlib.Core.Logic.{_⊎_, inl, inr, ⊎-elim}
 use mathlib.Core.List.{List, [], _∷_}
 use Prim.Native.Nat.{ℕ, zero, suc, _+_, _-_, _*_, _≤_, _<_}
 use native.Mathlib.Nat.{mod-eq-of-lt}
+use native.Mathlib.Decide.{decLt}
 use native.Mathlib.Omega.{arith}
 use Rattle.meaning.specs.List.{at}
 use Rattle.meaning.specs.Field.{minus, times, inverse}
 use Rattle.meaning.specs.Recurrence.{Steps, start, update}
+use Rattle.laws.specs.Recurrence.{times-zero, minus-zero, at-update}
 use Rattle.residue.specs.Inverse.{inverse-is}
 use Rattle.wiedemann.specs.declared.recurrence.Register.{Register}
 use Rattle.laws.specs.Written.{Written}
 use Rattle.wiedemann.specs.Recurrence.{Places, HoldsSteps, shifted, lengthened}
-use Rattle.wiedemann.proofs.Elements.{lt-or-ge, times-zero, minus-zero}
-use Rattle.wiedemann.proofs.Update.{at-update}
+
+pub lt-or-ge : (a b : ℕ) → (a < b) ⊎ (b ≤ a)
+lt-or-ge a b = go (decLt a b)
+  where
+    go : Dec (a < b) → (a < b) ⊎ (b ≤ a)
+    go (yes l) = inl l
+    go (no n) = inr (omega arith)
 
 abbrev pub fresh : ℕ → Register
 fresh count = record { length = 0; e = 1; inverse = 1; t = 2 * (count + 2); held = 0; shift = 1; spare = 3 * (count + 2) }

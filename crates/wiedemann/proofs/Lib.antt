@@ -1,10 +1,8 @@
 -- laws that only the proofs here use
-pub mod Elements
 pub mod Shoup
 pub mod Upper
 pub mod Wrapped
 pub mod Reversing
-pub mod Update
 pub mod HoldsSteps
 pub mod AfterSteps
 pub mod HoldsGenerator

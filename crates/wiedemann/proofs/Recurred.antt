@@ -18,7 +18,8 @@ use Rattle.meaning.specs.Recurrence.{IsShortest, degree, generator}
 use Rattle.meaning.specs.Calls.{recurrenceRefusal}
 use Rattle.laws.specs.List.{table-of}
 use Rattle.residue.specs.Prime.{isModulus-Prime, isModulus-le}
-use Rattle.bridge.specs.Recurrence.{degree-within, length-generator, isShortest}
+use Rattle.laws.specs.Recurrence.{degree-within, length-generator}
+use Rattle.bridge.specs.Recurrence.{isShortest}
 use Rattle.checks.specs.Recurrence.{Accepted}
 use Rattle.laws.specs.Written.{Written}
 use Rattle.wiedemann.specs.Recurrence.{Ready, HoldsGenerator, Recurred}
@@ -46,7 +47,8 @@ module _ {p : ℕ} {s polynomial work W₁ : List ℕ} (input : Accepted p s pol
 
   pub ready : {m : ℕ} → m ≡ p → Ready m (length s) W₁
   ready {m} same-modulus = subst (λ n. Ready n (length s) W₁) (sym same-modulus) (record {
-    modulus = input .modulus;
+    two = isModulus-Prime p (input .modulus) .two-le;
+    small = isModulus-le p (input .modulus);
     few = input .few;
     room = omega (arith, input .room, placed .same-length);
     elements = λ i l. subst (λ x. x < p) (sym (terms i l)) (input .below i l);
@@ -86,14 +88,14 @@ module _ {p : ℕ} {s polynomial work W₁ : List ℕ} (input : Accepted p s pol
           ∙ ap (λ x. at (generator p x) i) same
 
       within : L ≤ length s
-      within = subst (λ n. n ≤ length s) (sym answer) (degree-within p (isModulus-Prime p (input .modulus)) s)
+      within = subst (λ n. n ≤ length s) (sym answer) (degree-within p (isModulus-Prime p (input .modulus) .two-le) s)
 
       f : take (L + 1) polynomial′ ≡ generator p s
       f =
           let size : length (take (L + 1) polynomial′) ≡ L + 1 =
           length-take-le (L + 1) polynomial′ (omega (arith, within, written .same-length, input .size)) in
           ext-getD 0 (take (L + 1) polynomial′) (generator p s)
-          (size ∙ ap (λ n. n + 1) answer ∙ sym (length-generator p (isModulus-Prime p (input .modulus)) s))
+          (size ∙ ap (λ n. n + 1) answer ∙ sym (length-generator p s))
           (λ i l. let b : i < L + 1 = omega arith in
           getD-take (L + 1) polynomial′ i 0 b ∙ coefficient i (omega (arith, within)))
 

@@ -32,8 +32,7 @@ use Rattle.laws.specs.Bool.{and-left, and-right}
 use Rattle.laws.specs.Refusal.{first-nil, first-past, first-stops, first-passed, first-append-none, first-append-some, numbered-matrix}
 use Rattle.laws.specs.Solver.{vectorCount-div, vectorCount-whole, vectorCount-few}
 use Rattle.residue.specs.Prime.{Prime}
-use Rattle.residue.specs.Lists.{reduced-getD}
-use Rattle.bridge.specs.Recurrence.{reduced-generator}
+use Rattle.laws.specs.Recurrence.{generator-below}
 use Rattle.checks.specs.Valid.{Vector, vector-of}
 use Rattle.wiedemann.specs.declared.pass.Pass.{Pass as CodePass}
 use Rattle.wiedemann.specs.declared.pass.Passed.{Passed}
@@ -156,7 +155,7 @@ narrowed-factors {p} {A} {u} {W} {W₁} D t prime sized below F a f m e inside f
           subst (λ x. x < p)
           (ap (λ g. at g i) (sym (part-at W₁ f (t + 1) (generatorAt n (n - D)) (t + 1) e refl ∙ a .f)) ∙ at-part f (t + 1) W₁ i (omega (arith, l))
           ∙ sym (at-part 0 m W₁ (f + i) (omega (arith, l, inside)) ∙ ap (at W₁) (zero-add (f + i))))
-          (reduced-getD p (generator p s) (omega (arith, prime .two-le)) (reduced-generator p prime s) i);
+          (generator-below p (prime .two-le) s i);
     }
   where
     n : ℕ

@@ -1,6 +1,6 @@
 -- What the contracts of the shortest recurrence say. A slice of four regions of count + 2 places holds the terms and document 01's q and t; a
 -- register holds L, e and where t stands.
---     Ready            what the steps ask of p and the slice: `count` terms at its front, all below p, and room for four regions
+--     Ready            what the steps ask: p of 2 to 2³¹ − 1, prime or not; `count` terms at the slice's front, all below p; room for four regions
 --     Places           where t stands and which region it leaves free: the third and the fourth, or the other way round
 --     HoldsSteps       regions and register hold q, t, L and e of some steps, r terms taken
 --     BeforeStep       what is asked for the step r: the slice is ready, and holds what the steps for 1 to r − 1 make of the terms
@@ -13,12 +13,11 @@
 --     Recurred         what a call answers and leaves, and Massey's promise of it
 use mathlib.Core.Path.{_≡_}
 use mathlib.Core.Logic.{_≢_, _⊎_}
-use mathlib.Core.Bool.{true}
 use mathlib.Core.List.{List, _∷_}
 use Prim.Native.Nat.{ℕ, _+_, _-_, _*_, _≤_, _<_}
 use lib.ListN.{length, take, drop}
 use Rattle.meaning.specs.List.{at, padded}
-use Rattle.meaning.specs.Field.{isModulus, inverse}
+use Rattle.meaning.specs.Field.{inverse}
 use Rattle.meaning.specs.Recurrence.{IsShortest, Steps, steps, degree, generator}
 use Rattle.meaning.specs.Calls.{recurrenceRefusal, recurrenceAnswer, recurrenceAfter}
 use Rattle.wiedemann.specs.declared.recurrence.Register.{Register}
@@ -26,7 +25,8 @@ use Rattle.wiedemann.specs.declared.recurrence.Answer.{Answer}
 use Rattle.wiedemann.specs.declared.recurrence.Answer.the-variants.{Degree, Refused}
 
 pub record Ready (p count : ℕ) (W : List ℕ) : Type 0 where
-  pub modulus : isModulus p ≡ true
+  pub two : 1 < p
+  pub small : p ≤ 2147483647
   pub few : count ≤ 8192
   pub room : 4 * count + 8 ≤ length W
   pub elements : (i : ℕ) → i < count → at W i < p

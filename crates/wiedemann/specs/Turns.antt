@@ -31,7 +31,8 @@ use Rattle.meaning.specs.Solver.{dot, terms}
 use Rattle.laws.specs.Bool.{and-right}
 use Rattle.laws.specs.List.{table-of}
 use Rattle.residue.specs.Prime.{Prime, isModulus-Prime}
-use Rattle.bridge.specs.Recurrence.{steps-within, length-generator, isShortest}
+use Rattle.laws.specs.Recurrence.{degree-within, length-generator}
+use Rattle.bridge.specs.Recurrence.{isShortest}
 use Rattle.checks.specs.Valid.{Valid, Vector}
 use Rattle.laws.specs.Written.{Written}
 use Rattle.laws.specs.Part.{part, Apart, length-part, at-part, part-ext, written-part}
@@ -325,7 +326,7 @@ generated p W from count m Y t modulus e l same found =
     answer = found .answer ∙ ap (degree p) terms-of
 
     short : t ≤ count
-    short = omega (arith, answer, steps-within p prime s (length s), sized)
+    short = omega (arith, answer, degree-within p (prime .two-le) s, sized)
 
     f : part (from + (count + 2)) (t + 1) (lent W from m Y) ≡ generator p s
     f =
@@ -337,7 +338,7 @@ generated p W from count m Y t modulus e l same found =
         ∙ take-padded (count + 2) (generator p s) (omega (arith, long, short))
       where
         long : length (generator p s) ≡ t + 1
-        long = length-generator p prime s ∙ ap (λ k. k + 1) (sym answer)
+        long = length-generator p s ∙ ap (λ k. k + 1) (sym answer)
 
 pub record Shortened (p : ℕ) (A : Matrix) (left : ℕ) (u W W′ : List ℕ) (t : ℕ) : Type 0 where
   pub same-length : length W′ ≡ length W

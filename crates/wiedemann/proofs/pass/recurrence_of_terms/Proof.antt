@@ -1,4 +1,5 @@
 use Rattle.wiedemann.specs.Turns.{generated}
+use Rattle.residue.specs.Prime.{isModulus-Prime, isModulus-le}
 use Rattle.laws.specs.Part.{length-part, at-part}
 use denote.Ref.{now}
 use lib.ListN.{length}
@@ -38,7 +39,8 @@ shortest-requires c κs =
     let m = a .from + (4 * a .count + 8) - a .from in
     let size : m ≡ 4 * a .count + 8 = omega arith in (
       record {
-        modulus = pre .0 .0;
+        two = isModulus-Prime (a .m .p) (pre .0 .0) .two-le;
+        small = isModulus-le (a .m .p) (pre .0 .0);
         few = pre .0 .2;
         room = omega (arith, length-part (a .from) m W (omega (arith, size, pre .1 .0)), size);
         elements = λ i l. rw (at-part (a .from) m W i (omega (arith, size, l)), ← at-part (a .from) (a .count) W i l) (pre .1 .1 .below i l);

@@ -6,7 +6,7 @@ use borrow.Author.Needs.{needs}
 use Rattle.meaning.specs.List.{at}
 use Rattle.meaning.specs.Field.{minus, times}
 use Rattle.laws.specs.Written.{Written, written-more, written-all}
-use Rattle.wiedemann.proofs.Elements.{times-lt}
+use Rattle.laws.specs.Recurrence.{times-lt}
 use Rattle.wiedemann.proofs.recurrence.subtract.Statement.{statement}
 use Rattle.wiedemann.proofs.recurrence.subtract.Tie as tie
 
