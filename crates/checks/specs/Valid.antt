@@ -2,6 +2,7 @@
 --     Valid p A        a matrix of size 1 to 4,096 with values below p
 --     Vector p n v     n elements below p
 --     valid-of, right-of, vector-of      an accepted system's matrix and right side; a list that passed 8 and 9
+--     elements-of      .. and back: elements below p pass 9
 --     term             the product of entry k with its element of v
 --     rowProduct       their sum over row i
 --     Entries          what the sum of a row needs to know: entries and elements below 2³¹ − 1, columns within v
@@ -13,11 +14,11 @@ use Prim.Native.Nat.{ℕ, _+_, _*_, _≤_, _<_}
 use native.Mathlib.Omega.{arith}
 use lib.Dec.{ltb}
 use lib.ListN.{length}
-use borrow.Author.Tests.{ltb-true}
+use borrow.Author.Tests.{ltb-true, lt-ltb}
 use Rattle.meaning.specs.List.{at}
 use Rattle.meaning.specs.Matrix.{Matrix, size, rowSum}
 use Rattle.meaning.specs.Refusal.{elements}
-use Rattle.laws.specs.List.{every-at}
+use Rattle.laws.specs.List.{every-at, every-of}
 use Rattle.laws.specs.Accepted.{modulus-low, modulus-high, AcceptedSystem, start-within, column-within, value-below, right-at}
 
 pub record Valid (p : ℕ) (A : Matrix) : Type 0 where
@@ -60,6 +61,10 @@ pub vector-of : (p : ℕ) (v : List ℕ) (n : ℕ) → length v ≡ n → elemen
 unfolding elements
 vector-of p v n e h =
     record { places = e; below = λ i l. ltb-true (at v i) p (every-at (λ a. ltb a p) v 0 h i (omega (arith, e, l))) }
+
+pub elements-of : (p : ℕ) (v : List ℕ) → ((i : ℕ) → i < length v → at v i < p) → elements p v ≡ true
+unfolding elements
+elements-of p v h = every-of (λ a. ltb a p) v 0 (λ i l. lt-ltb (at v i) p (h i l))
 
 abbrev pub term : List ℕ → List ℕ → List ℕ → ℕ → ℕ
 term columns values v k = at values k * at v (at columns k)

@@ -270,9 +270,9 @@ module _ {p : ℕ} {A : Matrix} {b words W : List ℕ} {j : ℕ} {c : Counts} (s
       → (c .degree ≤ 4096) × (c .passes < 65536) × (c .applications < 4294967296) × (q .degree ≤ 8192) × (q .applications ≤ 16384)
   midway-fits z W′ q made =
       let sized = s .valid .sized in
-      let now : held (size A) W′ (c .degree + q .degree) (m .made ++ (passOf q ∷ [])) ≡ run p A (take (j + 1) (projections p (size A) words)) (begin b) = made .2 (m .made) ∙ sym (next z) in
+      let now : held (size A) W′ (c .degree + q .degree) (m .made ++ (passOf q ∷ [])) ≡ run p A (take (j + 1) (projections p (size A) words)) (begin b) = made .1 .run (m .made) ∙ sym (next z) in
       let found : c .degree + q .degree ≤ size A = subst (λ (r : Run). r .found ≤ size A) (sym now) (run-found p (s .accepted .prime) A b (s .accepted .size-b) (s .accepted .reduced-b) (take (j + 1) (projections p (size A) words))) in
-      let cost : q .applications ≡ 2 * (size A - c .degree) - 1 + (c .degree + q .degree - c .degree) = pass-cost p A (getD (projections p (size A) words) j []) (held (size A) W (c .degree) (m .made)) (held (size A) W′ (c .degree + q .degree) (m .made ++ (passOf q ∷ []))) (passOf q) refl (made .2 (m .made)) in
+      let cost : q .applications ≡ 2 * (size A - c .degree) - 1 + (c .degree + q .degree - c .degree) = pass-cost p A (getD (projections p (size A) words) j []) (held (size A) W (c .degree) (m .made)) (held (size A) W′ (c .degree + q .degree) (m .made ++ (passOf q ∷ []))) (passOf q) refl (made .1 .run (m .made)) in
       (omega (arith, found, sized), omega (arith, m .passes, m .used, m .within, most), omega (arith, m .few, m .within, most), omega (arith, found, sized), omega (arith, cost, found, sized))
 
   pub midway-next : isZero (part (residualAt (size A)) (size A) W) ≡ false → (W′ : List ℕ) (q : CodePass) → Passes p A words j (c .degree) W (Made q) W′
@@ -285,9 +285,9 @@ module _ {p : ℕ} {A : Matrix} {b words W : List ℕ} {j : ℕ} {c : Counts} (s
         used = length-append (m .made) (passOf q ∷ []) ∙ ap (λ k. k + 1) (m .used);
         applications = ap (λ k. k + q .applications) (m .applications) ∙ sym (spent-snoc (m .made) (passOf q));
         few = omega (arith, m .few, fits .4);
-        room = omega (arith, made .1, m .room);
+        room = omega (arith, made .1 .same-length, m .room);
         within = omega (arith, midway-less z);
-        state = made .2 (m .made) ∙ sym (next z);
+        state = made .1 .run (m .made) ∙ sym (next z);
       }
 
   pub midway-end : isZero (part (residualAt (size A)) (size A) W) ≡ true → Finished p A b words W c

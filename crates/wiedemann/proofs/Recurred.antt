@@ -1,4 +1,8 @@
 -- What the call `recurrence` answers.
+--     terms-ready                terms in place that no check turned down are ready for the core
+--     terms-taken                .. and back
+--     generates-degree, generates-refused      what a call in place says
+--     same-modulus               what the core holds, the modulus by its other name
 --     recurred-refused           the answer of a refusal, and slices left as they were
 --     modulus-range, ready       what the checks leave known: of p, and for the core
 --     recurred-generator         the answer of an accepted call, from the core's
@@ -6,25 +10,75 @@ use mathlib.Core.Path.{_≡_, refl, sym, ap, _∙_, subst}
 use mathlib.Core.Logic.{_≢_}
 use mathlib.Core.Bool.{true, false, cond}
 use mathlib.Core.List.{List}
-use Prim.Native.Nat.{ℕ, _+_, _≤_, _<_}
+use Prim.Native.Nat.{ℕ, _+_, _*_, _≤_, _<_}
 use native.Mathlib.Nat.{zero-add}
 use native.Mathlib.Omega.{arith}
-use lib.Dec.{eqb}
+use lib.Dec.{eqb, leb}
 use lib.ListN.{length, take}
 use lib.Seq.{ext-getD, getD-take, length-take-le}
-use borrow.Author.Tests.{eq-eqb, ne-eqb}
+use borrow.Author.Tests.{eq-eqb, ne-eqb, leb-true, ltb-true, le-leb}
 use Rattle.meaning.specs.List.{at, padded}
 use Rattle.meaning.specs.Recurrence.{IsShortest, degree, generator}
 use Rattle.meaning.specs.Calls.{recurrenceRefusal}
-use Rattle.laws.specs.List.{table-of}
+use Rattle.meaning.specs.Refusal.{within, elements}
+use Rattle.laws.specs.List.{table-of, every-at}
+use Rattle.laws.specs.Refusal.{first-nil, first-passed, first-pass, within-low, within-high, within-of}
 use Rattle.residue.specs.Prime.{isModulus-Prime, isModulus-le}
 use Rattle.laws.specs.Recurrence.{degree-within, length-generator}
 use Rattle.bridge.specs.Recurrence.{isShortest}
 use Rattle.checks.specs.Recurrence.{Accepted}
+use Rattle.checks.specs.Valid.{elements-of}
 use Rattle.laws.specs.Written.{Written}
-use Rattle.wiedemann.specs.Recurrence.{Ready, HoldsGenerator, Recurred}
+use Rattle.wiedemann.specs.Recurrence.{Ready, HoldsGenerator, termsRefusal, Generates, Recurred}
 use Rattle.wiedemann.specs.declared.recurrence.Answer.the-variants.{Degree, Refused}
 use Rattle.wiedemann.proofs.HoldsGenerator.{generator-at}
+
+pub terms-ready : (p count : ℕ) (W : List ℕ) → termsRefusal p count W ≡ 0 → Ready p count W
+unfolding termsRefusal elements
+terms-ready p count W z =
+    let a = first-passed 3 (within 2 2147483647 p) _ (omega arith) z in
+    let b = first-passed 8 (leb count 8192) _ (omega arith) (a .1) in
+    let c = first-passed 11 (leb (4 * count + 8) (length W)) _ (omega arith) (b .1) in
+    let e = first-passed 9 (elements p (take count W)) _ (omega arith) (c .1) .0 in
+    let room = leb-true (4 * count + 8) (length W) (c .0) in
+    let size : length (take count W) ≡ count = length-take-le count W (omega (arith, room)) in
+    record {
+      two = within-low 2 2147483647 p (a .0);
+      small = within-high 2 2147483647 p (a .0);
+      few = leb-true count 8192 (b .0);
+      room = room;
+      elements = λ i l. subst (λ x. x < p) (getD-take count W i 0 l) (ltb-true (at (take count W) i) p (every-at _ (take count W) 0 e i (omega (arith, size, l))));
+    }
+
+pub same-modulus : {m p count : ℕ} {W W′ : List ℕ} {L : ℕ} → m ≡ p → HoldsGenerator m count W W′ L → HoldsGenerator p count W W′ L
+same-modulus {m} {p} {count} {W} {W′} {L} e h = subst (λ n. HoldsGenerator n count W W′ L) e h
+
+pub terms-taken : {p count : ℕ} {W : List ℕ} → Ready p count W → termsRefusal p count W ≡ 0
+unfolding termsRefusal
+terms-taken {p} {count} {W} h =
+    first-pass 3 (within 2 2147483647 p) _ (within-of 2 2147483647 p (h .two) (h .small))
+    (first-pass 8 (leb count 8192) _ (le-leb count 8192 (h .few))
+    (first-pass 11 (leb (4 * count + 8) (length W)) _ (le-leb (4 * count + 8) (length W) (h .room))
+    (first-pass 9 (elements p (take count W)) _
+    (elements-of p (take count W)
+    (λ i l. let k : i < count = omega (arith, l, length-take-le count W (omega (arith, h .room))) in
+    subst (λ x. x < p) (sym (getD-take count W i 0 k)) (h .elements i k)))
+    first-nil)))
+
+pub generates-degree : {p count : ℕ} {W W′ : List ℕ} {L : ℕ} → termsRefusal p count W ≡ 0 → HoldsGenerator p count W W′ L
+    → Generates p count W (Degree L) W′
+generates-degree {p} {count} {W} {W′} {L} z h =
+    record {
+      degree = λ n e. let same : L ≡ n = cc in (z, subst (HoldsGenerator p count W W′) same h);
+      refused = λ k e. absurd (let y : _≡_ {A = ℕ} 0 1 = cc in omega arith);
+    }
+
+pub generates-refused : {p count : ℕ} {W : List ℕ} {k : ℕ} → termsRefusal p count W ≡ k → k ≢ 0 → Generates p count W (Refused k) W
+generates-refused {k} z n =
+    record {
+      degree = λ L e. absurd (let y : _≡_ {A = ℕ} 0 1 = cc in omega arith);
+      refused = λ j e. let same : k ≡ j = cc in (z ∙ same, (λ q. n (same ∙ q)), refl);
+    }
 
 pub recurred-refused : (p : ℕ) (s polynomial work : List ℕ) (k : ℕ) → k ≡ recurrenceRefusal p s polynomial work → k ≢ 0
     → Recurred p s polynomial work (Refused k) polynomial work
@@ -46,7 +100,7 @@ module _ {p : ℕ} {s polynomial work W₁ : List ℕ} (input : Accepted p s pol
   terms i l = ap (at W₁) (sym (zero-add i)) ∙ placed .inside i l ∙ ap (at s) (zero-add i)
 
   pub ready : {m : ℕ} → m ≡ p → Ready m (length s) W₁
-  ready {m} same-modulus = subst (λ n. Ready n (length s) W₁) (sym same-modulus) (record {
+  ready {m} e = subst (λ n. Ready n (length s) W₁) (sym e) (record {
     two = isModulus-Prime p (input .modulus) .two-le;
     small = isModulus-le p (input .modulus);
     few = input .few;
@@ -63,7 +117,7 @@ module _ {p : ℕ} {s polynomial work W₁ : List ℕ} (input : Accepted p s pol
   pub recurred-generator : {W₂ polynomial′ : List ℕ} {L m : ℕ} → m ≡ p → HoldsGenerator m (length s) W₁ W₂ L
       → Written polynomial 0 (length s + 1) (λ i. at W₂ (length s + 2 + i)) polynomial′
       → Recurred p s polynomial work (Degree L) polynomial′ W₂
-  recurred-generator {W₂} {polynomial′} {L} {m} same-modulus holds written =
+  recurred-generator {W₂} {polynomial′} {L} {m} e holds written =
       record {
         gives = (input .none, ap (λ b. cond b (degree p s) 0) zero ∙ sym answer);
         after =
@@ -74,7 +128,7 @@ module _ {p : ℕ} {s polynomial work W₁ : List ℕ} (input : Accepted p s pol
       }
     where
       found : HoldsGenerator p (length s) W₁ W₂ L
-      found = subst (λ n. HoldsGenerator n (length s) W₁ W₂ L) same-modulus holds
+      found = same-modulus e holds
 
       zero : eqb (recurrenceRefusal p s polynomial work) 0 ≡ true
       zero = eq-eqb (recurrenceRefusal p s polynomial work) 0 (input .none)

@@ -1,5 +1,9 @@
 -- The product of two polynomials in one slice: F at its front, f further up; it takes F's place from its highest coefficient down.
 --     Factors          what the product asks: room, and residues
+--     factorsFit, factorsRefusal      8: their places; 3, 8 and 9 of two factors
+--     GivesProduct     what a call answers and leaves: product-given, product-refused; product-of: where no check turns the factors down
+--     fits-of, fits-not, fits-by      what the places' test says; that it fails; the test as the code makes it
+--     factors-of, factors-taken       what no check turned down, and that none turns it down
 --     productAt        coefficient k of the product
 --     Meeting          the places of F that meet one of f in coefficient k
 --     crossing         they can be read against each other
@@ -9,16 +13,25 @@
 --     descending-none, descending-factors, descending-same, descending-more, descending-all      where that begins, what a turn asks and reads, a turn, and
 --                      where it ends
 use mathlib.Core.Path.{_≡_, refl, sym, ap, ap₂, _∙_, subst}
-use mathlib.Core.Logic.{_⊎_, inl, inr}
-use mathlib.Core.List.{List}
+use mathlib.Core.Logic.{_≢_, _⊎_, inl, inr}
+use mathlib.Core.Bool.{Bool, true, false, not, _&&_}
+use mathlib.Core.List.{List, [], _∷_}
 use Prim.Native.Nat.{ℕ, _+_, _-_, _*_, _%_, _≤_, _<_}
 use native.Mathlib.Nat.{zero-add, add-zero, zero-mul, mul-zero, mod-lt, eq-or-lt-of-le}
 use native.Mathlib.Decide.{decLt}
 use native.Mathlib.Omega.{arith}
+use lib.Dec.{leb, ltb}
 use lib.ListN.{length, drop, set, length-set, List·getD-eq-default}
 use lib.Seq.{getD-set-same, getD-set-other}
 use Rattle.meaning.specs.List.{at, sum, sumFrom}
+use borrow.Author.Tests.{leb-true, ltb-true, le-leb, lt-ltb}
+use Rattle.meaning.specs.Refusal.{check, first, within, elements}
 use Rattle.meaning.specs.Solver.{multiply}
+use Rattle.laws.specs.Bool.{and-left, and-right, and-both, test-cases, same-test}
+use Rattle.laws.specs.Refusal.{first-nil, first-passed, first-pass, within-of}
+use Rattle.checks.specs.Valid.{vector-of, elements-of}
+use Rattle.wiedemann.specs.declared.recurrence.Answer.{Answer}
+use Rattle.wiedemann.specs.declared.recurrence.Answer.the-variants.{Degree, Refused}
 use Rattle.laws.specs.List.{sum-ext, sum-zeros, table-of}
 use Rattle.wiedemann.specs.declared.sums.Total.{Total}
 use Rattle.wiedemann.specs.Sums.{number, Summed, sumFrom-split, sumFrom-ext}
@@ -34,6 +47,17 @@ pub record Factors (p : ℕ) (W : List ℕ) (d f t : ℕ) : Type 0 where
   pub room : f + t < length W
   pub left : (i : ℕ) → i ≤ d → at W i < p
   pub right : (i : ℕ) → i ≤ t → at W (f + i) < p
+
+unfoldable pub factorsFit : ℕ → ℕ → ℕ → ℕ → Bool
+factorsFit places d f t = leb (d + t) 8192 && ltb (d + t) f && ltb (f + t) places
+
+unfoldable pub factorsRefusal : ℕ → List ℕ → ℕ → ℕ → ℕ → ℕ
+factorsRefusal p W d f t =
+    first
+    (check 3 (not (within 2 2147483647 p))
+    ∷ check 8 (not (factorsFit (length W) d f t))
+    ∷ check 9 (not (elements p (part 0 (d + 1) W) && elements p (part f (t + 1) W)))
+    ∷ [])
 
 abbrev pub productAt : ℕ → List ℕ → ℕ → ℕ → ℕ → ℕ → ℕ
 productAt p W d f t k = sum (k + 1) (λ i. at (part 0 (d + 1) W) i * at (part f (t + 1) W) (k - i)) % p
@@ -215,6 +239,104 @@ descending-all {p} {W} {d} {f} {t} {W′} h w =
     sized : size ≡ d + t + 1
     sized =
         omega (arith, length-part 0 (d + 1) W (omega (arith, h .below, h .room)), length-part f (t + 1) W (omega (arith, h .room)))
+
+pub record GivesProduct (p : ℕ) (W : List ℕ) (d f t : ℕ) (r : Answer) (W′ : List ℕ) : Type 0 where
+  pub product : (n : ℕ) → r ≡ Degree n → (factorsRefusal p W d f t ≡ 0) × (n ≡ d + t) × Multiplied p W d f t W′
+  -- "every lent slice keeps its contents"
+  pub refused : (k : ℕ) → r ≡ Refused k → (factorsRefusal p W d f t ≡ k) × (k ≢ 0) × (W′ ≡ W)
+
+pub product-given : {p : ℕ} {W : List ℕ} {d f t : ℕ} {W′ : List ℕ} → factorsRefusal p W d f t ≡ 0 → Multiplied p W d f t W′
+    → GivesProduct p W d f t (Degree (d + t)) W′
+product-given {d} {t} z m =
+    record {
+      product = λ n e. (z, (let same : d + t ≡ n = cc in sym same), m);
+      refused = λ k e. absurd (let y : _≡_ {A = ℕ} 0 1 = cc in omega arith);
+    }
+
+pub product-refused : {p : ℕ} {W : List ℕ} {d f t k : ℕ} → factorsRefusal p W d f t ≡ k → k ≢ 0 → GivesProduct p W d f t (Refused k) W
+product-refused {k} z n =
+    record {
+      product = λ m e. absurd (let y : _≡_ {A = ℕ} 0 1 = cc in omega arith);
+      refused = λ j e. let same : k ≡ j = cc in (z ∙ same, (λ q. n (same ∙ q)), refl);
+    }
+
+-- the modulus by its other name
+pub same-product : {m p : ℕ} {W : List ℕ} {d f t : ℕ} {W′ : List ℕ} → m ≡ p → Multiplied m W d f t W′ → Multiplied p W d f t W′
+same-product {W} {d} {f} {t} {W′} e h = subst (λ n. Multiplied n W d f t W′) e h
+
+-- where no check turns the factors down
+pub product-of : {p : ℕ} {W : List ℕ} {d f t : ℕ} {r : Answer} {W′ : List ℕ} → GivesProduct p W d f t r W′ → factorsRefusal p W d f t ≡ 0
+    → Multiplied p W d f t W′
+product-of {r = Degree n} g z = g .product n refl .2
+product-of {r = Refused k} g z = let said = g .refused k refl in absurd (said .1 (sym (said .0) ∙ z))
+
+-- ---- the checks
+
+pub fits-of : (places d f t : ℕ) → factorsFit places d f t ≡ true → (d + t ≤ 8192) × (d + t < f) × (f + t < places)
+unfolding factorsFit
+fits-of places d f t e =
+    let both = and-left (leb (d + t) 8192 && ltb (d + t) f) (ltb (f + t) places) e in (
+      leb-true (d + t) 8192 (and-left (leb (d + t) 8192) (ltb (d + t) f) both),
+      ltb-true (d + t) f (and-right (leb (d + t) 8192) (ltb (d + t) f) both),
+      ltb-true (f + t) places (and-right (leb (d + t) 8192 && ltb (d + t) f) (ltb (f + t) places) e),
+    )
+
+pub fits-not : (places d f t : ℕ) → ((d + t ≤ 8192) × (d + t < f) × (f + t < places) → ⊥) → factorsFit places d f t ≡ false
+fits-not places d f t n = go (test-cases (factorsFit places d f t))
+  where
+    go : (factorsFit places d f t ≡ true) ⊎ (factorsFit places d f t ≡ false) → factorsFit places d f t ≡ false
+    go (inl e) = absurd (n (fits-of places d f t e))
+    go (inr e) = e
+
+-- a sum that might not fit a word is not taken
+pub fits-by : (places d f t : ℕ) → f < places → (leb (d + t) 8192 && ltb (d + t) f && ltb t (places - f)) ≡ factorsFit places d f t
+unfolding factorsFit
+fits-by places d f t l =
+    ap (λ b. leb (d + t) 8192 && ltb (d + t) f && b)
+    (same-test (ltb t (places - f)) (ltb (f + t) places) (λ e. lt-ltb (f + t) places (omega (arith, ltb-true t (places - f) e, l)))
+    (λ e. lt-ltb t (places - f) (omega (arith, ltb-true (f + t) places e))))
+
+-- what no check turned down, and back
+pub factors-of : (p : ℕ) (W : List ℕ) (d f t : ℕ) → factorsRefusal p W d f t ≡ 0 → (within 2 2147483647 p ≡ true) × Factors p W d f t
+unfolding factorsRefusal elements
+factors-of p W d f t z =
+    let a = first-passed 3 (within 2 2147483647 p) _ (omega arith) z in
+    let b = first-passed 8 (factorsFit (length W) d f t) _ (omega arith) (a .1) in
+    let e = first-passed 9 (elements p (part 0 (d + 1) W) && elements p (part f (t + 1) W)) _ (omega arith) (b .1) .0 in
+    let fit = fits-of (length W) d f t (b .0) in
+    let F = vector-of p (part 0 (d + 1) W) (d + 1) (length-part 0 (d + 1) W (omega (arith, fit .1, fit .2))) (and-left (elements p (part 0 (d + 1) W)) _ e) in
+    let g = vector-of p (part f (t + 1) W) (t + 1) (length-part f (t + 1) W (omega (arith, fit .2))) (and-right (elements p (part 0 (d + 1) W)) _ e) in (
+      a .0,
+      record {
+        few = fit .0;
+        below = fit .1;
+        room = fit .2;
+        left = λ i l. subst (λ x. x < p) (at-part 0 (d + 1) W i (omega (arith, l)) ∙ ap (at W) (zero-add i)) (F .below i (omega (arith, l)));
+        right = λ i l. subst (λ x. x < p) (at-part f (t + 1) W i (omega (arith, l))) (g .below i (omega (arith, l)));
+      },
+    )
+
+pub factors-taken : {p : ℕ} {W : List ℕ} {d f t : ℕ} → 1 < p → p ≤ 2147483647 → Factors p W d f t → factorsRefusal p W d f t ≡ 0
+unfolding factorsRefusal factorsFit
+factors-taken {p} {W} {d} {f} {t} two small h =
+    first-pass 3 (within 2 2147483647 p) _ (within-of 2 2147483647 p two small)
+    (first-pass 8 (factorsFit (length W) d f t) _
+    (and-both (and-both (le-leb (d + t) 8192 (h .few)) (lt-ltb (d + t) f (h .below))) (lt-ltb (f + t) (length W) (h .room)))
+    (first-pass 9 (elements p (part 0 (d + 1) W) && elements p (part f (t + 1) W)) _
+    (and-both (elements-of p (part 0 (d + 1) W) (λ i l. left i (omega (arith, l, size-F)))) (elements-of p (part f (t + 1) W) (λ i l. right i (omega (arith, l, size-f)))))
+    first-nil))
+  where
+    size-F : length (part 0 (d + 1) W) ≡ d + 1
+    size-F = length-part 0 (d + 1) W (omega (arith, h .below, h .room))
+
+    size-f : length (part f (t + 1) W) ≡ t + 1
+    size-f = length-part f (t + 1) W (omega (arith, h .room))
+
+    left : (i : ℕ) → i < d + 1 → at (part 0 (d + 1) W) i < p
+    left i l = subst (λ x. x < p) (sym (at-part 0 (d + 1) W i l ∙ ap (at W) (zero-add i))) (h .left i (omega (arith, l)))
+
+    right : (i : ℕ) → i < t + 1 → at (part f (t + 1) W) i < p
+    right i l = subst (λ x. x < p) (sym (at-part f (t + 1) W i l)) (h .right i (omega (arith, l)))
 
 -- a leading part that holds F and f, lent to the product
 pub multiplied-lent : {p : ℕ} {W : List ℕ} {d f t : ℕ} (m : ℕ) {Y : List ℕ} → d + t < f → f + t < m → m ≤ length W → length Y ≡ m

@@ -6,11 +6,12 @@
 --     heldElements         F and r hold elements below p
 --     stateChecks          8: D is below n; 10: the words; 11: the work slice; 9: an element of F or r
 --     passRefusal          3 to 7 for field and matrix, then these
---     passOf, Answers      the meaning's record of a pass; what each case of an answer says
+--     passOf, Makes, Answers      the meaning's record of a pass; what a pass leaves; what each case of an answer says
 --     Passes               what a call answers and leaves: the meaning's `pass` of what was held
 --     Narrowed, narrowed, narrowed-from      terms, recurrence and f(A)r in the slice's part from r on; F stays
 --     narrowed-factors     F and f are what the product asks
 --     made                 with F × f: a pass
+--     makes-modulus        .. the modulus by its other name
 --     refused-matrix, refused-state, state-8, state-10, state-11, state-9, state-0      the number, by the first check that turns the input down
 --     State, state-of      what the checks leave known
 use mathlib.Core.Path.{_≡_, refl, sym, ap, ap₂, _∙_, subst}
@@ -69,11 +70,14 @@ passRefusal p A words D work = first (matrixChecks p A ++ stateChecks p (size A)
 abbrev pub passOf : CodePass → Pass
 passOf q = record { left = q .left; degree = q .degree; applications = q .applications }
 
+-- the meaning's `pass` of what was held
+pub record Makes (p : ℕ) (A : Matrix) (u : List ℕ) (D : ℕ) (W : List ℕ) (q : CodePass) (W′ : List ℕ) : Type 0 where
+  pub same-length : length W′ ≡ length W
+  pub run : (qs : List Pass) → held (size A) W′ (D + q .degree) (qs ++ (passOf q ∷ [])) ≡ pass p A u (held (size A) W D qs)
+
 -- "a refusal returns its number and no other answer .. and every lent slice keeps its contents"
 abbrev pub Answers : ℕ → Matrix → List ℕ → ℕ → List ℕ → ℕ → Passed → List ℕ → Type 0
-Answers p A u D W number (Made q) W′ =
-    (number ≡ 0) × (length W′ ≡ length W)
-    × ((qs : List Pass) → held (size A) W′ (D + q .degree) (qs ++ (passOf q ∷ [])) ≡ pass p A u (held (size A) W D qs))
+Answers p A u D W number (Made q) W′ = (number ≡ 0) × Makes p A u D W q W′
 Answers p A u D W number (Refused k) W′ = (number ≡ k) × (k ≢ 0) × (W′ ≡ W)
 
 abbrev pub Passes : ℕ → Matrix → List ℕ → ℕ → ℕ → List ℕ → Passed → List ℕ → Type 0
@@ -200,6 +204,11 @@ made {p} {A} {u} {W} {W₁} {W₂} D t below room a f e m qs =
         m .product
         ∙ ap₂ (multiply p) (same-take 0 (D + 1) (residualAt n) W W₁ (omega (arith, below)) (omega (arith, room)) (a .same-length) (a .front))
         (part-at W₁ f (t + 1) (generatorAt n (n - D)) (t + 1) e refl ∙ a .f)
+
+-- the modulus by its other name
+pub makes-modulus : {m p : ℕ} {A : Matrix} (words : List ℕ) (j : ℕ) {D : ℕ} {W : List ℕ} {q : CodePass} {W′ : List ℕ} → m ≡ p
+    → Makes m A (getD (projections m (size A) words) j []) D W q W′ → Makes p A (getD (projections p (size A) words) j []) D W q W′
+makes-modulus {A} words j {D} {W} {q} {W′} e h = subst (λ p. Makes p A (getD (projections p (size A) words) j []) D W q W′) e h
 
 -- ---- the checks
 

@@ -9,16 +9,21 @@
 --     AfterSteps       a slice before and after: regions and register hold what document 01's steps for 1 to r make of the terms, and those stay
 --     Reversed         a slice after L + 1 places of it, from a on, were put in reverse order
 --     HoldsGenerator   a slice before and after the core: L, and f with zeros after it in the second region
+--     termsRefusal     3, 8, 11 and 9 of terms at the front of a slice
+--     Generates        what a call in place answers and leaves
 --     GivesDegree      what each case of an answer says: document 01's number of the refusal, 0 for none, and L
 --     Recurred         what a call answers and leaves, and Massey's promise of it
 use mathlib.Core.Path.{_≡_}
 use mathlib.Core.Logic.{_≢_, _⊎_}
-use mathlib.Core.List.{List, _∷_}
+use mathlib.Core.Bool.{not}
+use mathlib.Core.List.{List, [], _∷_}
 use Prim.Native.Nat.{ℕ, _+_, _-_, _*_, _≤_, _<_}
+use lib.Dec.{leb}
 use lib.ListN.{length, take, drop}
 use Rattle.meaning.specs.List.{at, padded}
 use Rattle.meaning.specs.Field.{inverse}
 use Rattle.meaning.specs.Recurrence.{IsShortest, Steps, steps, degree, generator}
+use Rattle.meaning.specs.Refusal.{check, first, within, elements}
 use Rattle.meaning.specs.Calls.{recurrenceRefusal, recurrenceAnswer, recurrenceAfter}
 use Rattle.wiedemann.specs.declared.recurrence.Register.{Register}
 use Rattle.wiedemann.specs.declared.recurrence.Answer.{Answer}
@@ -76,6 +81,20 @@ pub record HoldsGenerator (p count : ℕ) (W W′ : List ℕ) (L : ℕ) : Type 0
   pub answer : L ≡ degree p (take count W)
   pub f : take (count + 2) (drop (count + 2) W′) ≡ padded (count + 2) (generator p (take count W))
   pub terms : take (count + 2) W′ ≡ take (count + 2) W
+
+unfoldable pub termsRefusal : ℕ → ℕ → List ℕ → ℕ
+termsRefusal p count W =
+    first
+    (check 3 (not (within 2 2147483647 p))
+    ∷ check 8 (not (leb count 8192))
+    ∷ check 11 (not (leb (4 * count + 8) (length W)))
+    ∷ check 9 (not (elements p (take count W)))
+    ∷ [])
+
+pub record Generates (p count : ℕ) (W : List ℕ) (r : Answer) (W′ : List ℕ) : Type 0 where
+  pub degree : (L : ℕ) → r ≡ Degree L → (termsRefusal p count W ≡ 0) × HoldsGenerator p count W W′ L
+  -- "every lent slice keeps its contents"
+  pub refused : (k : ℕ) → r ≡ Refused k → (termsRefusal p count W ≡ k) × (k ≢ 0) × (W′ ≡ W)
 
 -- "a refusal returns its number and no other answer (any count, length or element beside it is 0)"
 abbrev pub GivesDegree : Answer → ℕ → ℕ → Type 0

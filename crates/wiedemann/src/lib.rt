@@ -1,5 +1,6 @@
 // Sparse matrices modulo a prime: their products and polynomials, shortest recurrences, one pass of a run, and the checks of offered answers.
 mod convolution;
+pub mod factor;
 pub mod matrix;
 mod modulus;
 mod multiplier;

@@ -13,15 +13,15 @@ ghost use Rattle.checks.specs.Valid.{Valid, Vector};
 ghost use Rattle.laws.specs.Part.{part};
 ghost use Rattle.wiedemann.specs.Projection.{Words};
 ghost use Rattle.wiedemann.specs.Turns.{Seat, Other, Turning, Advanced, Sequenced, Leading, Applied, Generated, Shortened};
-ghost use Rattle.wiedemann.specs.Factor.{Factors, productAt, Multiplied};
 ghost use Rattle.meaning.specs.Refusal.{first};
-ghost use Rattle.wiedemann.specs.Pass.{residualAt, stateChecks, Passes};
-use crate::convolution::crossed;
+ghost use Rattle.wiedemann.specs.Pass.{residualAt, generatorAt, stateChecks, State, Makes, Passes};
+use crate::factor::multiply;
 use crate::matrix::step_within;
 use crate::modulus::Modulus;
 use crate::projection::Projection;
 use crate::projection::projected;
-use crate::recurrence::shortest;
+use crate::recurrence::Answer;
+use crate::recurrence::generate;
 use crate::slice::copy;
 use checks::are_elements;
 use checks::matrix_refusal;
@@ -115,7 +115,11 @@ fn recurrence_of_terms(m: Modulus, area: &mut [u32], from: usize, count: usize) 
     ensures { λ t. ⌜ Generated (m .p) (now (area .entry)) from count (now (area .exit)) t ⌝ }
 {
     let end = from + (4 * count + 8);
-    shortest(m, count, &mut area[from..end])
+    let answer = generate(m.p, count, &mut area[from..end]);
+    match answer {
+        Answer::Degree(t) => t,
+        Answer::Refused(_) => 0,
+    }
 }
 
 // r becomes f(A)r by Horner's rule, for the monic f of degree t at `f`: t products.
@@ -170,29 +174,6 @@ fn take_factor(
     t
 }
 
-// Coefficient k of the product of F, of degree d, and f, of degree t at `f`: the sum over the places where both have a coefficient.
-fn coefficient(m: Modulus, work: &[u32], d: usize, f: usize, t: usize, k: usize) -> u32
-    requires { ⌜ Modular m × Factors (m .p) (now work) d f t × (k ≤ d + t) ⌝ }
-    ensures { λ r. ⌜ r ≡ productAt (m .p) (now (work .entry)) d f t k ⌝ }
-{
-    let from = if k < t { 0 } else { k - t };
-    let to = if k < d { k + 1 } else { d + 1 };
-    let front: usize = 0;
-    crossed(work, front, f + k, from, to).residue(m)
-}
-
-// F becomes F × f, from the highest coefficient down: those that are still read stand below.
-fn multiply(m: Modulus, work: &mut [u32], d: usize, f: usize, t: usize)
-    requires { ⌜ Modular m × Factors (m .p) (now work) d f t ⌝ }
-    ensures { λ _. ⌜ Multiplied (m .p) (now (work .entry)) d f t (now (work .exit)) ⌝ }
-{
-    let mut k = d + t + 1;
-    while 0 < k {
-        k -= 1;
-        work[k] = coefficient(m, work, d, f, t, k);
-    }
-}
-
 // ---- the call
 
 // A pass: left, its degree t, its applications.
@@ -240,8 +221,60 @@ fn state_refusal(p: u32, n: usize, d: usize, words: &[u32], work: &[u32]) -> u32
     0
 }
 
-// A pass with projection j of the run whose r and F, of degree d, stand in the work slice: r becomes f(A)r, F becomes F × f. It asks nothing of how
-// the run came there, and refuses what is no such state.
+// Where f stands after the recurrence of 2 × left terms: behind r, its iterates and the terms.
+fn generator_at(n: usize, left: usize) -> usize
+    requires { ⌜ (n ≤ 4096) × (left ≤ n) ⌝ }
+    ensures { λ r. ⌜ (r ≡ generatorAt n left) × (r ≤ 65536) ⌝ }
+{
+    residual_at(n as u32) + (3 * n + (2 * left + 2))
+}
+
+// A pass with projection j of a state that no check turned down: r becomes f(A)r, F becomes F × f.
+fn pass_of_state(
+    m: Modulus,
+    starts: &[u32],
+    columns: &[u32],
+    values: &[u32],
+    words: &[u32],
+    j: usize,
+    d: usize,
+    work: &mut [u32],
+) -> Pass
+    requires { ⌜ Valid (m .p) (matrix (now starts) (now columns) (now values)) × (isModulus (m .p) ≡ true) × Modular m ⌝ }
+    requires { ⌜ State (m .p) (length (now starts) - 1) d (now words) (now work) ⌝ }
+    ensures { λ q. ⌜ Makes (m .p) (matrix (now (starts .entry)) (now (columns .entry)) (now (values .entry)))
+        (getD (projections (m .p) (length (now (starts .entry)) - 1) (now (words .entry))) j []) d (now (work .entry)) q (now (work .exit)) ⌝ }
+{
+    let n = starts.len() - 1;
+    let left = n - d;
+    let first = residual_at(n as u32);
+    let u = Projection {
+        vectors: words.len() / n,
+        index: j,
+    };
+    let t = take_factor(
+        m,
+        starts,
+        columns,
+        values,
+        words,
+        u,
+        &mut work[first..],
+        left,
+    );
+    let front: usize = 0;
+    let f = generator_at(n, left);
+    let end = f + t + 1;
+    multiply(m.p, &mut work[front..end], d, f, t);
+    Pass {
+        left,
+        degree: t,
+        applications: (2 * left - 1 + t) as u64,
+    }
+}
+
+// A pass with projection j of the run whose r and F, of degree d, stand in the work slice. It asks nothing of how the run came there, and refuses
+// what is no such state.
 pub fn make_pass(
     field: Field,
     starts: &[u32],
@@ -260,33 +293,10 @@ pub fn make_pass(
     if number != 0 {
         return Passed::Refused(number);
     }
-    let n = starts.len() - 1;
-    let state = state_refusal(p, n, d, words, work);
+    let state = state_refusal(p, starts.len() - 1, d, words, work);
     if state != 0 {
         return Passed::Refused(state);
     }
-    let left = n - d;
-    let first = residual_at(n as u32);
     let m = Modulus::of(p);
-    let vectors = words.len() / n;
-    let t = take_factor(
-        m,
-        starts,
-        columns,
-        values,
-        words,
-        Projection { vectors, index: j },
-        &mut work[first..],
-        left,
-    );
-    let front: usize = 0;
-    let f = first + (3 * n + (2 * left + 2));
-    let end = f + t + 1;
-    multiply(m, &mut work[front..end], d, f, t);
-    let applications = 2 * left - 1 + t;
-    Passed::Made(Pass {
-        left,
-        degree: t,
-        applications: applications as u64,
-    })
+    Passed::Made(pass_of_state(m, starts, columns, values, words, j, d, work))
 }

@@ -9,6 +9,7 @@ use crate::multiplier::Multiplier;
 use crate::slice::clear;
 use crate::slice::copy;
 use crate::slice::transfer;
+use checks::are_elements;
 use checks::recurrence_refusal;
 use field::Field;
 ghost use mathlib.Core.Path.{_≡_};
@@ -18,7 +19,7 @@ ghost use Rattle.meaning.specs.List.{at};
 ghost use Rattle.meaning.specs.Field.{minus, times};
 ghost use Rattle.wiedemann.specs.Modulus.{Modular};
 ghost use Rattle.laws.specs.Written.{Written};
-ghost use Rattle.wiedemann.specs.Recurrence.{Ready, BeforeStep, AfterSteps, HoldsGenerator, Recurred, Reversed, shifted, lengthened};
+ghost use Rattle.wiedemann.specs.Recurrence.{Ready, BeforeStep, AfterSteps, HoldsGenerator, termsRefusal, Generates, Recurred, Reversed, shifted, lengthened};
 
 // What the steps keep beside the regions.
 pub(crate) struct Register {
@@ -159,14 +160,46 @@ pub(crate) fn shortest(m: Modulus, count: usize, work: &mut [u32]) -> usize
     c.length
 }
 
-// ---- the call
+// ---- the calls
 
-// What the shortest recurrence answers.
+// What a call answers.
 pub enum Answer {
-    // L
+    // The degree: L, or that of a product.
     Degree(usize),
     // The number of the first check that turned the input down.
     Refused(u32),
+}
+
+// 3, 8, 11 and 9 of terms at the front of a slice: p is 2 to 2,147,483,647, prime or not; at most 8,192 terms; the slice; the terms, which can be
+// read then.
+fn terms_refusal(p: u32, count: usize, work: &[u32]) -> u32
+    ensures { λ r. ⌜ r ≡ termsRefusal p count (now (work .entry)) ⌝ }
+{
+    if !((p >= 2) & (p <= 2147483647)) {
+        return 3;
+    }
+    if count > 8192 {
+        return 8;
+    }
+    if work.len() < 4 * count + 8 {
+        return 11;
+    }
+    let front: usize = 0;
+    if !are_elements(p, &work[front..count]) {
+        return 9;
+    }
+    0
+}
+
+// The shortest recurrence of the `count` terms at the front of `work`, in place: f stands in the second region, zeros after it.
+pub fn generate(p: u32, count: usize, work: &mut [u32]) -> Answer
+    ensures { λ r. ⌜ Generates p count (now (work .entry)) r (now (work .exit)) ⌝ }
+{
+    let number = terms_refusal(p, count, work);
+    if number != 0 {
+        return Answer::Refused(number);
+    }
+    Answer::Degree(shortest(Modulus::of(p), count, work))
 }
 
 // The shortest recurrence of s: its degree L, and f in the polynomial slice, zeros after it.

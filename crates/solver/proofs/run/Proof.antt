@@ -118,7 +118,7 @@ loop-again c =
     let said =
     subst (λ r. Passes (a .field .p) (matrix (now (a .starts)) (now (a .columns)) (now (a .values))) (now (a .words)) (c .before .before .before .before .before .before .before .before .before .before .before .loop .j) (c .before .before .before .before .before .before .before .before .before .before .before .loop .c .degree) (c .before .before .before .before .before .before .before .before .before .before .before .loop .work) r (c .before .before .before .before .before .before .make-pass .last .1 .1 .1 .1 .1 .1 .1 .0)) (c .before .before .answer .given .1)
     (c .before .before .before .before .before .before .make-pass .ensures) in
-    (rw (c .count .ensures) (midway-next (pre .0) few m z (c .before .before .before .before .before .before .make-pass .last .1 .1 .1 .1 .1 .1 .1 .0) _ said), said .1 ∙ c .before .before .before .before .before .before .before .before .before .before .before .loop .inv .1)
+    (rw (c .count .ensures) (midway-next (pre .0) few m z (c .before .before .before .before .before .before .make-pass .last .1 .1 .1 .1 .1 .1 .1 .0) _ said), said .1 .same-length ∙ c .before .before .before .before .before .before .before .before .before .before .before .loop .inv .1)
 
 same-length-2 : tie.Need-same-length-2 Inv-loop μ-loop
 same-length-2 c = c .before .before .before .loop .inv .1 ∙ c .before .before .before .before .before .before .begin .ensures .1

@@ -1,11 +1,13 @@
+use Rattle.wiedemann.specs.Recurrence.{Ready}
 use Rattle.wiedemann.specs.Turns.{generated}
+use Rattle.wiedemann.proofs.Recurred.{terms-taken}
 use Rattle.residue.specs.Prime.{isModulus-Prime, isModulus-le}
-use Rattle.laws.specs.Part.{length-part, at-part}
+use Rattle.laws.specs.Part.{part, length-part, at-part}
 use denote.Ref.{now}
 use lib.ListN.{length}
 use native.Mathlib.Omega.{arith}
 use Prim.Native.Nat.{_+_, _-_, _*_, _≤_}
-use mathlib.Core.Path.{_≡_, _∙_}
+use mathlib.Core.Path.{_≡_, sym, _∙_}
 use borrow.Author.Needs.{needs}
 use Rattle.wiedemann.proofs.pass.recurrence_of_terms.Statement.{statement}
 use Rattle.wiedemann.proofs.pass.recurrence_of_terms.Tie as tie
@@ -19,47 +21,69 @@ add-end c = search needs
 add-end-2 : tie.Need-add-end-2
 add-end-2 c = search needs
 
-mul-shortest : tie.Need-mul-shortest
-mul-shortest c = search needs
+mul-generate : tie.Need-mul-generate
+mul-generate c = search needs
 
-sub-shortest : tie.Need-sub-shortest
-sub-shortest c = search needs
+sub-generate : tie.Need-sub-generate
+sub-generate c = search needs
 
-part-shortest-start : tie.Need-part-shortest-start
-part-shortest-start c = search needs
+part-generate-start : tie.Need-part-generate-start
+part-generate-start c = search needs
 
-part-shortest-end : tie.Need-part-shortest-end
-part-shortest-end c = search needs
+part-generate-end : tie.Need-part-generate-end
+part-generate-end c = search needs
 
-shortest-requires : tie.Need-shortest-requires
-shortest-requires c κs =
-    let a = c .before .before .args in
-    let pre = c .before .before .pre in
+generate-requires : tie.Need-generate-requires
+generate-requires c κs = search needs
+
+enum-known-answer : tie.Need-enum-known-answer
+enum-known-answer c = search needs
+
+enum-told : tie.Need-enum-told
+enum-told c = search needs
+
+-- the terms, in the part that is lent
+ready : (c : tie.After-slice-known) → Ready (c .before .args .m .p) (c .before .args .count) (part (c .before .args .from) (c .before .args .from + (4 * c .before .args .count + 8) - c .before .args .from) (now (c .before .args .area)))
+ready c =
+    let a = c .before .args in
+    let pre = c .before .pre in
     let W = now (a .area) in
     let m = a .from + (4 * a .count + 8) - a .from in
-    let size : m ≡ 4 * a .count + 8 = omega arith in (
-      record {
-        two = isModulus-Prime (a .m .p) (pre .0 .0) .two-le;
-        small = isModulus-le (a .m .p) (pre .0 .0);
-        few = pre .0 .2;
-        room = omega (arith, length-part (a .from) m W (omega (arith, size, pre .1 .0)), size);
-        elements = λ i l. rw (at-part (a .from) m W i (omega (arith, size, l)), ← at-part (a .from) (a .count) W i l) (pre .1 .1 .below i l);
-      },
-      pre .0 .1,
-    )
+    let size : m ≡ 4 * a .count + 8 = omega arith in
+    record {
+      two = isModulus-Prime (a .m .p) (pre .0 .0) .two-le;
+      small = isModulus-le (a .m .p) (pre .0 .0);
+      few = pre .0 .2;
+      room = omega (arith, length-part (a .from) m W (omega (arith, size, pre .1 .0)), size);
+      elements = λ i l. rw (at-part (a .from) m W i (omega (arith, size, l)), ← at-part (a .from) (a .count) W i l) (pre .1 .1 .below i l);
+    }
 
 same-length : tie.Need-same-length
 same-length c = search needs
 
 returns : tie.Need-returns
 returns c =
-    let a = c .before .before .before .before .before .args in
-    let pre = c .before .before .before .before .before .pre in
+    let a = c .before .before .before .before .before .before .before .before .args in
+    let pre = c .before .before .before .before .before .before .before .before .pre in
+    let call = c .before .before .before .before .before .generate in
     let m = a .from + (4 * a .count + 8) - a .from in
     let size : m ≡ 4 * a .count + 8 = omega arith in
     let fits : a .from + m ≤ length (now (a .area)) = omega (arith, size, pre .1 .0) in
-    generated (a .m .p) (now (a .area)) (a .from) (a .count) m _ (c .before .before .shortest .result) (pre .0 .0) size fits
-    (c .before .before .shortest .kept .1 .1 .0 ∙ length-part (a .from) m (now (a .area)) fits) (c .before .before .shortest .ensures)
+    generated (a .m .p) (now (a .area)) (a .from) (a .count) m _ _ (pre .0 .0) size fits (call .kept .1 .1 .0 ∙ length-part (a .from) m (now (a .area)) fits)
+    (call .ensures .degree _ (c .before .answer .given .1) .1)
+
+-- they are never refused
+never : (c : tie.After-enum-told) → ⊥
+never c =
+    let call = c .before .before .before .before .generate in
+    let said = call .ensures .refused _ (c .enum-told .given .1) in
+    said .1 (sym (said .0) ∙ terms-taken (ready (c .before .before .before .before .before .before)))
+
+same-length-2 : tie.Need-same-length-2
+same-length-2 c = absurd (never c)
+
+returns-2 : tie.Need-returns-2
+returns-2 c = absurd (never c)
 
 pub recurrence-of-terms-spec : {M : Type 1} → statement M
 recurrence-of-terms-spec =
@@ -68,10 +92,14 @@ recurrence-of-terms-spec =
     mul-end
     add-end
     add-end-2
-    mul-shortest
-    sub-shortest
-    part-shortest-start
-    part-shortest-end
-    shortest-requires
+    mul-generate
+    sub-generate
+    part-generate-start
+    part-generate-end
+    generate-requires
+    enum-known-answer
+    enum-told
     same-length
-    returns)
+    returns
+    same-length-2
+    returns-2)

@@ -4,8 +4,8 @@ use native.Mathlib.Omega.{arith}
 use Prim.Native.Nat.{_+_, _-_, _≤_}
 use mathlib.Core.Path.{_≡_, _∙_, subst}
 use borrow.Author.Needs.{needs}
-use Rattle.wiedemann.proofs.pass.multiply.Statement.{statement}
-use Rattle.wiedemann.proofs.pass.multiply.Tie as tie
+use Rattle.wiedemann.proofs.factor.multiply_within.Statement.{statement}
+use Rattle.wiedemann.proofs.factor.multiply_within.Tie as tie
 
 abbrev Inv-loop : tie.InvT-loop
 Inv-loop m work₀ d f t k₀ work k = (k ≤ d + t + 1) × Descending (m .p) work₀ d f t k work
@@ -70,8 +70,8 @@ returns c =
     descending-all (pre .1)
     (subst (λ m. Descending (a .m .p) (now (a .work)) (a .d) (a .f) (a .t) m (loop .work)) {x = loop .k} {y = 0} (omega (arith, c .loop-test .left)) (loop .inv .1))
 
-pub multiply-spec : {M : Type 1} → statement M
-multiply-spec =
+pub multiply-within-spec : {M : Type 1} → statement M
+multiply-within-spec =
     tie.close
     (tie.spec
     Inv-loop

@@ -2,8 +2,8 @@ use Rattle.wiedemann.specs.Factor.{Meeting, crossing, coefficient}
 use mathlib.Core.Logic.{inl, inr, ⊎-elim}
 use native.Mathlib.Omega.{arith}
 use borrow.Author.Needs.{needs}
-use Rattle.wiedemann.proofs.pass.coefficient.Statement.{statement}
-use Rattle.wiedemann.proofs.pass.coefficient.Tie as tie
+use Rattle.wiedemann.proofs.factor.coefficient.Statement.{statement}
+use Rattle.wiedemann.proofs.factor.coefficient.Tie as tie
 
 -- the sum's bounds
 meeting : (c : tie.Joined2) → Meeting (c .before .before .before .args .d) (c .before .before .before .args .t) (c .before .before .before .args .k) (c .before .if1 .from) (c .if2 .to)

@@ -1,0 +1,188 @@
+use Rattle.wiedemann.specs.Pass.{residualAt, generatorAt, Narrowed, narrowed-from, narrowed-factors, made}
+use Rattle.wiedemann.specs.Factor.{multiplied-lent, factors-taken, product-of}
+use Rattle.laws.specs.Lent.{lent, part-at, part-of-part}
+use Rattle.laws.specs.Part.{part, length-part}
+use Rattle.residue.specs.Prime.{isModulus-Prime}
+use Rattle.checks.specs.Valid.{Vector}
+use Rattle.meaning.specs.Matrix.{matrix}
+use Rattle.meaning.specs.Solver.{projections}
+use denote.Ref.{now}
+use lib.ListN.{length, getD}
+use native.Mathlib.Nat.{add-zero}
+use native.Mathlib.Omega.{arith}
+use Prim.Native.Nat.{ℕ, _+_, _-_, _*_, _≤_}
+use mathlib.Core.List.{List, []}
+use mathlib.Core.Path.{_≡_, refl, sym, subst, _∙_}
+use borrow.Author.Needs.{needs}
+use Rattle.wiedemann.proofs.pass.pass_of_state.Statement.{statement}
+use Rattle.wiedemann.proofs.pass.pass_of_state.Tie as tie
+
+-- the work slice when its part from r on has come back
+abbrev returned : tie.After-slice-known2 → List ℕ
+returned c =
+    let W = now (c .before .before .before .before .before .before .before .before .before .before .args .work) in
+    let first = c .before .before .before .before .residual-at .result in
+    lent W first (length W - first) (c .before .before .take-factor .last .1 .1 .1 .1 .1 .1 .0)
+
+-- terms, recurrence and f(A)r, seen from the whole slice
+done : (c : tie.After-slice-known2)
+    → Narrowed (c .before .before .before .before .before .before .before .before .before .before .args .m .p) (matrix (now (c .before .before .before .before .before .before .before .before .before .before .args .starts)) (now (c .before .before .before .before .before .before .before .before .before .before .args .columns)) (now (c .before .before .before .before .before .before .before .before .before .before .args .values))) (length (now (c .before .before .before .before .before .before .before .before .before .before .args .starts)) - 1 - c .before .before .before .before .before .before .before .before .before .before .args .d)
+    (getD (projections (c .before .before .before .before .before .before .before .before .before .before .args .m .p) (length (now (c .before .before .before .before .before .before .before .before .before .before .args .starts)) - 1) (now (c .before .before .before .before .before .before .before .before .before .before .args .words))) (c .before .before .before .before .before .before .before .before .before .before .args .j) []) (now (c .before .before .before .before .before .before .before .before .before .before .args .work)) (returned c) (c .before .before .take-factor .result)
+done c =
+    let W = now (c .before .before .before .before .before .before .before .before .before .before .args .work) in
+    let first = c .before .before .before .before .residual-at .result in
+    let place = c .before .before .before .before .residual-at .ensures in
+    let room = c .before .before .before .before .before .before .before .before .before .before .pre .1 .room in
+    let m = length W - first in
+    let fits : first + m ≤ length W = omega (arith, place, room) in
+    narrowed-from first m place fits (omega (arith, room, place)) (c .before .before .take-factor .kept .1 .1 .1 .1 .1 .1 .0 ∙ length-part first m W fits) (c .before .before .take-factor .ensures)
+
+sub-n : tie.Need-sub-n
+sub-n c = omega (arith, c .before .before .before .before .before .pre .0 .0 .one-more)
+
+sub-left : tie.Need-sub-left
+sub-left c = omega (arith, c .before .before .before .before .before .pre .1 .below)
+
+cast-residual-at : tie.Need-cast-residual-at
+cast-residual-at c = omega (arith, c .before .before .before .before .before .pre .0 .0 .sized)
+
+residual-at-requires : tie.Need-residual-at-requires
+residual-at-requires c κs = search needs
+
+div-take-factor : tie.Need-div-take-factor
+div-take-factor c = omega (arith, c .before .before .before .before .before .before .pre .0 .0 .some)
+
+mul-take-factor : tie.Need-mul-take-factor
+mul-take-factor c = search needs
+
+sub-take-factor : tie.Need-sub-take-factor
+sub-take-factor c = omega (arith, c .residual-at .ensures, c .before .before .before .before .before .before .pre .1 .room)
+
+part-take-factor-start : tie.Need-part-take-factor-start
+part-take-factor-start c = omega (arith, c .residual-at .ensures, c .before .before .before .before .before .before .pre .1 .room)
+
+part-take-factor-end : tie.Need-part-take-factor-end
+part-take-factor-end c = search needs
+
+take-factor-requires : tie.Need-take-factor-requires
+take-factor-requires c κs =
+    let a = c .before .before .before .before .before .before .before .args in
+    let pre = c .before .before .before .before .before .before .before .pre in
+    let s = pre .1 in
+    let W = now (a .work) in
+    let n = length (now (a .starts)) - 1 in
+    let m = length W - residualAt n in
+    let room = s .room in
+    let below = s .below in
+    let fits : residualAt n + m ≤ length W = omega (arith, room) in
+    let long = length-part (residualAt n) m W fits in
+    rw (c .before .residual-at .ensures) (
+      (pre .0 .0, pre .0 .1),
+      (
+        (pre .0 .2, omega (arith, below), omega (arith, pre .0 .0 .sized), s .words-taken),
+        (
+          omega (arith, long, room, below),
+          subst (λ l. Vector (a .m .p) n l)
+              (sym (part-of-part 0 n (residualAt n) m W (omega (arith, room)) fits ∙ part-at W (residualAt n + 0) n (residualAt n) n (add-zero (residualAt n)) refl)) (s .residual),
+        ),
+      ),
+    )
+
+generator-at-requires : tie.Need-generator-at-requires
+generator-at-requires c κs =
+    let pre = c .before .before .before .before .before .before .before .before .before .before .pre in (pre .0 .0 .sized, omega (arith, pre .1 .below))
+
+add-end : tie.Need-add-end
+add-end c =
+    omega (arith, c .before .before .before .take-factor .ensures .short, c .generator-at .ensures .1, c .before .before .before .before .before .before .before .before .before .before .before .pre .0 .0 .sized, c .before .before .before .before .before .before .before .before .before .before .before .pre .1 .below)
+
+add-end-2 : tie.Need-add-end-2
+add-end-2 c =
+    omega (arith, c .before .before .before .take-factor .ensures .short, c .generator-at .ensures .1, c .before .before .before .before .before .before .before .before .before .before .before .pre .0 .0 .sized, c .before .before .before .before .before .before .before .before .before .before .before .pre .1 .below)
+
+mul-multiply : tie.Need-mul-multiply
+mul-multiply c = search needs
+
+sub-multiply : tie.Need-sub-multiply
+sub-multiply c = search needs
+
+part-multiply-start : tie.Need-part-multiply-start
+part-multiply-start c = search needs
+
+part-multiply-end : tie.Need-part-multiply-end
+part-multiply-end c =
+    let pre = c .before .before .before .before .before .before .before .before .before .before .before .pre in
+    let long = done (c .before) .same-length in
+    omega (arith, c .before .before .before .take-factor .ensures .short, c .generator-at .ensures .0, pre .0 .0 .sized, pre .1 .below, pre .1 .room, long)
+
+multiply-requires : tie.Need-multiply-requires
+multiply-requires c κs = search needs
+
+mul-t19 : tie.Need-mul-t19
+mul-t19 c = search needs
+
+sub-t17 : tie.Need-sub-t17
+sub-t17 c =
+    omega (arith, c .before .before .before .before .before .before .before .before .before .before .before .before .before .before .before .pre .1 .below)
+
+add-t27 : tie.Need-add-t27
+add-t27 c =
+    omega (arith, c .before .before .before .before .before .before .before .take-factor .ensures .short, c .before .before .before .before .before .before .before .before .before .before .before .before .before .before .before .pre .0 .0 .sized, c .before .before .before .before .before .before .before .before .before .before .before .before .before .before .before .pre .1 .below)
+
+same-length : tie.Need-same-length
+same-length c = search needs
+
+returns : tie.Need-returns
+returns c =
+    let a = c .before .before .before .before .before .before .before .before .before .before .before .before .before .before .before .args in
+    let pre = c .before .before .before .before .before .before .before .before .before .before .before .before .before .before .before .pre in
+    let s = pre .1 in
+    let W = now (a .work) in
+    let n = length (now (a .starts)) - 1 in
+    let A = matrix (now (a .starts)) (now (a .columns)) (now (a .values)) in
+    let found = done (c .before .before .before .before .before) in
+    let t = c .before .before .before .before .before .before .before .take-factor .result in
+    let f = c .before .before .before .before .generator-at .result in
+    let place = c .before .before .before .before .generator-at .ensures .0 in
+    let end = f + t + 1 - 0 in
+    let short = found .short in
+    let long = found .same-length in
+    let below = s .below in
+    let room = s .room in
+    let sized = pre .0 .0 .sized in
+    let fits : end ≤ length W = omega (arith, short, place, below, room) in
+    let prime = isModulus-Prime (a .m .p) (pre .0 .1) in
+    let factors = narrowed-factors (a .d) t prime sized below (s .factor) found f end place (omega arith) fits in
+    let product =
+    multiplied-lent end (omega (arith, short, below, place)) (omega arith) (omega (arith, fits, long))
+    (c .before .before .multiply .kept .1 .0 ∙ length-part 0 end (returned (c .before .before .before .before .before)) (omega (arith, fits, long)))
+    (product-of (c .before .before .multiply .ensures) (factors-taken (prime .two-le) (pre .0 .0 .small) factors)) in
+    record { same-length = product .same-length ∙ long; run = λ qs. made (a .d) t below room found f place product qs }
+
+pub pass-of-state-spec : {M : Type 1} → statement M
+pass-of-state-spec =
+    tie.close
+    (tie.spec
+    sub-n
+    sub-left
+    cast-residual-at
+    residual-at-requires
+    div-take-factor
+    mul-take-factor
+    sub-take-factor
+    part-take-factor-start
+    part-take-factor-end
+    take-factor-requires
+    generator-at-requires
+    add-end
+    add-end-2
+    mul-multiply
+    sub-multiply
+    part-multiply-start
+    part-multiply-end
+    multiply-requires
+    mul-t19
+    sub-t17
+    add-t27
+    same-length
+    returns)
