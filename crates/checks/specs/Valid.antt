@@ -2,7 +2,7 @@
 --     Valid p A        a matrix of size 1 to 4,096 with values below p
 --     Vector p n v     n elements below p
 --     valid-of, right-of, vector-of      an accepted system's matrix and right side; a list that passed 8 and 9
---     elements-of      .. and back: elements below p pass 9
+--     elements-of, vector-elements      .. and back: elements below p pass 9
 --     term             the product of entry k with its element of v
 --     rowProduct       their sum over row i
 --     Entries          what the sum of a row needs to know: entries and elements below 2³¹ − 1, columns within v
@@ -65,6 +65,9 @@ vector-of p v n e h =
 pub elements-of : (p : ℕ) (v : List ℕ) → ((i : ℕ) → i < length v → at v i < p) → elements p v ≡ true
 unfolding elements
 elements-of p v h = every-of (λ a. ltb a p) v 0 (λ i l. lt-ltb (at v i) p (h i l))
+
+pub vector-elements : {p n : ℕ} {v : List ℕ} → Vector p n v → elements p v ≡ true
+vector-elements {p} {n} {v} h = elements-of p v (λ i l. h .below i (omega (arith, l, h .places)))
 
 abbrev pub term : List ℕ → List ℕ → List ℕ → ℕ → ℕ
 term columns values v k = at values k * at v (at columns k)

@@ -10,16 +10,17 @@
 --     take-ext, drop-ext     a leading part, a rest, by its places
 --     written-take, written-drop      what a write leaves before it and after it
 --     take-padded            a list out of zeros after it
+--     written-lent           a part that was lent and written whole
 use mathlib.Core.Path.{_≡_, refl, sym, ap, ap₂, _∙_}
 use mathlib.Core.List.{List, _∷_, _++_}
 use Prim.Native.Nat.{ℕ, suc, _+_, _-_, _≤_, _<_}
 use native.Mathlib.Omega.{arith}
 use lib.ListN.{length, take, drop, length-append, length-drop}
 use lib.Seq.{ext-getD, getD-take, getD-drop, length-take-le, drop-drop, take-at, drop-at, drop-cons}
-use Rattle.meaning.specs.List.{at, padded}
+use Rattle.meaning.specs.List.{at, table, padded}
 use Rattle.laws.specs.List.{length-table, getD-table}
 use Rattle.laws.specs.Written.{Written}
-use Rattle.laws.specs.Part.{part, part-ext}
+use Rattle.laws.specs.Part.{part, part-ext, at-part}
 
 abbrev pub lent : List ℕ → ℕ → ℕ → List ℕ → List ℕ
 lent W a n Y = take a W ++ (Y ++ drop n (drop a W))
@@ -104,3 +105,20 @@ same-after m i W W′ e l =
   where
     place : i ≡ m + (i - m)
     place = omega (arith, l)
+
+-- a part that was lent and written whole
+pub written-lent : (W : List ℕ) (a n : ℕ) (f : ℕ → ℕ) (Y : List ℕ) → a + n ≤ length W → Y ≡ table n f → Written W a n f (lent W a n Y)
+written-lent W a n f Y fits e =
+    record {
+      same-length = length-lent W a n Y fits same;
+      inside =
+          λ i l.
+          sym (at-part a n (lent W a n Y) i l) ∙ ap (λ y. at y i) (part-lent W a n Y fits same ∙ e) ∙ getD-table n f i 0 l;
+      before =
+          λ k l.
+          sym (getD-take a (lent W a n Y) k 0 l) ∙ ap (λ y. at y k) (take-lent W a n Y fits same) ∙ getD-take a W k 0 l;
+      after = λ k l. same-after (a + n) k W (lent W a n Y) (drop-lent W a n Y fits same) l;
+    }
+  where
+    same : length Y ≡ n
+    same = ap length e ∙ length-table n f

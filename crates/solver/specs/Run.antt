@@ -5,7 +5,6 @@
 --     run-append         a run with projections after others
 --     run-more           one projection more, while r is not zero
 --     run-left           while r is not zero, less than n has been found
---     vector-elements    elements below p pass check 9
 --     Midway             the run with the first j projections is what is held
 --     midway-begin, midway-less, midway-state, midway-made, midway-next      at the start; r ≢ 0: a projection is left, a pass is not refused, and is made
 --     Finished, midway-end     r = 0: the whole run is what is held
@@ -22,7 +21,6 @@ use native.Mathlib.Omega.{arith}
 use lib.Dec.{ltb}
 use lib.ListN.{length, take, drop, getD, set, length-set, length-append, take-append-drop}
 use lib.Seq.{take-suc, take-all, getD-set-same, getD-set-other}
-use borrow.Author.Tests.{lt-ltb}
 use Rattle.meaning.specs.List.{at, isZero, padded}
 use Rattle.meaning.specs.Matrix.{Matrix, size}
 use Rattle.meaning.specs.Refusal.{check, first, elements, matrixChecks, wordsTaken}
@@ -31,7 +29,7 @@ use Rattle.meaning.specs.Recurrence.{degree}
 use Rattle.meaning.specs.Solver.{Pass, Run, projections, begin, spent, passTerms, pass, run}
 use Rattle.laws.specs.Accepted.{run-accepted}
 use Rattle.laws.specs.Bool.{and-both, test-cases, never}
-use Rattle.laws.specs.List.{all-of, length-table, table-of}
+use Rattle.laws.specs.List.{length-table, table-of}
 use Rattle.laws.specs.Refusal.{first-append-zero, numbered-matrix, numbered-system}
 use Rattle.laws.specs.Solver.{spent-nil, spent-snoc}
 use Rattle.algebra.specs.Ring.{Field}
@@ -42,8 +40,8 @@ use Rattle.krylov.specs.Run.{kept, kept-full}
 use Rattle.bridge.specs.Operator.{operator, operator-linear, null-isZero}
 use Rattle.bridge.specs.Run.{Stands, run-begun, run-nil, run-stop, run-pass, run-rest, run-found}
 use Rattle.bridge.specs.ThirdCondition.{Accepted, accepted, projections-zero, end-monic}
-use Rattle.checks.specs.Valid.{Valid, Vector, valid-of}
-use Rattle.checks.specs.Matrix.{vectorChecks, all-elements}
+use Rattle.checks.specs.Valid.{Valid, Vector, valid-of, vector-elements}
+use Rattle.checks.specs.Matrix.{vectorChecks}
 use Rattle.wiedemann.specs.declared.pass.Pass.{Pass as CodePass}
 use Rattle.wiedemann.specs.declared.pass.Passed.{Passed}
 use Rattle.wiedemann.specs.declared.pass.Passed.the-variants.{Made, Refused}
@@ -191,11 +189,6 @@ pass-cost p A u c r q e g =
     last : Pass
     last = record { left = size A - c .found; degree = t; applications = 2 * (size A - c .found) - 1 + t }
 
--- elements below p pass check 9
-pub vector-elements : (p n : ℕ) (v : List ℕ) → Vector p n v → elements p v ≡ true
-vector-elements p n v h =
-    all-elements p v ∙ all-of (length v) (λ i. ltb (at v i) p) (λ i l. lt-ltb (at v i) p (h .below i (omega (arith, l, h .places))))
-
 module _ {p : ℕ} {A : Matrix} {b words W : List ℕ} {j : ℕ} {c : Counts} (s : System p A b) (most : length (projections p (size A) words) ≤ 8192)
     (m : Midway p A b words W j c) where
   h : Prime p
@@ -259,7 +252,7 @@ module _ {p : ℕ} {A : Matrix} {b words W : List ℕ} {j : ℕ} {c : Counts} (s
   midway-state z t =
       refused-state p A words (c .degree) W (s .checked)
       ∙ state-0 p (size A) (c .degree) words W (below z) t (m .room)
-      (and-both (vector-elements p (c .degree + 1) (part 0 (c .degree + 1) W) factor) (vector-elements p (size A) (part (residualAt (size A)) (size A) W) residual))
+      (and-both (vector-elements factor) (vector-elements residual))
 
   pub midway-made : isZero (part (residualAt (size A)) (size A) W) ≡ false → wordsTaken (size A) words ≡ true → (W′ : List ℕ) (k : ℕ)
       → Passes p A words j (c .degree) W (Refused k) W′ → ⊥

@@ -30,11 +30,12 @@ use Rattle.solver.specs.declared.Verdict.{Verdict}
 use Rattle.solver.specs.declared.Verdict.the-variants.{Solved, Singular, Refused}
 use Rattle.laws.specs.Part.{part, at-part, length-part}
 use Rattle.laws.specs.Lent.{part-of-take, take-padded}
+use Rattle.checks.specs.Valid.{vector-elements}
 use Rattle.wiedemann.specs.Pass.{held}
 use Rattle.laws.specs.Bool.{and-both}
 use Rattle.laws.specs.List.{length-table, getD-table}
 use Rattle.laws.specs.Refusal.{first-nil, first-pass, first-append-none, first-append-zero, numbered-matrix, numbered-run, unlessRefused-none}
-use Rattle.solver.specs.Run.{System, Closable, Finished, vector-elements}
+use Rattle.solver.specs.Run.{System, Closable, Finished}
 
 pub record Counted (c : Counts) (o : Outcome) : Type 0 where
   pub degree : c .degree ≡ o .degree
@@ -171,8 +172,8 @@ module _ {p : ℕ} {A : Matrix} {b W : List ℕ} {c : Counts} (s : System p A b)
         (eq-eqb (length b) (size A) (s .accepted .size-b)))
         (first-pass 9 _ _
         (and-both
-        (vector-elements p (c .degree) (part 1 (c .degree) P) (record { places = long; below = below }))
-        (vector-elements p (length b) b (record { places = refl; below = s .accepted .reduced-b })))
+        (vector-elements (record { places = long; below = below }))
+        (vector-elements (record { places = refl; below = s .accepted .reduced-b })))
         (first-pass 11 _ [] (and-both (eq-eqb (length out) (size A) places) (le-leb (2 * size A) (length work) (omega (arith, room, q .room)))) first-nil))
 
     -- what g(A)b leaves in the vector slice

@@ -21,13 +21,13 @@ ghost use Rattle.solver.specs.Verdict.{closing, Closed, Solves};
 use checks::solver_refusal;
 use field::Field;
 use field::inverse_modulo;
+use slices::is_zero;
+use slices::write_padded;
 use wiedemann::matrix::apply;
 use wiedemann::pass::Pass;
 use wiedemann::pass::Passed;
 use wiedemann::pass::make_pass;
 use wiedemann::pass::residual_at;
-use wiedemann::slice::element;
-use wiedemann::slice::is_zero;
 
 // D, the passes and the applications.
 pub struct Counts {
@@ -45,17 +45,6 @@ pub enum Verdict {
 }
 
 // ---- slices
-
-// The source into out, zeros after it.
-fn write_padded(source: &[u32], out: &mut [u32])
-    ensures { λ _. ⌜ now (out .exit) ≡ padded (length (now (out .entry))) (now (source .entry)) ⌝ }
-{
-    let mut i = 0;
-    while i < out.len() {
-        out[i] = element(source, i);
-        i += 1;
-    }
-}
 
 // −w × inverse modulo p.
 fn quotient(p: u32, w: u32, inverse: u32) -> u32

@@ -8,5 +8,4 @@ pub mod offered;
 pub mod pass;
 mod projection;
 pub mod recurrence;
-pub mod slice;
 mod sums;

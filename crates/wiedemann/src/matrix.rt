@@ -18,13 +18,13 @@ ghost use Rattle.wiedemann.specs.Transposed.{scattered};
 ghost use Rattle.wiedemann.specs.Answers.{Writes};
 use crate::modulus::Modulus;
 use crate::multiplier::Multiplier;
-use crate::slice::clear;
 use crate::sums::Total;
 use crate::sums::times;
 use checks::apply_refusal;
 use checks::product_refusal;
 use checks::wide;
 use field::Field;
+use slices::clear;
 
 // The product of entry k's value with the element of v at its column.
 fn entry(k: usize, columns: &[u32], values: &[u32], v: &[u32]) -> u64
@@ -256,7 +256,7 @@ pub(crate) fn transposed_into(
     requires { ⌜ (length (now out) ≡ length (now starts) - 1) × Vector p (length (now starts) - 1) (now v) ⌝ }
     ensures { λ r. ⌜ now (out .exit) ≡ transposed p (matrix (now (starts .entry)) (now (columns .entry)) (now (values .entry))) (now (v .entry)) ⌝ }
 {
-    clear(out, 0, v.len());
+    clear(out);
     let mut from = wide(starts[0]);
     let mut i = 0;
     while i < v.len() {

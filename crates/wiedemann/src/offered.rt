@@ -1,12 +1,12 @@
 // Two checks of a vector that anyone offers: does A take x to b, and is w not zero and taken to zero. Neither needs the solver.
 use crate::matrix::row;
 use crate::modulus::Modulus;
-use crate::slice::element;
-use crate::slice::is_zero;
 use checks::system_refusal;
 use checks::takes_refusal;
 use checks::wide;
 use field::Field;
+use slices::element;
+use slices::is_zero;
 ghost use mathlib.Core.Path.{_≡_};
 ghost use Prim.Native.Nat.{_-_, _<_};
 ghost use lib.Dec.{eqb};

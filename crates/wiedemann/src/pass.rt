@@ -22,11 +22,11 @@ use crate::projection::Projection;
 use crate::projection::projected;
 use crate::recurrence::Answer;
 use crate::recurrence::generate;
-use crate::slice::copy;
 use checks::are_elements;
 use checks::matrix_refusal;
 use checks::words_taken;
 use field::Field;
+use slices::copy_within;
 
 // The region of the next iterate: the second after the first and the third, the third after the second.
 fn other(n: usize, from: usize) -> usize
@@ -145,7 +145,7 @@ fn apply_within(
         from = advance(m, c, starts, columns, values, area, from);
     }
     let r: usize = 0;
-    copy(area, from, r, starts.len() - 1);
+    copy_within(area, from, r, starts.len() - 1);
 }
 
 // The terms with the projection, their generator f, and f(A)r in r's place; the answer is f's degree, and f stands behind the terms.

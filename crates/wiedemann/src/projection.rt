@@ -10,9 +10,9 @@ ghost use Rattle.wiedemann.specs.Modulus.{Modular};
 ghost use Rattle.wiedemann.specs.Sums.{Summed};
 ghost use Rattle.wiedemann.specs.Projection.{wordTerm, Raw, Words};
 use crate::modulus::Modulus;
-use crate::slice::element;
 use crate::sums::Total;
 use crate::sums::times;
+use slices::element;
 
 // A projection of a run, by its place among all of them: the first `vectors` are made of the random words, the others are the unit vectors.
 pub(crate) struct Projection {

@@ -6,12 +6,11 @@
 use crate::convolution::crossed;
 use crate::modulus::Modulus;
 use crate::multiplier::Multiplier;
-use crate::slice::clear;
-use crate::slice::copy;
-use crate::slice::transfer;
 use checks::are_elements;
 use checks::recurrence_refusal;
 use field::Field;
+use slices::clear;
+use slices::copy_within;
 ghost use mathlib.Core.Path.{_≡_};
 ghost use Prim.Native.Nat.{ℕ, _+_, _≤_, _<_};
 ghost use lib.ListN.{length};
@@ -69,6 +68,18 @@ fn reverse(work: &mut [u32], from: usize, length: usize)
     }
 }
 
+// A copy of the `size` places of `source` from `from` on in those of `target` from `to` on.
+fn transfer(source: &[u32], from: usize, target: &mut [u32], to: usize, size: usize)
+    requires { ⌜ (from + size ≤ length (now source)) × (to + size ≤ length (now target)) ⌝ }
+    ensures { λ _. ⌜ Written (now (target .entry)) to size (λ i. at (now (source .entry)) (from + i)) (now (target .exit)) ⌝ }
+{
+    let mut i = 0;
+    while i < size {
+        target[to + i] = source[from + i];
+        i += 1;
+    }
+}
+
 // ---- the steps
 
 // t becomes z·t.
@@ -109,7 +120,8 @@ pub(crate) fn start(p: u32, count: usize, work: &mut [u32]) -> Register
     ensures { λ c. ⌜ AfterSteps p count 0 (now (work .entry)) (now (work .exit)) c ⌝ }
 {
     let q = count + 2;
-    clear(work, q, q);
+    let end = 2 * q;
+    clear(&mut work[q..end]);
     work[q] = 1;
     Register {
         length: 0,
@@ -135,7 +147,7 @@ pub(crate) fn step(m: Modulus, count: usize, work: &mut [u32], r: usize, c: Regi
     // q − (d/e)·z·t in q's place. Where t is to become q, q is copied before.
     let longer = 2 * c.length < r;
     if longer {
-        copy(work, q, c.spare, c.length + 1);
+        copy_within(work, q, c.spare, c.length + 1);
     }
     subtract(m, m.product(d, c.inverse), work, q + c.shift, c.t, c.held);
     if longer {

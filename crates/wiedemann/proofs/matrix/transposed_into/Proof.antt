@@ -33,7 +33,7 @@ inside : (c : tie.In-loop Inv-loop μ-loop) → c .before .loop .i < length (now
 inside c = omega (arith, c .loop-test .taken, c .before .before .before .before .before .before .before .before .before .before .before .before .before .pre .1 .1 .places)
 
 clear-requires : tie.Need-clear-requires Inv-loop μ-loop
-clear-requires c κs = let pre = c .before .before .before .before .before .before .pre in omega (arith, pre .1 .0, pre .1 .1 .places)
+clear-requires c κs = search needs
 
 shared-slice-read-wide : tie.Need-shared-slice-read-wide Inv-loop μ-loop
 shared-slice-read-wide c = omega (arith, c .before .before .before .before .before .before .before .before .before .before .pre .0 .one-more)
@@ -49,8 +49,7 @@ loop-holds c =
     let cleared = c .before .before .before .before .clear in (
       omega arith,
       c .wide .ensures .0,
-      written-table (now (at .out)) (length (now (at .v))) (λ i. 0) (cleared .last .0) (start .pre .1 .0 ∙ sym places) (cleared .ensures)
-          ∙ ap zeros places ∙ gathered-none (at .p) (matrix (now (at .starts)) (now (at .columns)) (now (at .values))) (now (at .v)),
+      cleared .ensures ∙ ap zeros (start .pre .1 .0) ∙ gathered-none (at .p) (matrix (now (at .starts)) (now (at .columns)) (now (at .values))) (now (at .v)),
     )
 
 add-wide : tie.Need-add-wide Inv-loop μ-loop

@@ -1,8 +1,11 @@
 use Rattle.wiedemann.specs.Turns.{seat-low, Applying, applying-none, applying-more, applied-all}
 use mathlib.Core.Logic.{inl}
 use Rattle.wiedemann.specs.Horner.{vector-apply}
+use Rattle.meaning.specs.List.{at}
 use Rattle.meaning.specs.Matrix.{matrix}
+use Rattle.laws.specs.Written.{Written}
 use denote.Ref.{now}
+use lib.ListN.{length}
 use native.Mathlib.Omega.{arith}
 use Prim.Native.Nat.{_+_, _-_, _≤_}
 use mathlib.Core.Path.{_≡_, refl, _∙_, subst}
@@ -68,19 +71,23 @@ loop-again c =
           (omega (arith, loop .inv .0, test)) refl (c .before .before .advance .ensures),
     )
 
-sub-copy : tie.Need-sub-copy Inv-loop μ-loop
-sub-copy c = search needs
+sub-copy-within : tie.Need-sub-copy-within Inv-loop μ-loop
+sub-copy-within c = search needs
 
-copy-requires : tie.Need-copy-requires Inv-loop μ-loop
-copy-requires c κs =
-    let h = c .before .before .before .before .before .before .before .pre .1 .1 in
-    let loop = c .before .before .loop in
+copy-within-requires : tie.Need-copy-within-requires Inv-loop μ-loop
+copy-within-requires c κs = search needs
+
+-- the result copied to r's place
+copied : (c : tie.After-copy-within Inv-loop μ-loop) → Written (c .before .before .before .loop .area) 0 (length (now (c .before .before .before .before .before .before .before .before .args .starts)) - 1) (λ i. at (c .before .before .before .loop .area) (c .before .before .before .loop .from + i)) (c .copy-within .last .0)
+copied c =
+    let h = c .before .before .before .before .before .before .before .before .pre .1 .1 in
+    let loop = c .before .before .before .loop in
     let low = seat-low (loop .inv .1 .seat) in
     let long = loop .inv .1 .same-length in
-    (omega (arith, low, long, h .above, h .room), omega (arith, long, h .above, h .room), inl (omega arith))
+    c .copy-within .ensures .copied (omega (arith, low, long, h .above, h .room), omega (arith, long, h .above, h .room), inl (omega arith))
 
 same-length : tie.Need-same-length Inv-loop μ-loop
-same-length c = c .before .before .copy .ensures .same-length ∙ c .before .before .before .before .before .loop .inv .1 .same-length
+same-length c = copied (c .before .before) .same-length ∙ c .before .before .before .before .before .loop .inv .1 .same-length
 
 returns : tie.Need-returns Inv-loop μ-loop
 returns c =
@@ -91,7 +98,7 @@ returns c =
     let ended : loop .i ≡ 0 = omega (arith, c .before .before .before .before .loop-test .left) in
     applied-all (omega (arith, h .above, h .room))
     (subst (λ m. Applying (a .m .p) A (now (a .area)) (a .f) (a .t) m (loop .from) (loop .area)) ended (loop .inv .1))
-    (c .before .before .copy .ensures)
+    (copied (c .before .before))
 
 pub apply-within-spec : {M : Type 1} → statement M
 apply-within-spec =
@@ -107,7 +114,7 @@ apply-within-spec =
     advance-requires
     loop-less
     loop-again
-    sub-copy
-    copy-requires
+    sub-copy-within
+    copy-within-requires
     same-length
     returns)

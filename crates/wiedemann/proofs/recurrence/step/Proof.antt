@@ -24,7 +24,7 @@ kept : (c : tie.Joined2) → KeptAt c (c .if2 .work)
 kept c =
     let start = c .before .before .before .before .before .before .before .before in
     ⊎-elim
-    (λ w. subst (KeptAt c) (sym (w .6)) (after.kept-copied (start .pre .0) (w .3 .ensures)))
+    (λ w. subst (KeptAt c) (sym (w .6)) (after.kept-copied (start .pre .0) (w .3 .ensures .copied (after.copying (start .pre .0)))))
     (λ w. subst (KeptAt c) (sym (w .1)) (after.kept-same (start .pre .0) (ltb-false (2 * start .args .c .length) (start .args .r) (w .0 .left))))
     (c .if2 .came)
 
@@ -67,13 +67,13 @@ mul-longer c =
     let ask = c .before .before .before .before .before .before .before .pre .0 in
     omega (arith, after.within ask, ask .high, ask .ready .few)
 
-add-copy : tie.Need-add-copy
-add-copy c =
+add-copy-within : tie.Need-add-copy-within
+add-copy-within c =
     let ask = c .before .before .before .before .before .before .before .before .before .before .pre .0 in
     omega (arith, after.within ask, ask .high, ask .ready .few)
 
-copy-requires : tie.Need-copy-requires
-copy-requires c κs = after.copying (c .before .before .before .before .before .before .before .before .before .before .pre .0)
+copy-within-requires : tie.Need-copy-within-requires
+copy-within-requires c κs = search needs
 
 product-requires : tie.Need-product-requires
 product-requires c κs = c .before .before .before .before .before .before .before .before .pre .1
@@ -144,8 +144,8 @@ step-spec =
     same-length
     returns
     mul-longer
-    add-copy
-    copy-requires
+    add-copy-within
+    copy-within-requires
     product-requires
     add-subtract
     subtract-requires

@@ -7,8 +7,8 @@ use native.Mathlib.Omega.{arith}
 use Prim.Native.Nat.{_-_, _≤_, _<_}
 use mathlib.Core.Path.{refl}
 use borrow.Author.Needs.{needs}
-use Rattle.solver.proofs.write_padded.Statement.{statement}
-use Rattle.solver.proofs.write_padded.Tie as tie
+use Rattle.slices.proofs.write_padded.Statement.{statement}
+use Rattle.slices.proofs.write_padded.Tie as tie
 
 abbrev Inv-loop : tie.InvT-loop
 Inv-loop source out₀ i₀ out i = (i ≤ length out₀) × Written out₀ 0 i (at source) out

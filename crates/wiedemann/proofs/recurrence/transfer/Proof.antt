@@ -5,8 +5,8 @@ use native.Mathlib.Omega.{arith}
 use borrow.Author.Needs.{needs}
 use Rattle.meaning.specs.List.{at}
 use Rattle.laws.specs.Written.{Written, written-more, written-all}
-use Rattle.wiedemann.proofs.slice.transfer.Statement.{statement}
-use Rattle.wiedemann.proofs.slice.transfer.Tie as tie
+use Rattle.wiedemann.proofs.recurrence.transfer.Statement.{statement}
+use Rattle.wiedemann.proofs.recurrence.transfer.Tie as tie
 
 abbrev Inv-loop : tie.InvT-loop
 Inv-loop source from target₀ to size i₀ target i = (i ≤ size) × Written target₀ to i (λ k. at source (from + k)) target

@@ -2,8 +2,8 @@ use mathlib.Core.Path.{sym}
 use lib.ListN.{List·getD-eq-default}
 use denote.Ref.{now}
 use borrow.Author.Needs.{needs}
-use Rattle.wiedemann.proofs.slice.element.Statement.{statement}
-use Rattle.wiedemann.proofs.slice.element.Tie as tie
+use Rattle.slices.proofs.element.Statement.{statement}
+use Rattle.slices.proofs.element.Tie as tie
 
 mul-result : tie.Need-mul-result
 mul-result c = search needs

@@ -9,8 +9,8 @@ use native.Mathlib.Omega.{arith}
 use Prim.Native.Nat.{ℕ, _-_, _≤_, _<_}
 use mathlib.Core.Path.{_≡_, sym}
 use borrow.Author.Needs.{needs}
-use Rattle.wiedemann.proofs.slice.is_zero.Statement.{statement}
-use Rattle.wiedemann.proofs.slice.is_zero.Tie as tie
+use Rattle.slices.proofs.is_zero.Statement.{statement}
+use Rattle.slices.proofs.is_zero.Tie as tie
 
 abbrev Inv-loop : tie.InvT-loop
 Inv-loop v i₀ i = (i ≤ length v) × ((k : ℕ) → k < i → at v k ≡ 0)

@@ -1,0 +1,62 @@
+use Rattle.laws.specs.Written.{Written, written-none, written-all}
+use Rattle.laws.specs.Part.{written-next, written-table}
+use denote.Ref.{now}
+use lib.ListN.{length}
+use native.Mathlib.Omega.{arith}
+use Prim.Native.Nat.{_-_, _≤_, _<_}
+use mathlib.Core.Path.{refl}
+use borrow.Author.Needs.{needs}
+use Rattle.slices.proofs.clear.Statement.{statement}
+use Rattle.slices.proofs.clear.Tie as tie
+
+abbrev Inv-loop : tie.InvT-loop
+Inv-loop out₀ i₀ out i = (i ≤ length out₀) × Written out₀ 0 i (λ k. 0) out
+
+abbrev μ-loop : tie.MeasureT-loop
+μ-loop out₀ i₀ out i = length out₀ - i
+
+loop-holds : tie.Need-loop-holds Inv-loop μ-loop
+loop-holds c = (omega arith, written-none (now (c .args .out)) 0 (λ k. 0))
+
+mul-out : tie.Need-mul-out Inv-loop μ-loop
+mul-out c = search needs
+
+slice-write-out : tie.Need-slice-write-out Inv-loop μ-loop
+slice-write-out c = search needs
+
+add-i : tie.Need-add-i Inv-loop μ-loop
+add-i c = search needs
+
+loop-less : tie.Need-loop-less Inv-loop μ-loop
+loop-less c = omega (arith, c .loop-test .taken, c .before .loop .inv .1 .same-length)
+
+loop-again : tie.Need-loop-again Inv-loop μ-loop
+loop-again c =
+    let l = c .before .loop in
+    let inside : l .i < length (now (c .before .before .args .out)) = omega (arith, c .loop-test .taken, l .inv .1 .same-length) in
+    (omega (arith, inside), written-next 0 (l .inv .1) inside refl)
+
+same-length : tie.Need-same-length Inv-loop μ-loop
+same-length c = c .before .loop .inv .1 .same-length
+
+returns : tie.Need-returns Inv-loop μ-loop
+returns c =
+    let a = c .before .before .args in
+    let l = c .before .loop in
+    written-table (now (a .out)) (length (now (a .out))) (λ k. 0) (l .out) refl
+    (written-all (omega (arith, l .inv .0, c .loop-test .left, l .inv .1 .same-length)) (l .inv .1))
+
+pub clear-spec : {M : Type 1} → statement M
+clear-spec =
+    tie.close
+    (tie.spec
+    Inv-loop
+    μ-loop
+    loop-holds
+    mul-out
+    slice-write-out
+    add-i
+    loop-less
+    loop-again
+    same-length
+    returns)
