@@ -1,6 +1,4 @@
 -- What the call `recurrence` answers.
---     terms-ready                terms in place that no check turned down are ready for the core
---     terms-taken                .. and back
 --     generates-degree, generates-refused      what a call in place says
 --     same-modulus               what the core holds, the modulus by its other name
 --     recurred-refused           the answer of a refusal, and slices left as they were
@@ -10,60 +8,28 @@ use mathlib.Core.Path.{_≡_, refl, sym, ap, _∙_, subst}
 use mathlib.Core.Logic.{_≢_}
 use mathlib.Core.Bool.{true, false, cond}
 use mathlib.Core.List.{List}
-use Prim.Native.Nat.{ℕ, _+_, _*_, _≤_, _<_}
+use Prim.Native.Nat.{ℕ, _+_, _≤_, _<_}
 use native.Mathlib.Nat.{zero-add}
 use native.Mathlib.Omega.{arith}
-use lib.Dec.{eqb, leb}
+use lib.Dec.{eqb}
 use lib.ListN.{length, take}
 use lib.Seq.{ext-getD, getD-take, length-take-le}
-use borrow.Author.Tests.{eq-eqb, ne-eqb, leb-true, ltb-true, le-leb}
+use borrow.Author.Tests.{eq-eqb, ne-eqb}
 use Rattle.meaning.specs.List.{at, padded}
 use Rattle.meaning.specs.Recurrence.{IsShortest, degree, generator}
 use Rattle.meaning.specs.Calls.{recurrenceRefusal}
-use Rattle.meaning.specs.Refusal.{within, elements}
-use Rattle.laws.specs.List.{table-of, every-at}
-use Rattle.laws.specs.Refusal.{first-nil, first-passed, first-pass, within-low, within-high, within-of}
+use Rattle.laws.specs.List.{table-of}
 use Rattle.residue.specs.Prime.{isModulus-Prime, isModulus-le}
 use Rattle.laws.specs.Recurrence.{degree-within, length-generator}
 use Rattle.bridge.specs.Recurrence.{isShortest}
 use Rattle.checks.specs.Recurrence.{Accepted}
-use Rattle.checks.specs.Valid.{elements-of}
 use Rattle.laws.specs.Written.{Written}
 use Rattle.wiedemann.specs.Recurrence.{Ready, HoldsGenerator, termsRefusal, Generates, Recurred}
 use Rattle.wiedemann.specs.declared.recurrence.Answer.the-variants.{Degree, Refused}
 use Rattle.wiedemann.proofs.HoldsGenerator.{generator-at}
 
-pub terms-ready : (p count : ℕ) (W : List ℕ) → termsRefusal p count W ≡ 0 → Ready p count W
-unfolding termsRefusal elements
-terms-ready p count W z =
-    let a = first-passed 3 (within 2 2147483647 p) _ (omega arith) z in
-    let b = first-passed 8 (leb count 8192) _ (omega arith) (a .1) in
-    let c = first-passed 11 (leb (4 * count + 8) (length W)) _ (omega arith) (b .1) in
-    let e = first-passed 9 (elements p (take count W)) _ (omega arith) (c .1) .0 in
-    let room = leb-true (4 * count + 8) (length W) (c .0) in
-    let size : length (take count W) ≡ count = length-take-le count W (omega (arith, room)) in
-    record {
-      two = within-low 2 2147483647 p (a .0);
-      small = within-high 2 2147483647 p (a .0);
-      few = leb-true count 8192 (b .0);
-      room = room;
-      elements = λ i l. subst (λ x. x < p) (getD-take count W i 0 l) (ltb-true (at (take count W) i) p (every-at _ (take count W) 0 e i (omega (arith, size, l))));
-    }
-
 pub same-modulus : {m p count : ℕ} {W W′ : List ℕ} {L : ℕ} → m ≡ p → HoldsGenerator m count W W′ L → HoldsGenerator p count W W′ L
 same-modulus {m} {p} {count} {W} {W′} {L} e h = subst (λ n. HoldsGenerator n count W W′ L) e h
-
-pub terms-taken : {p count : ℕ} {W : List ℕ} → Ready p count W → termsRefusal p count W ≡ 0
-unfolding termsRefusal
-terms-taken {p} {count} {W} h =
-    first-pass 3 (within 2 2147483647 p) _ (within-of 2 2147483647 p (h .two) (h .small))
-    (first-pass 8 (leb count 8192) _ (le-leb count 8192 (h .few))
-    (first-pass 11 (leb (4 * count + 8) (length W)) _ (le-leb (4 * count + 8) (length W) (h .room))
-    (first-pass 9 (elements p (take count W)) _
-    (elements-of p (take count W)
-    (λ i l. let k : i < count = omega (arith, l, length-take-le count W (omega (arith, h .room))) in
-    subst (λ x. x < p) (sym (getD-take count W i 0 k)) (h .elements i k)))
-    first-nil)))
 
 pub generates-degree : {p count : ℕ} {W W′ : List ℕ} {L : ℕ} → termsRefusal p count W ≡ 0 → HoldsGenerator p count W W′ L
     → Generates p count W (Degree L) W′

@@ -11,19 +11,26 @@
 --     HoldsGenerator   a slice before and after the core: L, and f with zeros after it in the second region
 --     termsRefusal     3, 8, 11 and 9 of terms at the front of a slice
 --     Generates        what a call in place answers and leaves
+--     terms-ready, terms-taken      terms in place that no check turns down are ready, and back
 --     GivesDegree      what each case of an answer says: document 01's number of the refusal, 0 for none, and L
 --     Recurred         what a call answers and leaves, and Massey's promise of it
-use mathlib.Core.Path.{_≡_}
+use mathlib.Core.Path.{_≡_, sym, subst}
 use mathlib.Core.Logic.{_≢_, _⊎_}
 use mathlib.Core.Bool.{not}
 use mathlib.Core.List.{List, [], _∷_}
 use Prim.Native.Nat.{ℕ, _+_, _-_, _*_, _≤_, _<_}
+use native.Mathlib.Omega.{arith}
 use lib.Dec.{leb}
 use lib.ListN.{length, take, drop}
+use lib.Seq.{getD-take, length-take-le}
+use borrow.Author.Tests.{leb-true, ltb-true, le-leb}
 use Rattle.meaning.specs.List.{at, padded}
 use Rattle.meaning.specs.Field.{inverse}
 use Rattle.meaning.specs.Recurrence.{IsShortest, Steps, steps, degree, generator}
 use Rattle.meaning.specs.Refusal.{check, first, within, elements}
+use Rattle.laws.specs.List.{every-at}
+use Rattle.laws.specs.Refusal.{first-nil, first-passed, first-pass, within-low, within-high, within-of}
+use Rattle.checks.specs.Valid.{elements-of}
 use Rattle.meaning.specs.Calls.{recurrenceRefusal, recurrenceAnswer, recurrenceAfter}
 use Rattle.wiedemann.specs.declared.recurrence.Register.{Register}
 use Rattle.wiedemann.specs.declared.recurrence.Answer.{Answer}
@@ -107,3 +114,34 @@ pub record Recurred (p : ℕ) (s polynomial work : List ℕ) (r : Answer) (polyn
   -- "every lent slice keeps its contents"
   pub kept : recurrenceRefusal p s polynomial work ≢ 0 → work′ ≡ work
   pub shortest : (L : ℕ) → r ≡ Degree L → IsShortest p s L (take (L + 1) polynomial′)
+
+-- ---- terms in place
+
+pub terms-ready : (p count : ℕ) (W : List ℕ) → termsRefusal p count W ≡ 0 → Ready p count W
+unfolding termsRefusal elements
+terms-ready p count W z =
+    let a = first-passed 3 (within 2 2147483647 p) _ (omega arith) z in
+    let b = first-passed 8 (leb count 8192) _ (omega arith) (a .1) in
+    let c = first-passed 11 (leb (4 * count + 8) (length W)) _ (omega arith) (b .1) in
+    let e = first-passed 9 (elements p (take count W)) _ (omega arith) (c .1) .0 in
+    let room = leb-true (4 * count + 8) (length W) (c .0) in
+    let size : length (take count W) ≡ count = length-take-le count W (omega (arith, room)) in
+    record {
+      two = within-low 2 2147483647 p (a .0);
+      small = within-high 2 2147483647 p (a .0);
+      few = leb-true count 8192 (b .0);
+      room = room;
+      elements = λ i l. subst (λ x. x < p) (getD-take count W i 0 l) (ltb-true (at (take count W) i) p (every-at _ (take count W) 0 e i (omega (arith, size, l))));
+    }
+
+pub terms-taken : {p count : ℕ} {W : List ℕ} → Ready p count W → termsRefusal p count W ≡ 0
+unfolding termsRefusal
+terms-taken {p} {count} {W} h =
+    first-pass 3 (within 2 2147483647 p) _ (within-of 2 2147483647 p (h .two) (h .small))
+    (first-pass 8 (leb count 8192) _ (le-leb count 8192 (h .few))
+    (first-pass 11 (leb (4 * count + 8) (length W)) _ (le-leb (4 * count + 8) (length W) (h .room))
+    (first-pass 9 (elements p (take count W)) _
+    (elements-of p (take count W)
+    (λ i l. let k : i < count = omega (arith, l, length-take-le count W (omega (arith, h .room))) in
+    subst (λ x. x < p) (sym (getD-take count W i 0 k)) (h .elements i k)))
+    first-nil)))

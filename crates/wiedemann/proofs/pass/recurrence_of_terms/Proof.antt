@@ -1,6 +1,5 @@
-use Rattle.wiedemann.specs.Recurrence.{Ready}
+use Rattle.wiedemann.specs.Recurrence.{Ready, terms-taken}
 use Rattle.wiedemann.specs.Turns.{generated}
-use Rattle.wiedemann.proofs.Recurred.{terms-taken}
 use Rattle.residue.specs.Prime.{isModulus-Prime, isModulus-le}
 use Rattle.laws.specs.Part.{part, length-part, at-part}
 use denote.Ref.{now}

@@ -1,8 +1,8 @@
 use mathlib.Core.Path.{_≡_, refl, sym, subst, _∙_}
 use native.Mathlib.Omega.{arith}
 use denote.Ref.{now}
-use Rattle.wiedemann.specs.Recurrence.{Ready}
-use Rattle.wiedemann.proofs.Recurred.{terms-ready, same-modulus, generates-degree, generates-refused}
+use Rattle.wiedemann.specs.Recurrence.{Ready, terms-ready}
+use Rattle.wiedemann.proofs.Recurred.{same-modulus, generates-degree, generates-refused}
 use borrow.Author.Needs.{needs}
 use Rattle.wiedemann.proofs.recurrence.generate.Statement.{statement}
 use Rattle.wiedemann.proofs.recurrence.generate.Tie as tie
