@@ -10,8 +10,11 @@
 --     apply-one        a(A)v for one coefficient a
 --     apply-cons       (a + z·g)(A)v is a step with a from g(A)v
 --     horner-begins, horner-goes-on      the rule as a loop runs it: from the last coefficient, and by one step more
+--     Turn               the rule by turns between two slices: turn-even, turn-odd where it begins; turn-work, turn-out: what is read next; turn-to-even,
+--                        turn-to-odd: a step more
 --     vector-table, vector-step, vector-product, vector-apply      what is reduced has elements below p
-use mathlib.Core.Path.{_≡_, refl, sym, ap, ap₂, _∙_}
+use mathlib.Core.Path.{_≡_, refl, sym, ap, ap₂, _∙_, subst}
+use mathlib.Core.Logic.{_≢_}
 use mathlib.Core.List.{List, [], _∷_}
 use Prim.Native.Nat.{ℕ, zero, suc, _+_, _*_, _-_, _%_, _≤_, _<_}
 use native.Mathlib.Nat.{zero-add, add-zero, zero-mul, mul-zero, mul-add, mul-left-comm, mod-lt, add-mod-mod}
@@ -210,3 +213,76 @@ vector-product p A v l = vector-table p (size A) (rowProduct A v) l
 pub vector-apply : (p : ℕ) (A : Matrix) (g v : List ℕ) → 0 < p → Vector p (size A) (apply p A g v)
 unfolding apply
 vector-apply p A g v l = vector-table p (size A) (combination p A g v) l
+
+-- ---- the rule by turns between two slices
+
+-- what is made of the coefficients from i on stands in `out` if i is even, and in `work` if it is odd
+pub record Turn (p : ℕ) (A : Matrix) (g v : List ℕ) (i : ℕ) (out work : List ℕ) : Type 0 where
+  pub inside : i < length g
+  pub out-places : length out ≡ size A
+  pub work-places : length work ≡ size A
+  pub even : i % 2 ≡ 0 → out ≡ apply p A (drop i g) v
+  pub odd : i % 2 ≢ 0 → work ≡ apply p A (drop i g) v
+
+module _ (p : ℕ) (A : Matrix) (g v : List ℕ) (places : length v ≡ size A) (some : 0 < length g) where
+  -- what the last coefficient makes of v
+  abbrev last : List ℕ
+  last = table (length v) (λ j. times p (at g (length g - 1)) (at v j))
+
+  length-last : {w : List ℕ} → w ≡ last → length w ≡ size A
+  length-last e = ap length e ∙ length-table (length v) (λ j. times p (at g (length g - 1)) (at v j)) ∙ places
+
+  pub turn-even : {out work : List ℕ} → (length g - 1) % 2 ≡ 0 → length work ≡ size A → out ≡ last → Turn p A g v (length g - 1) out work
+  turn-even {out} e l made =
+      record {
+        inside = omega (arith, some);
+        out-places = length-last made;
+        work-places = l;
+        even = λ z. horner-begins p A g v out places some made;
+        odd = λ n. absurd (n e);
+      }
+
+  pub turn-odd : {out work : List ℕ} → (length g - 1) % 2 ≢ 0 → length out ≡ size A → work ≡ last → Turn p A g v (length g - 1) out work
+  turn-odd {work = work} n l made =
+      record {
+        inside = omega (arith, some);
+        out-places = l;
+        work-places = length-last made;
+        even = λ e. absurd (n e);
+        odd = λ z. horner-begins p A g v work places some made;
+      }
+
+module _ {p : ℕ} {A : Matrix} {g v : List ℕ} {i : ℕ} {out work : List ℕ} (valid : Valid p A) (t : Turn p A g v i out work) (more : 0 < i) where
+  made-odd : (i - 1) % 2 ≡ 0 → work ≡ apply p A (drop i g) v
+  made-odd e = t .odd (λ z. omega (arith, e, z, more))
+
+  made-even : (i - 1) % 2 ≢ 0 → out ≡ apply p A (drop i g) v
+  made-even n = t .even (omega (arith, n, more))
+
+  pub turn-work : (i - 1) % 2 ≡ 0 → Vector p (size A) work
+  turn-work e = subst (Vector p (size A)) (sym (made-odd e)) (vector-apply p A (drop i g) v (valid .positive))
+
+  pub turn-out : (i - 1) % 2 ≢ 0 → Vector p (size A) out
+  turn-out n = subst (Vector p (size A)) (sym (made-even n)) (vector-apply p A (drop i g) v (valid .positive))
+
+  pub turn-to-even : {out′ : List ℕ} → (i - 1) % 2 ≡ 0 → out′ ≡ step p A (at g (i - 1)) v work → Turn p A g v (i - 1) out′ work
+  turn-to-even {out′} e made =
+      let next = horner-goes-on p A valid g v i work out′ more (t .inside) (made-odd e) made in
+      record {
+        inside = omega (arith, t .inside);
+        out-places = ap length next ∙ vector-apply p A (drop (i - 1) g) v (valid .positive) .places;
+        work-places = t .work-places;
+        even = λ z. next;
+        odd = λ n. absurd (n e);
+      }
+
+  pub turn-to-odd : {work′ : List ℕ} → (i - 1) % 2 ≢ 0 → work′ ≡ step p A (at g (i - 1)) v out → Turn p A g v (i - 1) out work′
+  turn-to-odd {work′} n made =
+      let next = horner-goes-on p A valid g v i out work′ more (t .inside) (made-even n) made in
+      record {
+        inside = omega (arith, t .inside);
+        out-places = t .out-places;
+        work-places = ap length next ∙ vector-apply p A (drop (i - 1) g) v (valid .positive) .places;
+        even = λ e. absurd (n e);
+        odd = λ z. next;
+      }

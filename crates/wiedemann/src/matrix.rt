@@ -173,35 +173,8 @@ fn multiple(p: u32, c: u32, v: &[u32], out: &mut [u32])
     }
 }
 
-// Where Horner's rule begins: out holds what the last coefficient makes of v, or the last two, so that an even number of steps is left. The answer is
-// how many.
-fn lead(
-    m: Modulus,
-    starts: &[u32],
-    columns: &[u32],
-    values: &[u32],
-    g: &[u32],
-    v: &[u32],
-    out: &mut [u32],
-    work: &mut [u32],
-) -> usize
-    requires { ⌜ Valid (m .p) (matrix (now starts) (now columns) (now values)) ⌝ }
-    requires { ⌜ Modular m × (length (now out) ≡ length (now starts) - 1) × (length (now work) ≡ length (now starts) - 1)
-        × Vector (m .p) (length (now starts) - 1) (now v) × (0 < length (now g)) × Vector (m .p) (length (now g)) (now g) ⌝ }
-    ensures { λ i. ⌜ (i < length (now (g .entry))) × (i % 2 ≡ 0) × (now (out .exit)
-        ≡ apply (m .p) (matrix (now (starts .entry)) (now (columns .entry)) (now (values .entry))) (drop i (now (g .entry))) (now (v .entry))) ⌝ }
-{
-    let i = g.len() - 1;
-    if i % 2 == 0 {
-        multiple(m.p, g[i], v, out);
-        return i;
-    }
-    multiple(m.p, g[i], v, work);
-    step(m, g[i - 1], v, starts, columns, values, work, out);
-    i - 1
-}
-
-// g(A)v into out by Horner's rule: k − 1 products for k coefficients, by turns into work and into out. Nothing is copied.
+// g(A)v into out by Horner's rule: k − 1 products for k coefficients, by turns into work and into out, which has what is made of the even
+// coefficients. Nothing is copied.
 pub(crate) fn horner(
     m: Modulus,
     starts: &[u32],
@@ -218,12 +191,19 @@ pub(crate) fn horner(
     ensures { λ r. ⌜ now (out .exit)
         ≡ apply (m .p) (matrix (now (starts .entry)) (now (columns .entry)) (now (values .entry))) (now (g .entry)) (now (v .entry)) ⌝ }
 {
-    let mut i = lead(m, starts, columns, values, g, v, out, work);
+    let mut i = g.len() - 1;
+    if i % 2 == 0 {
+        multiple(m.p, g[i], v, out);
+    } else {
+        multiple(m.p, g[i], v, work);
+    }
     while 0 < i {
         i -= 1;
-        step(m, g[i], v, starts, columns, values, out, work);
-        i -= 1;
-        step(m, g[i], v, starts, columns, values, work, out);
+        if i % 2 == 0 {
+            step(m, g[i], v, starts, columns, values, work, out);
+        } else {
+            step(m, g[i], v, starts, columns, values, out, work);
+        }
     }
 }
 

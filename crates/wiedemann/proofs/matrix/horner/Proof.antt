@@ -1,117 +1,119 @@
 use mathlib.Core.Path.{_≡_, sym, ap, _∙_, subst}
-use Prim.Native.Nat.{_-_, _%_, _<_}
+use mathlib.Core.Logic.{⊎-elim}
+use Prim.Native.Nat.{_-_}
 use native.Mathlib.Omega.{arith}
 use lib.ListN.{length, drop}
 use denote.Ref.{now}
 use Rattle.meaning.specs.Matrix.{matrix, apply}
-use Rattle.checks.specs.Valid.{Vector}
-use Rattle.wiedemann.specs.Horner.{horner-goes-on, vector-apply}
+use Rattle.wiedemann.specs.Horner.{Turn, turn-even, turn-odd, turn-work, turn-out, turn-to-even, turn-to-odd}
+use borrow.Author.Needs.{needs}
 use Rattle.wiedemann.proofs.matrix.horner.Statement.{statement}
 use Rattle.wiedemann.proofs.matrix.horner.Tie as tie
 
 abbrev Inv-loop : tie.InvT-loop
-Inv-loop m starts columns values g v out₀ work₀ i₀ out work i =
-    (i < length g) × (i % 2 ≡ 0) × (length work ≡ length starts - 1) × (out ≡ apply (m .p) (matrix starts columns values) (drop i g) v)
+Inv-loop m starts columns values g v out₀ work₀ i₀ out work i = Turn (m .p) (matrix starts columns values) g v i out work
 
 abbrev μ-loop : tie.MeasureT-loop
 μ-loop m starts columns values g v out₀ work₀ i₀ out work i = i
 
-vector : (c : tie.At-loop Inv-loop μ-loop)
-    → let at = c .before .before .before .before .before .before .before .before .before .before .before .before .before .before .before .args in
-    Vector (at .m .p) (length (now (at .starts)) - 1) (c .loop .out)
-vector c =
-    let start = c .before .before .before .before .before .before .before .before .before .before .before .before .before .before .before in
-    let at = start .args in
-    subst (λ l. Vector (at .m .p) (length (now (at .starts)) - 1) l) (sym (c .loop .inv .3))
-    (vector-apply (at .m .p) (matrix (now (at .starts)) (now (at .columns)) (now (at .values))) (drop (c .loop .i) (now (at .g))) (now (at .v)) (start .pre .0 .positive))
+sub-i : tie.Need-sub-i Inv-loop μ-loop
+sub-i c = omega (arith, c .before .before .before .before .before .before .before .pre .1 .4)
 
--- the first of a turn's two steps
-half : (c : tie.After-step Inv-loop μ-loop)
-    → let at = c .before .before .before .before .before .before .before .before .before .before .before .before .before .before .before .before .before .before .before .before .args in
-    c .step .last .1 .1 .1 .1 .1 .1 .1 .0 ≡ apply (at .m .p) (matrix (now (at .starts)) (now (at .columns)) (now (at .values))) (drop (c .before .before .before .before .before .loop .i - 1) (now (at .g))) (now (at .v))
-half c =
-    let start = c .before .before .before .before .before .before .before .before .before .before .before .before .before .before .before .before .before .before .before .before in
-    let at = start .args in
-    let A = matrix (now (at .starts)) (now (at .columns)) (now (at .values)) in
-    let loop = c .before .before .before .before .before .loop in
-    horner-goes-on (at .m .p) A (start .pre .0) (now (at .g)) (now (at .v)) (loop .i) (loop .out) (c .step .last .1 .1 .1 .1 .1 .1 .1 .0) (c .before .before .before .before .loop-test .taken)
-    (loop .inv .0) (loop .inv .3) (c .step .ensures)
+mul-multiple : tie.Need-mul-multiple Inv-loop μ-loop
+mul-multiple c = omega (arith, c .before .before .before .before .before .before .before .before .good)
 
-half-vector : (c : tie.After-step Inv-loop μ-loop)
-    → let at = c .before .before .before .before .before .before .before .before .before .before .before .before .before .before .before .before .before .before .before .before .args in
-    Vector (at .m .p) (length (now (at .starts)) - 1) (c .step .last .1 .1 .1 .1 .1 .1 .1 .0)
-half-vector c =
-    let start = c .before .before .before .before .before .before .before .before .before .before .before .before .before .before .before .before .before .before .before .before in
-    let at = start .args in
-    subst (λ l. Vector (at .m .p) (length (now (at .starts)) - 1) l) (sym (half c))
-    (vector-apply (at .m .p) (matrix (now (at .starts)) (now (at .columns)) (now (at .values))) (drop (c .before .before .before .before .before .loop .i - 1) (now (at .g))) (now (at .v)) (start .pre .0 .positive))
+shared-slice-read-multiple : tie.Need-shared-slice-read-multiple Inv-loop μ-loop
+shared-slice-read-multiple c = omega (arith, c .before .before .before .before .before .before .before .before .before .pre .1 .4)
 
-lead-requires : tie.Need-lead-requires Inv-loop μ-loop
-lead-requires c κs = c .before .before .before .before .before .before .before .before .before .pre
+multiple-requires : tie.Need-multiple-requires Inv-loop μ-loop
+multiple-requires c κs =
+    let start = c .before .before .before .before .before .before .before .before .before .before in
+    let pre = start .pre in
+    (pre .1 .5 .below (length (now (start .args .g)) - 1) (omega (arith, pre .1 .4)), pre .0 .small, pre .1 .1 ∙ sym (pre .1 .3 .places))
+
+mul-multiple-2 : tie.Need-mul-multiple-2 Inv-loop μ-loop
+mul-multiple-2 c = omega (arith, c .before .before .before .before .before .before .before .before .good)
+
+shared-slice-read-multiple-2 : tie.Need-shared-slice-read-multiple-2 Inv-loop μ-loop
+shared-slice-read-multiple-2 c = omega (arith, c .before .before .before .before .before .before .before .before .before .pre .1 .4)
+
+multiple-requires-2 : tie.Need-multiple-requires-2 Inv-loop μ-loop
+multiple-requires-2 c κs =
+    let start = c .before .before .before .before .before .before .before .before .before .before in
+    let pre = start .pre in
+    (pre .1 .5 .below (length (now (start .args .g)) - 1) (omega (arith, pre .1 .4)), pre .0 .small, pre .1 .2 ∙ sym (pre .1 .3 .places))
 
 loop-holds : tie.Need-loop-holds Inv-loop μ-loop
 loop-holds c =
-    let begun = c .before .before .before .before .lead in
-    (begun .ensures .0, begun .ensures .1, begun .kept .1 .1 .1 .1 .1 .1 .1 .0 ∙ c .before .before .before .before .before .before .before .before .before .before .before .before .before .before .pre .1 .2, begun .ensures .2)
+    let start = c .before .before .before .before .before .before .before .before in
+    let a = start .args in
+    let pre = start .pre in
+    let A = matrix (now (a .starts)) (now (a .columns)) (now (a .values)) in
+    let i = length (now (a .g)) - 1 in
+    ⊎-elim
+    (λ w. turn-even (a .m .p) A (now (a .g)) (now (a .v)) (pre .1 .3 .places) (pre .1 .4) (w .0 .taken) (ap length (w .7) ∙ pre .1 .2) (w .6 ∙ w .3 .ensures))
+    (λ w. turn-odd (a .m .p) A (now (a .g)) (now (a .v)) (pre .1 .3 .places) (pre .1 .4) (w .0 .left) (ap length (w .6) ∙ pre .1 .1) (w .7 ∙ w .3 .ensures))
+    (c .if1 .came)
 
-sub-i : tie.Need-sub-i Inv-loop μ-loop
-sub-i c = omega (arith, c .loop-test .taken)
+sub-i-2 : tie.Need-sub-i-2 Inv-loop μ-loop
+sub-i-2 c = omega (arith, c .loop-test .taken)
 
 mul-step : tie.Need-mul-step Inv-loop μ-loop
-mul-step c = omega (arith, c .before .loop .inv .0, c .before .before .before .before .before .before .before .before .before .before .before .before .before .before .before .before .good)
+mul-step c =
+    omega (arith, c .before .before .loop .inv .inside, c .before .before .before .before .before .before .before .before .before .before .before .good)
 
 shared-slice-read-step : tie.Need-shared-slice-read-step Inv-loop μ-loop
-shared-slice-read-step c = omega (arith, c .before .before .loop .inv .0)
+shared-slice-read-step c = omega (arith, c .before .before .before .loop .inv .inside)
 
 step-requires : tie.Need-step-requires Inv-loop μ-loop
 step-requires c κs =
-    let pre = c .before .before .before .before .before .before .before .before .before .before .before .before .before .before .before .before .before .before .before .pre in
-    (pre .0, (pre .1 .0, c .before .before .before .before .loop .inv .2, pre .1 .3 .places, vector (c .before .before .before .before)))
-
-sub-i-2 : tie.Need-sub-i-2 Inv-loop μ-loop
-sub-i-2 c = omega (arith, c .before .before .before .before .before .before .loop-test .taken, c .before .before .before .before .before .before .before .loop .inv .1)
-
-mul-step-2 : tie.Need-mul-step-2 Inv-loop μ-loop
-mul-step-2 c = omega (arith, c .before .before .before .before .before .before .before .loop .inv .0, c .before .before .before .before .before .before .before .before .before .before .before .before .before .before .before .before .before .before .before .before .before .before .good)
-
-shared-slice-read-step-2 : tie.Need-shared-slice-read-step-2 Inv-loop μ-loop
-shared-slice-read-step-2 c = omega (arith, c .before .before .before .before .before .before .before .before .loop .inv .0)
-
-step-requires-2 : tie.Need-step-requires-2 Inv-loop μ-loop
-step-requires-2 c κs =
-    let pre = c .before .before .before .before .before .before .before .before .before .before .before .before .before .before .before .before .before .before .before .before .before .before .before .before .before .pre in
-    (pre .0, (pre .1 .0, vector (c .before .before .before .before .before .before .before .before .before .before) .places, pre .1 .3 .places, half-vector (c .before .before .before .before .before)))
+    let pre = c .before .before .before .before .before .before .before .before .before .before .before .before .before .before .pre in
+    let loop = c .before .before .before .before .before .loop in
+    (pre .0, (pre .1 .0, loop .inv .out-places, pre .1 .3 .places, turn-work (pre .0) (loop .inv) (c .before .before .before .before .loop-test .taken) (c .before .before .before .if2 .taken)))
 
 loop-less : tie.Need-loop-less Inv-loop μ-loop
-loop-less c = omega (arith, c .before .before .before .before .before .before .before .before .before .before .before .before .loop-test .taken)
+loop-less c = omega (arith, c .before .before .before .before .before .before .before .loop-test .taken)
 
 loop-again : tie.Need-loop-again Inv-loop μ-loop
 loop-again c =
-    let start = c .before .before .before .before .before .before .before .before .before .before .before .before .before .before .before .before .before .before .before .before .before .before .before .before .before .before .before .before in
-    let at = start .args in
-    let A = matrix (now (at .starts)) (now (at .columns)) (now (at .values)) in
-    let loop = c .before .before .before .before .before .before .before .before .before .before .before .before .before .loop in
-    let test = c .before .before .before .before .before .before .before .before .before .before .before .before .loop-test .taken in
-    let next : 0 < loop .i - 1 = omega (arith, test, loop .inv .1) in (
-      omega (arith, loop .inv .0),
-      omega (arith, loop .inv .1),
-      half-vector (c .before .before .before .before .before .before .before .before) .places,
-      horner-goes-on (at .m .p) A (start .pre .0) (now (at .g)) (now (at .v)) (loop .i - 1) (c .before .before .before .before .before .before .before .before .step .last .1 .1 .1 .1 .1 .1 .1 .0) (c .before .before .step2 .last .1 .1 .1 .1 .1 .1 .1 .0)
-          next (omega (arith, loop .inv .0)) (half (c .before .before .before .before .before .before .before .before)) (c .before .before .step2 .ensures),
-    )
+    let loop = c .before .before .before .before .before .before .before .before .loop in
+    turn-to-even (c .before .before .before .before .before .before .before .before .before .before .before .before .before .before .before .before .before .pre .0) (loop .inv) (c .before .before .before .before .before .before .before .loop-test .taken) (c .before .before .before .before .before .before .if2 .taken) (c .before .before .step .ensures)
+
+mul-step-2 : tie.Need-mul-step-2 Inv-loop μ-loop
+mul-step-2 c =
+    omega (arith, c .before .before .loop .inv .inside, c .before .before .before .before .before .before .before .before .before .before .before .good)
+
+shared-slice-read-step-2 : tie.Need-shared-slice-read-step-2 Inv-loop μ-loop
+shared-slice-read-step-2 c = omega (arith, c .before .before .before .loop .inv .inside)
+
+step-requires-2 : tie.Need-step-requires-2 Inv-loop μ-loop
+step-requires-2 c κs =
+    let pre = c .before .before .before .before .before .before .before .before .before .before .before .before .before .before .pre in
+    let loop = c .before .before .before .before .before .loop in
+    (pre .0, (pre .1 .0, loop .inv .work-places, pre .1 .3 .places, turn-out (pre .0) (loop .inv) (c .before .before .before .before .loop-test .taken) (c .before .before .before .if2 .left)))
+
+loop-less-2 : tie.Need-loop-less-2 Inv-loop μ-loop
+loop-less-2 c = omega (arith, c .before .before .before .before .before .before .before .loop-test .taken)
+
+loop-again-2 : tie.Need-loop-again-2 Inv-loop μ-loop
+loop-again-2 c =
+    let loop = c .before .before .before .before .before .before .before .before .loop in
+    turn-to-odd (c .before .before .before .before .before .before .before .before .before .before .before .before .before .before .before .before .before .pre .0) (loop .inv) (c .before .before .before .before .before .before .before .loop-test .taken) (c .before .before .before .before .before .before .if2 .left) (c .before .before .step2 .ensures)
 
 same-length : tie.Need-same-length Inv-loop μ-loop
-same-length c = vector (c .before) .places ∙ sym (c .before .before .before .before .before .before .before .before .before .before .before .before .before .before .before .before .pre .1 .1)
+same-length c =
+    c .before .loop .inv .out-places ∙ sym (c .before .before .before .before .before .before .before .before .before .before .pre .1 .1)
 
 same-length-2 : tie.Need-same-length-2 Inv-loop μ-loop
-same-length-2 c = c .before .loop .inv .2 ∙ sym (c .before .before .before .before .before .before .before .before .before .before .before .before .before .before .before .before .pre .1 .2)
+same-length-2 c =
+    c .before .loop .inv .work-places ∙ sym (c .before .before .before .before .before .before .before .before .before .before .pre .1 .2)
 
 returns : tie.Need-returns Inv-loop μ-loop
 returns c =
-    let at = c .before .before .before .before .before .before .before .before .before .before .before .before .before .before .before .before .args in
+    let a = c .before .before .before .before .before .before .before .before .before .before .args in
     let loop = c .before .loop in
     let first : loop .i ≡ 0 = omega (arith, c .loop-test .left) in
-    loop .inv .3 ∙ ap (λ k. apply (at .m .p) (matrix (now (at .starts)) (now (at .columns)) (now (at .values))) (drop k (now (at .g))) (now (at .v))) first
+    loop .inv .even (omega (arith, first)) ∙ ap (λ k. apply (a .m .p) (matrix (now (a .starts)) (now (a .columns)) (now (a .values))) (drop k (now (a .g))) (now (a .v))) first
 
 pub horner-spec : {M : Type 1} → statement M
 horner-spec =
@@ -119,18 +121,25 @@ horner-spec =
     (tie.spec
     Inv-loop
     μ-loop
-    lead-requires
-    loop-holds
     sub-i
+    mul-multiple
+    shared-slice-read-multiple
+    multiple-requires
+    mul-multiple-2
+    shared-slice-read-multiple-2
+    multiple-requires-2
+    loop-holds
+    sub-i-2
     mul-step
     shared-slice-read-step
     step-requires
-    sub-i-2
+    loop-less
+    loop-again
     mul-step-2
     shared-slice-read-step-2
     step-requires-2
-    loop-less
-    loop-again
+    loop-less-2
+    loop-again-2
     same-length
     same-length-2
     returns)
