@@ -1,6 +1,7 @@
 // Runs libraries by turns on the same slices, old, new, old, new .., and prints the least time of each call.
 //
-//   turns [--rounds N] [--seconds S] [--quick] OLD.so,.. NEW.so,..    a table: all rows of the benchmark that are ours
+//   turns [--rounds N] [--seconds S] [--quick] [--only TEXT] OLD.so,.. NEW.so,..
+//                                                     a table: all rows of the benchmark that are ours, or those with TEXT
 //   turns --kernel [--rounds N] OURS.so,.. C.so,..                    our row product beside C: lines for report.py
 //
 // A library is given several times over, with its code at other places modulo 64 bytes, and the least time of
@@ -25,6 +26,7 @@ namespace {
 int rounds = 3;
 double least_seconds = 1;
 bool quick = false;
+std::string only; // rows whose name has it
 
 // ---- libraries
 
@@ -113,6 +115,8 @@ double largest = 0;
 std::string largest_row;
 
 void row(std::vector<Library> &libraries, const std::string &name, Call call, Case &c) {
+    if (name.find(only) == std::string::npos)
+        return;
     for (const Library &library : libraries)
         if (!(library.places[0]->*call)) {
             fprintf(stderr, "%s: the %s library has no such call\n", name.c_str(), library.name.c_str());
@@ -206,11 +210,13 @@ int main(int count, char **words) {
             rounds = atoi(words[++i]);
         else if (strcmp(words[i], "--seconds") == 0 && i + 1 < count)
             least_seconds = atof(words[++i]);
+        else if (strcmp(words[i], "--only") == 0 && i + 1 < count)
+            only = words[++i];
         else
             files.push_back(words[i]);
     }
     if (files.size() != 2) {
-        fprintf(stderr, "usage: turns [--kernel] [--rounds N] [--seconds S] [--quick] FILE,.. FILE,..\n");
+        fprintf(stderr, "usage: turns [--kernel] [--rounds N] [--seconds S] [--quick] [--only TEXT] FILE,.. FILE,..\n");
         return 2;
     }
     if (quick)
