@@ -3,3 +3,4 @@ pub mod Valid
 pub mod Matrix
 pub mod Recurrence
 pub mod Solver
+pub mod Pass

@@ -13,6 +13,7 @@ ghost use Rattle.meaning.specs.List.{at, all, allFrom, every};
 ghost use Rattle.meaning.specs.Matrix.{matrix};
 ghost use Rattle.meaning.specs.Refusal.{wordsTaken, first, within, elements, sizeTaken, startsTaken, columnsTaken, valueTaken, matrixChecks};
 ghost use Rattle.meaning.specs.Calls.{systemChecks, productRefusal, applyRefusal, takesRefusal, recurrenceRefusal, solverRefusal};
+ghost use Rattle.checks.specs.Pass.{residualAt, stateChecks, passRefusal};
 ghost use Rattle.checks.specs.Matrix.{columnTaken, rises, Ordered};
 
 // A number of 32 bits as an index.
@@ -295,4 +296,55 @@ pub fn solver_refusal(
         return 11;
     }
     0
+}
+
+// Where r begins in a run's work slice: behind the places that F may take.
+pub fn residual_at(n: u32) -> usize
+    ensures { λ r. ⌜ r ≡ residualAt n ⌝ }
+{
+    2 * (n as usize) + 1
+}
+
+// 8, 10, 11 and 9 of a run's state: D is below n, the words, the work slice, and F and r, which can be read then.
+fn state_refusal(p: u32, n: usize, d: usize, words: &[u32], work: &[u32]) -> u32
+    requires { ⌜ n ≤ 4096 ⌝ }
+    ensures { λ r. ⌜ r ≡ first (stateChecks p n d (now (words .entry)) (now (work .entry))) ⌝ }
+{
+    if n <= d {
+        return 8;
+    }
+    if !words_taken(n, words) {
+        return 10;
+    }
+    if work.len() < 16 * n + 16 {
+        return 11;
+    }
+    let front: usize = 0;
+    let end = d + 1;
+    let from = residual_at(n as u32);
+    let to = from + n;
+    if !(are_elements(p, &work[front..end]) & are_elements(p, &work[from..to])) {
+        return 9;
+    }
+    0
+}
+
+// What one pass of a run is refused for.
+pub fn pass_refusal(
+    p: u32,
+    starts: &[u32],
+    columns: &[u32],
+    values: &[u32],
+    words: &[u32],
+    d: usize,
+    work: &[u32],
+) -> u32
+    ensures { λ r. ⌜ r ≡ passRefusal p (matrix (now (starts .entry)) (now (columns .entry)) (now (values .entry)))
+        (now (words .entry)) d (now (work .entry)) ⌝ }
+{
+    let number = matrix_refusal(p, starts, columns, values);
+    if number != 0 {
+        return number;
+    }
+    state_refusal(p, starts.len() - 1, d, words, work)
 }

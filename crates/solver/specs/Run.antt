@@ -48,7 +48,8 @@ use Rattle.wiedemann.specs.declared.pass.Passed.the-variants.{Made, Refused}
 use Rattle.laws.specs.Part.{part, at-part, part-ext}
 use Rattle.laws.specs.Lent.{lent, length-lent, part-lent, part-at, part-cons}
 use Rattle.wiedemann.specs.Turns.{monic-leading}
-use Rattle.wiedemann.specs.Pass.{residualAt, held, passOf, passRefusal, Passes, refused-state, state-0}
+use Rattle.checks.specs.Pass.{residualAt, passRefusal, refused-state, state-0}
+use Rattle.wiedemann.specs.Pass.{held, passOf, Passes}
 use Rattle.solver.specs.declared.Counts.{Counts}
 
 pub record System (p : ℕ) (A : Matrix) (b : List ℕ) : Type 0 where

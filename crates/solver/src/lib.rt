@@ -15,9 +15,11 @@ ghost use Rattle.meaning.specs.Refusal.{wordsTaken};
 ghost use Rattle.meaning.specs.Solver.{begin};
 ghost use Rattle.checks.specs.Valid.{Vector};
 ghost use Rattle.laws.specs.Part.{part};
-ghost use Rattle.wiedemann.specs.Pass.{residualAt, held};
+ghost use Rattle.checks.specs.Pass.{residualAt};
+ghost use Rattle.wiedemann.specs.Pass.{held};
 ghost use Rattle.solver.specs.Run.{System, none, counted, Finished, Closable};
 ghost use Rattle.solver.specs.Verdict.{closing, Closed, Solves};
+use checks::residual_at;
 use checks::solver_refusal;
 use field::Field;
 use field::inverse_modulo;
@@ -27,7 +29,6 @@ use wiedemann::matrix::apply;
 use wiedemann::pass::Pass;
 use wiedemann::pass::Passed;
 use wiedemann::pass::make_pass;
-use wiedemann::pass::residual_at;
 
 // D, the passes and the applications.
 pub struct Counts {

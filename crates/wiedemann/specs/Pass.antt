@@ -1,19 +1,13 @@
 -- One pass of a run in its work slice, whatever led there (src/pass.rt, which has the slice's layout). F may take 2n + 1 places: a pass of a state
 -- that no run led to finds a degree of up to 2 × left.
---     residualAt           where r begins
 --     generatorAt          where f stands after the recurrence of 2 × left terms
 --     held                 the run that a work slice holds, its degree D and its passes being known
---     heldElements         F and r hold elements below p
---     stateChecks          8: D is below n; 10: the words; 11: the work slice; 9: an element of F or r
---     passRefusal          3 to 7 for field and matrix, then these
 --     passOf, Makes, Answers      the meaning's record of a pass; what a pass leaves; what each case of an answer says
 --     Passes               what a call answers and leaves: the meaning's `pass` of what was held
 --     Narrowed, narrowed, narrowed-from      terms, recurrence and f(A)r in the slice's part from r on; F stays
 --     narrowed-factors     F and f are what the product asks
 --     made                 with F × f: a pass
 --     makes-modulus        .. the modulus by its other name
---     refused-matrix, refused-state, state-8, state-10, state-11, state-9, state-0      the number, by the first check that turns the input down
---     State, state-of      what the checks leave known
 use mathlib.Core.Path.{_≡_, refl, sym, ap, ap₂, _∙_, subst}
 use mathlib.Core.Logic.{_≢_}
 use mathlib.Core.Bool.{Bool, true, false, not, _&&_}
@@ -34,7 +28,8 @@ use Rattle.laws.specs.Refusal.{first-nil, first-past, first-stops, first-passed
 use Rattle.laws.specs.Solver.{vectorCount-div, vectorCount-whole, vectorCount-few}
 use Rattle.residue.specs.Prime.{Prime}
 use Rattle.laws.specs.Recurrence.{generator-below}
-use Rattle.checks.specs.Valid.{Vector, vector-of}
+use Rattle.checks.specs.Valid.{Vector}
+use Rattle.checks.specs.Pass.{residualAt, passRefusal}
 use Rattle.wiedemann.specs.declared.pass.Pass.{Pass as CodePass}
 use Rattle.wiedemann.specs.declared.pass.Passed.{Passed}
 use Rattle.wiedemann.specs.declared.pass.Passed.the-variants.{Made, Refused}
@@ -44,28 +39,11 @@ use Rattle.laws.specs.Lent.{lent, length-lent, take-lent, inner-lent, part-at, 
 use Rattle.wiedemann.specs.Turns.{Shortened}
 use Rattle.wiedemann.specs.Factor.{Factors, Multiplied}
 
-abbrev pub residualAt : ℕ → ℕ
-residualAt n = 2 * n + 1
-
 abbrev pub generatorAt : ℕ → ℕ → ℕ
 generatorAt n left = residualAt n + (3 * n + (2 * left + 2))
 
 abbrev pub held : ℕ → List ℕ → ℕ → List Pass → Run
 held n W D qs = record { residual = part (residualAt n) n W; factor = part 0 (D + 1) W; found = D; passes = qs }
-
-abbrev pub heldElements : ℕ → ℕ → ℕ → List ℕ → Bool
-heldElements p n D work = elements p (part 0 (D + 1) work) && elements p (part (residualAt n) n work)
-
-unfoldable pub stateChecks : ℕ → ℕ → ℕ → List ℕ → List ℕ → List Check
-stateChecks p n D words work =
-    check 8 (not (ltb D n))
-    ∷ check 10 (not (wordsTaken n words))
-    ∷ check 11 (not (leb (16 * n + 16) (length work)))
-    ∷ check 9 (not (heldElements p n D work))
-    ∷ []
-
-unfoldable pub passRefusal : ℕ → Matrix → List ℕ → ℕ → List ℕ → ℕ
-passRefusal p A words D work = first (matrixChecks p A ++ stateChecks p (size A) D words work)
 
 abbrev pub passOf : CodePass → Pass
 passOf q = record { left = q .left; degree = q .degree; applications = q .applications }
@@ -209,76 +187,3 @@ made {p} {A} {u} {W} {W₁} {W₂} D t below room a f e m qs =
 pub makes-modulus : {m p : ℕ} {A : Matrix} (words : List ℕ) (j : ℕ) {D : ℕ} {W : List ℕ} {q : CodePass} {W′ : List ℕ} → m ≡ p
     → Makes m A (getD (projections m (size A) words) j []) D W q W′ → Makes p A (getD (projections p (size A) words) j []) D W q W′
 makes-modulus {A} words j {D} {W} {q} {W′} e h = subst (λ p. Makes p A (getD (projections p (size A) words) j []) D W q W′) e h
-
--- ---- the checks
-
-pub refused-matrix : (p : ℕ) (A : Matrix) (words : List ℕ) (D : ℕ) (work : List ℕ) → first (matrixChecks p A) ≢ 0
-    → passRefusal p A words D work ≡ first (matrixChecks p A)
-unfolding passRefusal
-refused-matrix p A words D work q = first-append-some (matrixChecks p A) (stateChecks p (size A) D words work) q
-
-pub refused-state : (p : ℕ) (A : Matrix) (words : List ℕ) (D : ℕ) (work : List ℕ) → first (matrixChecks p A) ≡ 0
-    → passRefusal p A words D work ≡ first (stateChecks p (size A) D words work)
-unfolding passRefusal
-refused-state p A words D work e = first-append-none (matrixChecks p A) (stateChecks p (size A) D words work) (numbered-matrix p A) e
-
-module _ (p n D : ℕ) (words work : List ℕ) where
-  pub state-8 : n ≤ D → first (stateChecks p n D words work) ≡ 8
-  unfolding stateChecks
-  state-8 l = first-stops 8 (not (ltb D n)) _ (ap not (le-ltb D n l))
-
-  module _ (below : D < n) where
-    pub state-10 : wordsTaken n words ≡ false → first (stateChecks p n D words work) ≡ 10
-    unfolding stateChecks
-    state-10 t = first-past 8 (not (ltb D n)) _ (ap not (lt-ltb D n below)) ∙ first-stops 10 (not (wordsTaken n words)) _ (ap not t)
-
-    module _ (taken : wordsTaken n words ≡ true) where
-      past-10 : first (stateChecks p n D words work)
-          ≡ first (check 11 (not (leb (16 * n + 16) (length work))) ∷ check 9 (not (heldElements p n D work)) ∷ [])
-      unfolding stateChecks
-      past-10 = first-past 8 (not (ltb D n)) _ (ap not (lt-ltb D n below)) ∙ first-past 10 (not (wordsTaken n words)) _ (ap not taken)
-
-      pub state-11 : length work < 16 * n + 16 → first (stateChecks p n D words work) ≡ 11
-      state-11 l = past-10 ∙ first-stops 11 (not (leb (16 * n + 16) (length work))) _ (ap not (lt-leb (16 * n + 16) (length work) l))
-
-      module _ (room : 16 * n + 16 ≤ length work) where
-        past-11 : first (stateChecks p n D words work) ≡ first (check 9 (not (heldElements p n D work)) ∷ [])
-        past-11 = past-10 ∙ first-past 11 (not (leb (16 * n + 16) (length work))) _ (ap not (le-leb (16 * n + 16) (length work) room))
-
-        pub state-9 : heldElements p n D work ≡ false → first (stateChecks p n D words work) ≡ 9
-        state-9 t = past-11 ∙ first-stops 9 (not (heldElements p n D work)) _ (ap not t)
-
-        pub state-0 : heldElements p n D work ≡ true → first (stateChecks p n D words work) ≡ 0
-        state-0 t = past-11 ∙ first-past 9 (not (heldElements p n D work)) _ (ap not t) ∙ first-nil
-
-pub record State (p n D : ℕ) (words work : List ℕ) : Type 0 where
-  pub below : D < n
-  pub words-taken : Words n (length words / n) words
-  pub room : 16 * n + 16 ≤ length work
-  pub factor : Vector p (D + 1) (part 0 (D + 1) work)
-  pub residual : Vector p n (part (residualAt n) n work)
-
-pub state-of : (p n D : ℕ) (words work : List ℕ) → first (stateChecks p n D words work) ≡ 0 → State p n D words work
-unfolding stateChecks
-state-of p n D words work e =
-    let eight = first-passed 8 (ltb D n) _ (omega arith) e in
-    let ten = first-passed 10 (wordsTaken n words) _ (omega arith) (eight .1) in
-    let eleven = first-passed 11 (leb (16 * n + 16) (length work)) _ (omega arith) (ten .1) in
-    let nine = first-passed 9 (heldElements p n D work) _ (omega arith) (eleven .1) in
-    let below = ltb-true D n (eight .0) in
-    let room = leb-true (16 * n + 16) (length work) (eleven .0) in
-    let F = part 0 (D + 1) work in
-    let r = part (residualAt n) n work in
-    let count = vectorCount-div n words in
-    record {
-      below = below;
-      words-taken =
-          record {
-            count = refl;
-            whole = vectorCount-whole n words (ten .0) ∙ ap (λ k. k * n) count;
-            few = omega (arith, vectorCount-few n words (ten .0), count);
-          };
-      room = room;
-      factor = vector-of p F (D + 1) (length-part 0 (D + 1) work (omega (arith, below, room))) (and-left (elements p F) (elements p r) (nine .0));
-      residual = vector-of p r n (length-part (residualAt n) n work (omega (arith, room))) (and-right (elements p F) (elements p r) (nine .0));
-    }

@@ -1,7 +1,7 @@
 -- The projections of a run (src/projection.rt).
 --     wordTerm         the product of word i with element i
 --     Raw              what the sum of such products needs to know
---     Words            the random words as vectors of n
+--     Words            the random words as vectors of n; words-of: where they are taken
 --     sumFrom-zero     a sum from 0 on
 --     sum-one          a sum of which one term is not 0
 --     dot-words        a dot product with words, each taken modulo p: one reduction is enough
@@ -10,7 +10,7 @@
 --     projection-past  behind the words: an element, or 0 past the end
 use mathlib.Core.Path.{_≡_, refl, sym, ap, ap₂, _∙_}
 use mathlib.Core.Logic.{_≢_, _⊎_, inl, inr}
-use mathlib.Core.Bool.{cond}
+use mathlib.Core.Bool.{true, cond}
 use mathlib.Core.List.{List, []}
 use Prim.Native.Nat.{ℕ, zero, suc, _+_, _-_, _*_, _/_, _%_, _≤_, _<_}
 use native.Mathlib.Nat.{zero-add, add-zero, zero-mod, zero-mul, one-mul, mod-eq-of-lt, eq-or-lt-of-le, le-of-suc-le-suc, sub-zero}
@@ -22,7 +22,8 @@ use borrow.Author.Tests.{eq-eqb, ne-eqb}
 use Rattle.meaning.specs.List.{at, sum, sumFrom, table}
 use Rattle.meaning.specs.Solver.{vectorCount, projections, dot}
 use Rattle.laws.specs.List.{sum-suc, sum-ext, sum-zeros, getD-table}
-use Rattle.laws.specs.Solver.{vectorCount-div, length-projections, projection-unit}
+use Rattle.meaning.specs.Refusal.{wordsTaken}
+use Rattle.laws.specs.Solver.{vectorCount-div, vectorCount-whole, vectorCount-few, length-projections, projection-unit}
 use Rattle.residue.specs.Numbers.{mod-mul-mod}
 use Rattle.wiedemann.specs.Horner.{sum-mod-ext}
 
@@ -40,6 +41,11 @@ pub record Words (n vectors : ℕ) (words : List ℕ) : Type 0 where
   pub count : vectors ≡ length words / n
   pub whole : length words ≡ vectors * n
   pub few : vectors ≤ 64
+
+pub words-of : (n : ℕ) (words : List ℕ) → wordsTaken n words ≡ true → Words n (length words / n) words
+words-of n words t =
+    let count = vectorCount-div n words in
+    record { count = refl; whole = vectorCount-whole n words t ∙ ap (λ k. k * n) count; few = omega (arith, vectorCount-few n words t, count) }
 
 pub sumFrom-zero : (n : ℕ) (f : ℕ → ℕ) → sumFrom 0 n f ≡ sum n f
 sumFrom-zero n f =

@@ -13,8 +13,8 @@ ghost use Rattle.checks.specs.Valid.{Valid, Vector};
 ghost use Rattle.laws.specs.Part.{part};
 ghost use Rattle.wiedemann.specs.Projection.{Words};
 ghost use Rattle.wiedemann.specs.Turns.{Seat, Other, Turning, Advanced, Sequenced, Leading, Applied, Generated, Shortened};
-ghost use Rattle.meaning.specs.Refusal.{first};
-ghost use Rattle.wiedemann.specs.Pass.{residualAt, generatorAt, stateChecks, State, Makes, Passes};
+ghost use Rattle.wiedemann.specs.Pass.{generatorAt, Makes, Passes};
+ghost use Rattle.checks.specs.Pass.{State};
 use crate::factor::multiply;
 use crate::matrix::step_within;
 use crate::modulus::Modulus;
@@ -22,9 +22,8 @@ use crate::projection::Projection;
 use crate::projection::projected;
 use crate::recurrence::Answer;
 use crate::recurrence::generate;
-use checks::are_elements;
-use checks::matrix_refusal;
-use checks::words_taken;
+use checks::pass_refusal;
+use checks::residual_at;
 use field::Field;
 use slices::copy_within;
 
@@ -190,37 +189,6 @@ pub enum Passed {
     Refused(u32),
 }
 
-// Where r begins: behind the places that F may take.
-pub fn residual_at(n: u32) -> usize
-    ensures { λ r. ⌜ r ≡ residualAt n ⌝ }
-{
-    2 * (n as usize) + 1
-}
-
-// 8, 10, 11 and 9 of a run's state: D is below n, the words, the work slice, and F and r, which can be read then.
-fn state_refusal(p: u32, n: usize, d: usize, words: &[u32], work: &[u32]) -> u32
-    requires { ⌜ n ≤ 4096 ⌝ }
-    ensures { λ r. ⌜ r ≡ first (stateChecks p n d (now (words .entry)) (now (work .entry))) ⌝ }
-{
-    if n <= d {
-        return 8;
-    }
-    if !words_taken(n, words) {
-        return 10;
-    }
-    if work.len() < 16 * n + 16 {
-        return 11;
-    }
-    let front: usize = 0;
-    let end = d + 1;
-    let from = residual_at(n as u32);
-    let to = from + n;
-    if !(are_elements(p, &work[front..end]) & are_elements(p, &work[from..to])) {
-        return 9;
-    }
-    0
-}
-
 // Where f stands after the recurrence of 2 × left terms: behind r, its iterates and the terms.
 fn generator_at(n: usize, left: usize) -> usize
     requires { ⌜ (n ≤ 4096) × (left ≤ n) ⌝ }
@@ -288,15 +256,10 @@ pub fn make_pass(
     ensures { λ r. ⌜ Passes (field .p) (matrix (now (starts .entry)) (now (columns .entry)) (now (values .entry)))
         (now (words .entry)) j d (now (work .entry)) r (now (work .exit)) ⌝ }
 {
-    let p = field.p;
-    let number = matrix_refusal(p, starts, columns, values);
+    let number = pass_refusal(field.p, starts, columns, values, words, d, work);
     if number != 0 {
         return Passed::Refused(number);
     }
-    let state = state_refusal(p, starts.len() - 1, d, words, work);
-    if state != 0 {
-        return Passed::Refused(state);
-    }
-    let m = Modulus::of(p);
+    let m = Modulus::of(field.p);
     Passed::Made(pass_of_state(m, starts, columns, values, words, j, d, work))
 }

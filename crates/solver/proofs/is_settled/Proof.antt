@@ -1,4 +1,4 @@
-use Rattle.wiedemann.specs.Pass.{residualAt}
+use Rattle.checks.specs.Pass.{residualAt}
 use Rattle.laws.specs.Lent.{part-at}
 use Rattle.meaning.specs.List.{isZero}
 use denote.Ref.{now}

@@ -1,4 +1,4 @@
-use Rattle.wiedemann.specs.Pass.{residualAt, heldElements, state-8, state-10, state-11, state-9, state-0}
+use Rattle.checks.specs.Pass.{residualAt, heldElements, state-8, state-10, state-11, state-9, state-0}
 use Rattle.laws.specs.Lent.{part-at}
 use Rattle.meaning.specs.Refusal.{elements, wordsTaken}
 use Rattle.laws.specs.Bool.{not-both}
@@ -11,8 +11,8 @@ use mathlib.Core.List.{List}
 use mathlib.Core.Path.{_≡_, refl, sym, ap, _∙_}
 use borrow.Author.Tests.{not-true, not-false}
 use borrow.Author.Needs.{needs}
-use Rattle.wiedemann.proofs.pass.state_refusal.Statement.{statement}
-use Rattle.wiedemann.proofs.pass.state_refusal.Tie as tie
+use Rattle.checks.proofs.state_refusal.Statement.{statement}
+use Rattle.checks.proofs.state_refusal.Tie as tie
 
 -- F's part and r's, as they are lent
 lent : (p n D : ℕ) {from : ℕ} (work : List ℕ) {a b t : Bool} → from ≡ residualAt n → a ≡ elements p (take (D + 1 - 0) (drop 0 work))
