@@ -3,12 +3,11 @@
 --     sumFrom-split    a range as two
 --     sumFrom-one, sumFrom-two, sumFrom-four, two-added, four-added        a few terms, as the code adds them
 --     sumFrom-ext      terms that agree within the range
---     residues-fit, word-fits, words-fit            how large a product of two residues, of a 32-bit word and a residue, of two 32-bit words is
 --     Summed           the invariant of every loop that sums into a total: summed-none where it begins, summed-more for a turn, summed-one for a
 --                      turn with one term, summed-both for two such loops after each other
 use mathlib.Core.Path.{_≡_, sym, ap, ap₂, _∙_}
-use Prim.Native.Nat.{ℕ, zero, suc, _+_, _*_, _-_, _≤_, _<_}
-use native.Mathlib.Nat.{zero-add, add-zero, add-assoc, add-suc, sub-self, add-sub-of-le, mul-le-mul}
+use Prim.Native.Nat.{ℕ, zero, suc, _+_, _-_, _≤_, _<_}
+use native.Mathlib.Nat.{zero-add, add-zero, add-assoc, add-suc, sub-self, add-sub-of-le}
 use native.Mathlib.Numerals.{add-one}
 use native.Mathlib.Omega.{arith}
 use Rattle.meaning.specs.List.{sum, sumFrom}
@@ -62,20 +61,6 @@ module _ (a : ℕ) (f : ℕ → ℕ) where
 
 pub sumFrom-ext : (a b : ℕ) (f g : ℕ → ℕ) → ((k : ℕ) → a ≤ k → k < b → f k ≡ g k) → sumFrom a b f ≡ sumFrom a b g
 sumFrom-ext a b f g h = sum-ext (b - a) (λ j. f (a + j)) (λ j. g (a + j)) (λ j l. h (a + j) (omega arith) (omega arith))
-
--- ---- products in a word
-
--- of two residues: four such fit a word
-pub residues-fit : (a b : ℕ) → a < 2147483647 → b < 2147483647 → a * b ≤ 4611686009837453316
-residues-fit a b k l = mul-le-mul {n₁ = a} {m₁ = b} {n₂ = 2147483646} {m₂ = 2147483646} (omega arith) (omega arith)
-
--- of a 32-bit word and a residue: two such fit a word
-pub word-fits : (a b : ℕ) → a < 4294967296 → b < 2147483647 → a * b ≤ 9223372026117357570
-word-fits a b k l = mul-le-mul {n₁ = a} {m₁ = b} {n₂ = 4294967295} {m₂ = 2147483646} (omega arith) (omega arith)
-
--- of two 32-bit words: one fits
-pub words-fit : (a b : ℕ) → a < 4294967296 → b < 4294967296 → a * b < 18446744073709551616
-words-fit a b k l = omega (arith, mul-le-mul {n₁ = a} {m₁ = b} {n₂ = 4294967295} {m₂ = 4294967295} (omega arith) (omega arith))
 
 -- ---- the invariant of every loop that sums into a total
 

@@ -2,8 +2,9 @@
 --     number           the number that a total stands for
 --     added t x        a word added: the lower words' sum, and its carry in the higher
 --     residueOf m t    the higher word's lower 32 bits taken at m's weight, and the carry of that again; then the remainder
---     add-sums         what is added, as numbers
---     fold-fits        both steps fit a word
+--     add-sums         a word is added to the number, and at most 1 to the higher word
+--     added-low, carry-le              the lower word of a sum, and what is above it
+--     high-fits, fold-fits             what `residueOf` adds up fits a word, whatever the words are
 --     residue-number   the number modulo p
 use mathlib.Core.Path.{_≡_, sym, ap, _∙_}
 use Prim.Native.Nat.{ℕ, zero, suc, _+_, _*_, _/_, _%_, _≤_, _<_}

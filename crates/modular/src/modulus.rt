@@ -3,10 +3,12 @@
 //     let m = Modulus::of(p);       // once
 //     m.remainder(x)                // for any word x
 use crate::sums::times;
+use std::num::wrapping_add_u32;
 use std::num::wrapping_sub_u32;
+use std::num::wrapping_sub_u64;
 ghost use mathlib.Core.Path.{_≡_};
 ghost use Prim.Native.Nat.{_*_, _/_};
-ghost use Rattle.modular.specs.Modulus.{reduced, lessened, modulusOf, barrett, differenceOf};
+ghost use Rattle.modular.specs.Modulus.{lessened, restored, reduced, modulusOf, barrett, differenceOf};
 
 const MAX: u64 = 18446744073709551615;
 
@@ -18,18 +20,25 @@ pub struct Modulus {
     pub weight: u32,
 }
 
-// s modulo p for s below 2p. The comparison is one of 32 bits: so it is a choice of values and no branch.
-pub(crate) fn reduced(p: u32, s: u32) -> u32
-    ensures { λ r. ⌜ r ≡ reduced p s ⌝ }
-{
-    if s < p { s } else { s - p }
-}
-
-// The lower 32 bits of x − y: the whole difference if that is known to be so small.
+// The lower 32 bits of x − y: all of the difference, where it is known to be that small.
 pub(crate) fn lessened(x: u64, y: u64) -> u32
     ensures { λ r. ⌜ r ≡ lessened x y ⌝ }
 {
-    wrapping_sub_u32((x % 4294967296) as u32, (y % 4294967296) as u32)
+    (wrapping_sub_u64(x, y) % 4294967296) as u32
+}
+
+// d, and p again where d's top bit says that it is below zero. Arithmetic and no `if`, which would be an unpredictable branch for an entry.
+fn restored(p: u32, d: u32) -> u32
+    ensures { λ r. ⌜ r ≡ restored p d ⌝ }
+{
+    wrapping_add_u32(d, d / 2147483648 * p)
+}
+
+// s modulo p for s below 2p.
+pub(crate) fn reduced(p: u32, s: u32) -> u32
+    ensures { λ r. ⌜ r ≡ reduced p s ⌝ }
+{
+    restored(p, wrapping_sub_u32(s, p))
 }
 
 // The upper word of a product, from the products of the halves.
@@ -46,6 +55,7 @@ fn upper(a: u64, b: u64) -> u64
 }
 
 impl Modulus {
+    // For 0, by which nothing is divided, reciprocal and weight are 0.
     pub fn of(p: u32) -> Self
         ensures { λ m. ⌜ m ≡ modulusOf p ⌝ }
     {
@@ -60,7 +70,7 @@ impl Modulus {
         Modulus {
             p,
             reciprocal: MAX / m,
-            weight: reduced(p, (MAX % m + 1) as u32),
+            weight: ((MAX % m + 1) % m) as u32,
         }
     }
 
@@ -77,8 +87,7 @@ impl Modulus {
     pub fn difference(self, a: u32, b: u32) -> u32
         ensures { λ r. ⌜ r ≡ differenceOf self a b ⌝ }
     {
-        let p = self.p;
-        reduced(p, lessened((a as u64) + (p as u64), b as u64))
+        restored(self.p, wrapping_sub_u32(a, b))
     }
 
     // a × b modulo p.

@@ -16,6 +16,7 @@ pub struct Multiplier {
 }
 
 impl Multiplier {
+    // For 0, by which nothing is divided, the quotient is 0.
     pub fn of(p: u32, c: u32) -> Self
         ensures { λ k. ⌜ k ≡ multiplierOf p c ⌝ }
     {

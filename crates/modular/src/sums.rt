@@ -36,7 +36,7 @@ impl Total {
         }
     }
 
-    // One in the higher word counts for 2⁶⁴, which is the weight modulo p.
+    // One in the higher word counts for 2⁶⁴, which is the weight modulo p. Of that word 32 bits are taken: so nothing overflows, whatever it holds.
     pub fn residue(self, m: Modulus) -> u32
         ensures { λ r. ⌜ r ≡ residueOf m self ⌝ }
     {

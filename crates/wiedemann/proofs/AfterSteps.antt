@@ -24,10 +24,11 @@ use Rattle.laws.specs.List.{sum-ext}
 use Rattle.residue.specs.Prime.{Prime, isModulus-Prime, isModulus-le}
 use Rattle.residue.specs.Lists.{reduced-getD}
 use Rattle.bridge.specs.Recurrence.{step-zero, step-stay, step-grow, steps-zero, steps-reduced, steps-within, steps-above}
-use Rattle.wiedemann.specs.declared.sums.Total.{Total}
+use Rattle.modular.specs.declared.sums.Total.{Total}
 use Rattle.wiedemann.specs.declared.recurrence.Register.{Register}
 use Rattle.laws.specs.Written.{Written}
-use Rattle.wiedemann.specs.Sums.{number, Summed}
+use Rattle.modular.specs.Total.{number}
+use Rattle.modular.specs.Sums.{Summed}
 use Rattle.wiedemann.specs.Projection.{sumFrom-zero}
 use Rattle.wiedemann.specs.Convolution.{cross, Crossing, nothing}
 use Rattle.wiedemann.specs.Recurrence.{Ready, HoldsSteps, BeforeStep, shifted, lengthened, AfterSteps}

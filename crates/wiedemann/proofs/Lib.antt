@@ -1,8 +1,5 @@
 -- laws that only the proofs here use
 pub mod Elements
-pub mod Shoup
-pub mod Upper
-pub mod Wrapped
 pub mod Reversing
 pub mod Update
 pub mod HoldsSteps

@@ -20,8 +20,9 @@ use lib.Seq.{getD-set-same, getD-set-other}
 use Rattle.meaning.specs.List.{at, sum, sumFrom}
 use Rattle.meaning.specs.Solver.{multiply}
 use Rattle.laws.specs.List.{sum-ext, sum-zeros, table-of}
-use Rattle.wiedemann.specs.declared.sums.Total.{Total}
-use Rattle.wiedemann.specs.Sums.{number, Summed, sumFrom-split, sumFrom-ext}
+use Rattle.modular.specs.declared.sums.Total.{Total}
+use Rattle.modular.specs.Total.{number}
+use Rattle.modular.specs.Sums.{Summed, sumFrom-split, sumFrom-ext}
 use Rattle.wiedemann.specs.Convolution.{cross, Crossing, nothing}
 use Rattle.laws.specs.Part.{part, length-part, at-part}
 use Rattle.wiedemann.specs.Projection.{sumFrom-zero}

@@ -1,11 +1,8 @@
 // Sparse matrices modulo a prime: their products and polynomials, shortest recurrences, one pass of a run, and the checks of offered answers.
 mod convolution;
 pub mod matrix;
-mod modulus;
-mod multiplier;
 pub mod offered;
 pub mod pass;
 mod projection;
 pub mod recurrence;
 pub mod slice;
-mod sums;

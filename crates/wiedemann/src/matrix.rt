@@ -5,8 +5,9 @@ ghost use Prim.Native.Nat.{ℕ, _+_, _-_, _%_, _≤_, _<_};
 ghost use lib.ListN.{length, drop};
 ghost use Rattle.meaning.specs.List.{at, sumFrom, table};
 ghost use Rattle.meaning.specs.Field.{times};
-ghost use Rattle.wiedemann.specs.Modulus.{Modular};
-ghost use Rattle.wiedemann.specs.Sums.{number, Summed};
+ghost use Rattle.modular.specs.Modulus.{Modular};
+ghost use Rattle.modular.specs.Total.{number};
+ghost use Rattle.modular.specs.Sums.{Summed};
 ghost use Rattle.meaning.specs.Matrix.{matrix, product, apply, transposed};
 ghost use Rattle.meaning.specs.Calls.{productRefusal, productAfter, applyRefusal, applyAfter};
 ghost use Rattle.checks.specs.Valid.{Entries, term, Valid, Vector};
@@ -16,15 +17,15 @@ ghost use Rattle.laws.specs.Part.{part};
 ghost use Rattle.wiedemann.specs.Region.{Regions};
 ghost use Rattle.wiedemann.specs.Transposed.{scattered};
 ghost use Rattle.wiedemann.specs.Answers.{Writes};
-use crate::modulus::Modulus;
-use crate::multiplier::Multiplier;
 use crate::slice::clear;
-use crate::sums::Total;
-use crate::sums::times;
 use checks::apply_refusal;
 use checks::product_refusal;
 use checks::wide;
 use field::Field;
+use modular::modulus::Modulus;
+use modular::multiplier::Multiplier;
+use modular::sums::Total;
+use modular::sums::times;
 
 // The product of entry k's value with the element of v at its column.
 fn entry(k: usize, columns: &[u32], values: &[u32], v: &[u32]) -> u64

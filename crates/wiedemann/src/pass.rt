@@ -8,7 +8,7 @@ ghost use lib.ListN.{length, getD, set};
 ghost use Rattle.meaning.specs.Field.{isModulus};
 ghost use Rattle.meaning.specs.Matrix.{matrix};
 ghost use Rattle.meaning.specs.Solver.{projections, dot};
-ghost use Rattle.wiedemann.specs.Modulus.{Modular};
+ghost use Rattle.modular.specs.Modulus.{Modular};
 ghost use Rattle.checks.specs.Valid.{Valid, Vector};
 ghost use Rattle.laws.specs.Part.{part};
 ghost use Rattle.wiedemann.specs.Projection.{Words};
@@ -18,7 +18,6 @@ ghost use Rattle.meaning.specs.Refusal.{first};
 ghost use Rattle.wiedemann.specs.Pass.{residualAt, stateChecks, Passes};
 use crate::convolution::crossed;
 use crate::matrix::step_within;
-use crate::modulus::Modulus;
 use crate::projection::Projection;
 use crate::projection::projected;
 use crate::recurrence::shortest;
@@ -27,6 +26,7 @@ use checks::are_elements;
 use checks::matrix_refusal;
 use checks::words_taken;
 use field::Field;
+use modular::modulus::Modulus;
 
 // The region of the next iterate: the second after the first and the third, the third after the second.
 fn other(n: usize, from: usize) -> usize

@@ -4,19 +4,19 @@
 // The contracts cite the crate meaning (Recurrence: the steps and what is shortest; Calls: what a call refuses, answers and leaves) and
 // specs/Recurrence.antt (what regions and register hold).
 use crate::convolution::crossed;
-use crate::modulus::Modulus;
-use crate::multiplier::Multiplier;
 use crate::slice::clear;
 use crate::slice::copy;
 use crate::slice::transfer;
 use checks::recurrence_refusal;
 use field::Field;
+use modular::modulus::Modulus;
+use modular::multiplier::Multiplier;
 ghost use mathlib.Core.Path.{_≡_};
 ghost use Prim.Native.Nat.{ℕ, _+_, _≤_, _<_};
 ghost use lib.ListN.{length};
 ghost use Rattle.meaning.specs.List.{at};
 ghost use Rattle.meaning.specs.Field.{minus, times};
-ghost use Rattle.wiedemann.specs.Modulus.{Modular};
+ghost use Rattle.modular.specs.Modulus.{Modular};
 ghost use Rattle.laws.specs.Written.{Written};
 ghost use Rattle.wiedemann.specs.Recurrence.{Ready, BeforeStep, AfterSteps, HoldsGenerator, Recurred, Reversed, shifted, lengthened};
 

@@ -1,23 +1,18 @@
-use native.Mathlib.Omega.{arith}
-use Rattle.modular.specs.Modulus.{lessened}
+use Rattle.modular.specs.Modulus.{lessened-word}
 use borrow.Author.Needs.{needs}
 use Rattle.modular.proofs.modulus.lessened.Statement.{statement}
 use Rattle.modular.proofs.modulus.lessened.Tie as tie
 
-cast-wrapping-sub-u32 : tie.Need-cast-wrapping-sub-u32
-cast-wrapping-sub-u32 c = search needs
+wrapping-sub-u64-requires : tie.Need-wrapping-sub-u64-requires
+wrapping-sub-u64-requires c κs = search needs
 
-cast-wrapping-sub-u32-2 : tie.Need-cast-wrapping-sub-u32-2
-cast-wrapping-sub-u32-2 c = search needs
-
-wrapping-sub-u32-requires : tie.Need-wrapping-sub-u32-requires
-wrapping-sub-u32-requires c κs = search needs
+cast-result : tie.Need-cast-result
+cast-result c = search needs
 
 returns : tie.Need-returns
-unfolding lessened
-returns c = omega (arith, c .wrapping-sub-u32 .ensures, c .wrapping-sub-u32 .ok)
+returns c =
+    let a = c .before .args in
+    lessened-word (a .x) (a .y) (c .wrapping-sub-u64 .result) (c .wrapping-sub-u64 .ensures)
 
 pub lessened-spec : {M : Type 1} → statement M
-lessened-spec =
-    tie.close
-    (tie.spec cast-wrapping-sub-u32 cast-wrapping-sub-u32-2 wrapping-sub-u32-requires returns)
+lessened-spec = tie.close (tie.spec wrapping-sub-u64-requires cast-result returns)

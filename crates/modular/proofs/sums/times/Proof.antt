@@ -1,5 +1,5 @@
 use borrow.Author.Needs.{needs}
-use Rattle.modular.specs.Sums.{words-fit}
+use Rattle.modular.specs.Words.{words-fit}
 use Rattle.modular.proofs.sums.times.Statement.{statement}
 use Rattle.modular.proofs.sums.times.Tie as tie
 

@@ -17,6 +17,7 @@ use Prim.Native.Nat.{ℕ, _+_, _-_, _*_, _≤_}
 use mathlib.Core.Bool.{true}
 use mathlib.Core.List.{List, []}
 use mathlib.Core.Path.{_≡_, refl, sym, ap, _∙_, subst}
+use Rattle.modular.specs.Modulus.{Modular, modular-of}
 use borrow.Author.Needs.{needs}
 use Rattle.wiedemann.proofs.pass.make_pass.Statement.{statement}
 use Rattle.wiedemann.proofs.pass.make_pass.Tie as tie
@@ -33,6 +34,12 @@ state : (c : tie.Else2) → State (c .before .before .before .before .before .be
 state c =
     state-of (c .before .before .before .before .before .before .before .before .before .before .args .field .p) (length (now (c .before .before .before .before .before .before .before .before .before .before .args .starts)) - 1) (c .before .before .before .before .before .before .before .before .before .before .args .d) (now (c .before .before .before .before .before .before .before .before .before .before .args .words)) (now (c .before .before .before .before .before .before .before .before .before .before .args .work))
     (sym (c .before .state-refusal .ensures) ∙ c .if2 .left)
+
+-- the modulus that was made
+modulus : (c : tie.After-of) → (c .of .result .p ≡ c .before .before .before .before .before .before .before .before .before .before .before .before .args .field .p) × Modular (c .of .result)
+modulus c =
+    let known = valid (c .before .before .before .before .before) in
+    modular-of (c .of .result) (c .before .before .before .before .before .before .before .before .before .before .before .before .args .field .p) (c .of .ensures) (known .positive) (known .small)
 
 matrix-refusal-requires : tie.Need-matrix-refusal-requires
 matrix-refusal-requires c κs = search needs
@@ -73,7 +80,7 @@ residual-at-requires : tie.Need-residual-at-requires
 residual-at-requires c κs = search needs
 
 of-requires : tie.Need-of-requires
-of-requires c κs = (valid (c .before .before .before .before) .positive, valid (c .before .before .before .before) .small)
+of-requires c κs = search needs
 
 div-vectors : tie.Need-div-vectors
 div-vectors c = omega (arith, valid (c .before .before .before .before .before) .some)
@@ -104,11 +111,11 @@ take-factor-requires c κs =
     let below = s .below in
     let at-r = c .before .before .residual-at .ensures in
     let A = matrix (now (a .starts)) (now (a .columns)) (now (a .values)) in
-    let p = sym (c .before .of .ensures .0) in
+    let p = sym (modulus (c .before) .0) in
     rw at-r (
       (subst (λ x. Valid x A) p v, subst (λ x. isModulus x ≡ true) p (matrix-modulus (a .field .p) A (passed (c .before .before .before .before .before .before)))),
       (
-        (c .before .of .ensures .1, omega (arith, below), omega (arith, v .sized), s .words-taken),
+        (modulus (c .before) .1, omega (arith, below), omega (arith, v .sized), s .words-taken),
         (
           omega (arith, long, room, below),
           subst (λ x. Vector x n (part 0 n (part (residualAt n) m W))) p
@@ -195,12 +202,12 @@ multiply-requires c κs =
     let t = c .before .before .before .take-factor .result in
     let f = c .before .before .before .before .before .before .residual-at .result + (3 * n + (2 * (n - a .d) + 2)) in
     let P = c .before .before .before .before .before .of .result .p in
-    let e : a .field .p ≡ P = sym (c .before .before .before .before .before .of .ensures .0) in
+    let e : a .field .p ≡ P = sym (modulus (c .before .before .before .before .before) .0) in
     let A = matrix (now (a .starts)) (now (a .columns)) (now (a .values)) in
-    let modulus = subst (λ x. isModulus x ≡ true) {x = a .field .p} {y = P} e (matrix-modulus (a .field .p) A (passed (c .before .before .before .before .before .before .before .before .before .before))) in
+    let prime = subst (λ x. isModulus x ≡ true) {x = a .field .p} {y = P} e (matrix-modulus (a .field .p) A (passed (c .before .before .before .before .before .before .before .before .before .before))) in
     let factor = subst (λ x. Vector x (a .d + 1) (part 0 (a .d + 1) (now (a .work)))) {x = a .field .p} {y = P} e (s .factor) in (
-      c .before .before .before .before .before .of .ensures .1,
-      narrowed-factors (a .d) t (isModulus-Prime P modulus) (v .sized) (s .below) factor (done (c .before)) f (f + t + 1 - 0)
+      modulus (c .before .before .before .before .before) .1,
+      narrowed-factors (a .d) t (isModulus-Prime P prime) (v .sized) (s .below) factor (done (c .before)) f (f + t + 1 - 0)
           (ap (λ x. x + (3 * n + (2 * (n - a .d) + 2))) place) (omega arith) (omega (arith, s .below, s .room, place, done (c .before) .short)),
     )
 
@@ -249,7 +256,7 @@ returns-3 c =
       product .same-length ∙ long,
       λ qs.
           made {p = P} {A = A} {u = u} {W = W} (a .d) t below room found f (ap (λ x. x + (3 * n + (2 * (n - a .d) + 2))) place) product qs
-          ∙ ap (λ x. pass x A (getD (projections x n (now (a .words))) (a .j) []) (held n W (a .d) qs)) (c .before .before .before .before .before .before .before .before .of .ensures .0),
+          ∙ ap (λ x. pass x A (getD (projections x n (now (a .words))) (a .j) []) (held n W (a .d) qs)) (modulus (c .before .before .before .before .before .before .before .before) .0),
     )
 
 pub make-pass-spec : {M : Type 1} → statement M

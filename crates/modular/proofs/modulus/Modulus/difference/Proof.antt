@@ -1,25 +1,21 @@
 use mathlib.Core.Path.{ap, _∙_}
-use Rattle.modular.specs.Modulus.{reduced, differenceOf}
 use borrow.Author.Needs.{needs}
+use Rattle.modular.specs.Modulus.{restored, lessened-half, differenceOf}
 use Rattle.modular.proofs.modulus.Modulus.difference.Statement.{statement}
 use Rattle.modular.proofs.modulus.Modulus.difference.Tie as tie
 
-cast-lessened : tie.Need-cast-lessened
-cast-lessened c = search needs
+wrapping-sub-u32-requires : tie.Need-wrapping-sub-u32-requires
+wrapping-sub-u32-requires c κs = search needs
 
-add-lessened : tie.Need-add-lessened
-add-lessened c = search needs
-
-lessened-requires : tie.Need-lessened-requires
-lessened-requires c κs = search needs
-
-reduced-requires : tie.Need-reduced-requires
-reduced-requires c κs = search needs
+restored-requires : tie.Need-restored-requires
+restored-requires c κs = search needs
 
 returns : tie.Need-returns
 unfolding differenceOf
-returns c = c .reduced .ensures ∙ ap (reduced (c .before .before .args .self .p)) (c .before .lessened .ensures)
+returns c =
+    let a = c .before .before .args in
+    let d = c .before .wrapping-sub-u32 in
+    c .restored .ensures ∙ ap (restored (a .self .p)) (lessened-half (a .a) (a .b) (d .result) (d .ensures) (d .ok))
 
 pub difference-spec : {M : Type 1} → statement M
-difference-spec =
-    tie.close (tie.spec cast-lessened add-lessened lessened-requires reduced-requires returns)
+difference-spec = tie.close (tie.spec wrapping-sub-u32-requires restored-requires returns)

@@ -4,7 +4,7 @@ use Prim.Native.Nat.{_*_, _%_}
 use native.Mathlib.Omega.{arith}
 use Rattle.residue.specs.Numbers.{mod-mul-mod}
 use Rattle.modular.specs.Modulus.{reduced, lessened, lessened-mod, barrett}
-use Rattle.modular.specs.Sums.{words-fit}
+use Rattle.modular.specs.Words.{words-fit}
 use borrow.Author.Needs.{needs}
 use Rattle.modular.proofs.modulus.Modulus.remainder.Statement.{statement}
 use Rattle.modular.proofs.modulus.Modulus.remainder.Tie as tie

@@ -2,7 +2,7 @@ use mathlib.Core.Path.{ap, ap₂, _∙_}
 use Prim.Native.Nat.{_*_, _/_}
 use native.Mathlib.Omega.{arith}
 use Rattle.modular.specs.Modulus.{reduced, lessened, shoup}
-use Rattle.modular.specs.Sums.{words-fit}
+use Rattle.modular.specs.Words.{words-fit}
 use borrow.Author.Needs.{needs}
 use Rattle.modular.proofs.multiplier.Multiplier.times.Statement.{statement}
 use Rattle.modular.proofs.multiplier.Multiplier.times.Tie as tie
