@@ -22,10 +22,11 @@ use Rattle.meaning.specs.Field.{minus, times}
 use Rattle.meaning.specs.Recurrence.{Steps, discrepancy, update, steps}
 use Rattle.laws.specs.List.{sum-ext}
 use Rattle.laws.specs.Recurrence.{times-lt, step-zero, step-stay, step-grow, steps-zero, steps-at, Regular, steps-regular}
-use Rattle.wiedemann.specs.declared.sums.Total.{Total}
+use Rattle.modular.specs.declared.sums.Total.{Total}
 use Rattle.wiedemann.specs.declared.recurrence.Register.{Register}
 use Rattle.laws.specs.Written.{Written}
-use Rattle.wiedemann.specs.Sums.{number, Summed}
+use Rattle.modular.specs.Total.{number}
+use Rattle.modular.specs.Sums.{Summed}
 use Rattle.wiedemann.specs.Projection.{sumFrom-zero}
 use Rattle.wiedemann.specs.Convolution.{cross, Crossing, nothing}
 use Rattle.wiedemann.specs.Recurrence.{Ready, HoldsSteps, BeforeStep, shifted, lengthened, AfterSteps}

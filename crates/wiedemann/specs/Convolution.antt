@@ -8,7 +8,7 @@ use mathlib.Core.List.{List}
 use native.Mathlib.Omega.{arith}
 use lib.ListN.{length}
 use Rattle.meaning.specs.List.{at}
-use Rattle.wiedemann.specs.declared.sums.Total.{Total}
+use Rattle.modular.specs.declared.sums.Total.{Total}
 
 abbrev pub cross : List ℕ → ℕ → ℕ → ℕ → ℕ
 cross W forward backward i = at W (forward + i) * at W (backward - i)

@@ -33,8 +33,9 @@ use Rattle.checks.specs.Valid.{vector-of, elements-of}
 use Rattle.wiedemann.specs.declared.recurrence.Answer.{Answer}
 use Rattle.wiedemann.specs.declared.recurrence.Answer.the-variants.{Degree, Refused}
 use Rattle.laws.specs.List.{sum-ext, sum-zeros, table-of}
-use Rattle.wiedemann.specs.declared.sums.Total.{Total}
-use Rattle.wiedemann.specs.Sums.{number, Summed, sumFrom-split, sumFrom-ext}
+use Rattle.modular.specs.declared.sums.Total.{Total}
+use Rattle.modular.specs.Total.{number}
+use Rattle.modular.specs.Sums.{Summed, sumFrom-split, sumFrom-ext}
 use Rattle.wiedemann.specs.Convolution.{cross, Crossing, nothing}
 use Rattle.laws.specs.Part.{part, length-part, at-part}
 use Rattle.wiedemann.specs.Projection.{sumFrom-zero}

@@ -27,8 +27,8 @@ use Rattle.meaning.specs.Matrix.{Matrix, size, product, power, apply}
 use Rattle.laws.specs.List.{sum-zero, sum-suc, sum-ext, sum-zeros, sum-add, sum-mod, length-table, getD-table, table-ext}
 use Rattle.residue.specs.Numbers.{mul-mod-mod}
 use Rattle.checks.specs.Valid.{Valid, Vector, term, rowProduct}
-use Rattle.wiedemann.specs.declared.sums.Total.{Total}
-use Rattle.wiedemann.specs.Sums.{number}
+use Rattle.modular.specs.declared.sums.Total.{Total}
+use Rattle.modular.specs.Total.{number}
 
 abbrev pub stepAt : ℕ → Matrix → ℕ → List ℕ → List ℕ → ℕ → ℕ
 stepAt p A c x v i = (c * at x i + rowProduct A v i) % p

@@ -1,6 +1,4 @@
 -- what the contracts cite
-pub mod Modulus
-pub mod Sums
 pub mod Convolution
 pub mod Region
 pub mod Horner

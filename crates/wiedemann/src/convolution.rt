@@ -1,10 +1,10 @@
 // Coefficients of products of polynomials: two regions of one slice, one read forwards and the other backwards.
-use crate::sums::Total;
-use crate::sums::times;
+use modular::sums::Total;
+use modular::sums::times;
 ghost use mathlib.Core.Path.{_≡_};
 ghost use Prim.Native.Nat.{_+_, _≤_};
 ghost use Rattle.meaning.specs.List.{sumFrom};
-ghost use Rattle.wiedemann.specs.Sums.{Summed};
+ghost use Rattle.modular.specs.Sums.{Summed};
 ghost use Rattle.wiedemann.specs.Convolution.{cross, Crossing, nothing};
 
 // The product of the elements at `forward` + i and at `backward` − i.

@@ -1,12 +1,12 @@
 // The product of two polynomials in one slice: F at its front, f further up. It takes F's place.
 use crate::convolution::crossed;
-use crate::modulus::Modulus;
+use modular::modulus::Modulus;
 use crate::recurrence::Answer;
 use checks::are_elements;
 ghost use mathlib.Core.Path.{_≡_};
 ghost use Prim.Native.Nat.{_+_, _≤_};
 ghost use lib.ListN.{length};
-ghost use Rattle.wiedemann.specs.Modulus.{Modular};
+ghost use Rattle.modular.specs.Modulus.{Modular};
 ghost use Rattle.wiedemann.specs.Factor.{Factors, productAt, Multiplied, factorsFit, factorsRefusal, GivesProduct};
 
 // Coefficient k of the product of F, of degree d, and f, of degree t at `f`: the sum over the places where both have a coefficient.

@@ -2,10 +2,7 @@
 mod convolution;
 pub mod factor;
 pub mod matrix;
-mod modulus;
-mod multiplier;
 pub mod offered;
 pub mod pass;
 mod projection;
 pub mod recurrence;
-mod sums;

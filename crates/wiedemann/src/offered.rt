@@ -1,10 +1,10 @@
 // Two checks of a vector that anyone offers: does A take x to b, and is w not zero and taken to zero. Neither needs the solver.
 use crate::matrix::row;
-use crate::modulus::Modulus;
 use checks::system_refusal;
 use checks::takes_refusal;
 use checks::wide;
 use field::Field;
+use modular::modulus::Modulus;
 use slices::element;
 use slices::is_zero;
 ghost use mathlib.Core.Path.{_≡_};
@@ -15,7 +15,7 @@ ghost use Rattle.meaning.specs.List.{at, all, isZero};
 ghost use Rattle.meaning.specs.Matrix.{matrix, product};
 ghost use Rattle.meaning.specs.Calls.{takesRefusal, takesAnswer, isNullRefusal, isNullAnswer};
 ghost use Rattle.checks.specs.Valid.{Valid, Vector};
-ghost use Rattle.wiedemann.specs.Modulus.{Modular};
+ghost use Rattle.modular.specs.Modulus.{Modular};
 ghost use Rattle.wiedemann.specs.Answers.{Decides};
 
 // What a check of an offered vector answers.

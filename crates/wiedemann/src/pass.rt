@@ -8,7 +8,7 @@ ghost use lib.ListN.{length, getD, set};
 ghost use Rattle.meaning.specs.Field.{isModulus};
 ghost use Rattle.meaning.specs.Matrix.{matrix};
 ghost use Rattle.meaning.specs.Solver.{projections, dot};
-ghost use Rattle.wiedemann.specs.Modulus.{Modular};
+ghost use Rattle.modular.specs.Modulus.{Modular};
 ghost use Rattle.checks.specs.Valid.{Valid, Vector};
 ghost use Rattle.laws.specs.Part.{part};
 ghost use Rattle.wiedemann.specs.Projection.{Words};
@@ -17,7 +17,6 @@ ghost use Rattle.wiedemann.specs.Pass.{generatorAt, Makes, Passes};
 ghost use Rattle.checks.specs.Pass.{State};
 use crate::factor::multiply;
 use crate::matrix::step_within;
-use crate::modulus::Modulus;
 use crate::projection::Projection;
 use crate::projection::projected;
 use crate::recurrence::Answer;
@@ -25,6 +24,7 @@ use crate::recurrence::generate;
 use checks::pass_refusal;
 use checks::residual_at;
 use field::Field;
+use modular::modulus::Modulus;
 use slices::copy_within;
 
 // The region of the next iterate: the second after the first and the third, the third after the second.

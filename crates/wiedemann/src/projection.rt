@@ -6,12 +6,12 @@ ghost use mathlib.Core.List.{[]};
 ghost use Rattle.meaning.specs.List.{at, sumFrom, table};
 ghost use Rattle.meaning.specs.Solver.{dot, projections};
 ghost use Rattle.checks.specs.Valid.{Vector};
-ghost use Rattle.wiedemann.specs.Modulus.{Modular};
-ghost use Rattle.wiedemann.specs.Sums.{Summed};
+ghost use Rattle.modular.specs.Modulus.{Modular};
+ghost use Rattle.modular.specs.Sums.{Summed};
 ghost use Rattle.wiedemann.specs.Projection.{wordTerm, Raw, Words};
-use crate::modulus::Modulus;
-use crate::sums::Total;
-use crate::sums::times;
+use modular::modulus::Modulus;
+use modular::sums::Total;
+use modular::sums::times;
 use slices::element;
 
 // A projection of a run, by its place among all of them: the first `vectors` are made of the random words, the others are the unit vectors.

@@ -4,11 +4,11 @@
 // The contracts cite the crate meaning (Recurrence: the steps and what is shortest; Calls: what a call refuses, answers and leaves) and
 // specs/Recurrence.antt (what regions and register hold).
 use crate::convolution::crossed;
-use crate::modulus::Modulus;
-use crate::multiplier::Multiplier;
 use checks::are_elements;
 use checks::recurrence_refusal;
 use field::Field;
+use modular::modulus::Modulus;
+use modular::multiplier::Multiplier;
 use slices::clear;
 use slices::copy_within;
 ghost use mathlib.Core.Path.{_≡_};
@@ -16,7 +16,7 @@ ghost use Prim.Native.Nat.{ℕ, _+_, _≤_, _<_};
 ghost use lib.ListN.{length};
 ghost use Rattle.meaning.specs.List.{at};
 ghost use Rattle.meaning.specs.Field.{minus, times};
-ghost use Rattle.wiedemann.specs.Modulus.{Modular};
+ghost use Rattle.modular.specs.Modulus.{Modular};
 ghost use Rattle.laws.specs.Written.{Written};
 ghost use Rattle.wiedemann.specs.Recurrence.{Ready, BeforeStep, AfterSteps, HoldsGenerator, termsRefusal, Generates, Recurred, Reversed, shifted, lengthened};
 

@@ -1,4 +1,4 @@
-use Rattle.wiedemann.specs.Sums.{words-fit}
+use Rattle.modular.specs.Words.{words-fit}
 use Rattle.meaning.specs.Field.{minus, times}
 use native.Mathlib.Nat.{mod-lt, mod-eq-of-lt, mod-self, zero-add}
 use native.Mathlib.Omega.{arith}

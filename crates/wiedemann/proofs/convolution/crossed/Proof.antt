@@ -3,8 +3,9 @@ use mathlib.Core.Path.{_≡_, sym, _∙_, subst}
 use Prim.Native.Nat.{_+_, _-_, _%_, _≤_}
 use native.Mathlib.Omega.{arith}
 use denote.Ref.{now}
-use Rattle.wiedemann.specs.Sums.{Summed, summed-none, summed-more, sumFrom-one}
+use Rattle.modular.specs.Sums.{Summed, summed-none, summed-more, sumFrom-one}
 use Rattle.wiedemann.specs.Convolution.{cross, crossing-within, nothing}
+use borrow.Author.Needs.{needs}
 use Rattle.wiedemann.proofs.convolution.crossed.Statement.{statement}
 use Rattle.wiedemann.proofs.convolution.crossed.Tie as tie
 
@@ -34,7 +35,7 @@ loop-holds c =
       omega arith,
       omega (arith, order),
       omega (arith, order),
-      summed-none nothing (a .from) (cross (now (a .work)) (a .forward) (a .backward)) (omega arith),
+      summed-none nothing (a .from) (cross (now (a .work)) (a .forward) (a .backward)) (omega arith) (omega arith),
     )
 
 four-requires : tie.Need-four-requires Inv-loop μ-loop Inv-loop2 μ-loop2
@@ -43,9 +44,7 @@ four-requires c κs =
     crossing-within (l .i) (l .i + 4) (c .before .before .before .pre) (l .inv .0) (omega arith) (omega (arith, c .loop-test .taken, l .inv .2))
 
 add-requires : tie.Need-add-requires Inv-loop μ-loop Inv-loop2 μ-loop2
-add-requires c κs =
-    let l = c .before .before .loop in
-    omega (arith, l .inv .3 .carries, l .inv .1, c .before .before .before .before .pre .few)
+add-requires c κs = search needs
 
 add-i : tie.Need-add-i Inv-loop μ-loop Inv-loop2 μ-loop2
 add-i c = omega (arith, c .before .before .before .loop .inv .1, c .before .before .before .before .before .pre .few)
@@ -58,12 +57,13 @@ loop-again c =
     let a = c .before .before .before .before .before .args in
     let l = c .before .before .before .loop in
     let test = c .before .before .loop-test .taken in
+    let few = c .before .before .before .before .before .pre .few in
     let f = cross (now (a .work)) (a .forward) (a .backward) in (
       omega (arith, l .inv .0),
       omega (arith, test, l .inv .2),
       omega (arith, test, l .inv .2),
       summed-more nothing (l .total) (c .add .result) (a .from) (l .i) (l .i + 4) f (c .before .four .result)
-          (l .inv .0) (omega arith) (l .inv .3) (c .before .four .ensures) (c .add .ensures),
+          (l .inv .0) (omega arith) (omega (arith, test, l .inv .2, few)) (l .inv .3) (c .before .four .ok) (c .before .four .ensures) (c .add .ensures),
     )
 
 loop2-holds : tie.Need-loop2-holds Inv-loop μ-loop Inv-loop2 μ-loop2
@@ -77,9 +77,7 @@ pair-requires c κs =
     crossing-within (l .i) (l .i + 1) (c .before .before .before .before .before .pre) (l .inv .0) (omega arith) (omega (arith, c .loop2-test .taken))
 
 add-requires-2 : tie.Need-add-requires-2 Inv-loop μ-loop Inv-loop2 μ-loop2
-add-requires-2 c κs =
-    let l = c .before .before .loop2 in
-    omega (arith, l .inv .2 .carries, l .inv .1, c .before .before .before .before .before .before .pre .few)
+add-requires-2 c κs = search needs
 
 add-i-2 : tie.Need-add-i-2 Inv-loop μ-loop Inv-loop2 μ-loop2
 add-i-2 c = omega (arith, c .before .before .before .loop2 .inv .1, c .before .before .before .before .before .before .before .pre .few)
@@ -91,11 +89,13 @@ loop2-again : tie.Need-loop2-again Inv-loop μ-loop Inv-loop2 μ-loop2
 loop2-again c =
     let a = c .before .before .before .before .before .before .before .args in
     let l = c .before .before .before .loop2 in
+    let test = c .before .before .loop2-test .taken in
+    let few = c .before .before .before .before .before .before .before .pre .few in
     let f = cross (now (a .work)) (a .forward) (a .backward) in (
       omega (arith, l .inv .0),
-      omega (arith, c .before .before .loop2-test .taken),
+      omega (arith, test),
       summed-more nothing (l .total) (c .add2 .result) (a .from) (l .i) (l .i + 1) f (c .before .pair .result)
-          (l .inv .0) (omega arith) (l .inv .2) (c .before .pair .ensures .0 ∙ sym (sumFrom-one (l .i) f)) (c .add2 .ensures),
+          (l .inv .0) (omega arith) (omega (arith, test, few)) (l .inv .2) (c .before .pair .ok) (c .before .pair .ensures .0 ∙ sym (sumFrom-one (l .i) f)) (c .add2 .ensures),
     )
 
 returns : tie.Need-returns Inv-loop μ-loop Inv-loop2 μ-loop2

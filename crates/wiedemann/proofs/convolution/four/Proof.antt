@@ -3,7 +3,7 @@ use mathlib.Core.Path.{sym, ap₂, _∙_}
 use Prim.Native.Nat.{_+_}
 use native.Mathlib.Omega.{arith}
 use denote.Ref.{now}
-use Rattle.wiedemann.specs.Sums.{sumFrom-four}
+use Rattle.modular.specs.Sums.{sumFrom-four}
 use Rattle.wiedemann.specs.Convolution.{cross, crossing-within}
 use Rattle.wiedemann.proofs.convolution.four.Statement.{statement}
 use Rattle.wiedemann.proofs.convolution.four.Tie as tie

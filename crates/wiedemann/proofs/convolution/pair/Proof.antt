@@ -5,7 +5,7 @@ use native.Mathlib.Omega.{arith}
 use denote.Ref.{now}
 use borrow.Author.Needs.{needs}
 use Rattle.meaning.specs.List.{at}
-use Rattle.wiedemann.specs.Sums.{residues-fit}
+use Rattle.modular.specs.Words.{residues-fit}
 use Rattle.wiedemann.proofs.convolution.pair.Statement.{statement}
 use Rattle.wiedemann.proofs.convolution.pair.Tie as tie
 

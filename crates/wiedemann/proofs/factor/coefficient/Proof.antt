@@ -1,6 +1,8 @@
 use Rattle.wiedemann.specs.Factor.{Meeting, crossing, coefficient}
 use mathlib.Core.Logic.{inl, inr, ⊎-elim}
 use native.Mathlib.Omega.{arith}
+use Rattle.modular.specs.Total.{residue-number}
+use mathlib.Core.Path.{_∙_}
 use borrow.Author.Needs.{needs}
 use Rattle.wiedemann.proofs.factor.coefficient.Statement.{statement}
 use Rattle.wiedemann.proofs.factor.coefficient.Tie as tie
@@ -29,13 +31,15 @@ crossed-requires : tie.Need-crossed-requires
 crossed-requires c κs = let pre = c .before .before .before .pre in crossing (pre .1) (meeting c) (pre .0 .small)
 
 residue-requires : tie.Need-residue-requires
-residue-requires c κs =
-    let pre = c .before .before .before .before .pre in
-    (pre .0, omega (arith, c .crossed .ensures .carries, meeting (c .before) .short, pre .1 .few))
+residue-requires c κs = search needs
 
 returns : tie.Need-returns
 returns c =
-    coefficient (c .before .before .before .before .before .pre .1) (meeting (c .before .before)) (c .before .crossed .result) (c .residue .result) (c .before .crossed .ensures) (c .residue .ensures)
+    let start = c .before .before .before .before .before in
+    let sum = c .before .crossed in
+    coefficient (start .pre .1) (meeting (c .before .before)) (sum .result) (c .residue .result) (sum .ensures)
+    (c .residue .ensures ∙ residue-number (start .args .m) (sum .result) (start .pre .0) (sum .ensures .low)
+    (omega (arith, sum .ensures .carries, meeting (c .before .before) .short, start .pre .1 .few)))
 
 pub coefficient-spec : {M : Type 1} → statement M
 coefficient-spec =

@@ -9,6 +9,7 @@ use Rattle.meaning.specs.Calls.{applyRefusal}
 use Rattle.checks.specs.Matrix.{Applicable, apply-accepted}
 use Rattle.wiedemann.specs.Answers.{writes-refused, writes-done}
 use Rattle.laws.specs.Part.{length-part}
+use Rattle.modular.specs.Modulus.{Modular, modular-of}
 use borrow.Author.Needs.{needs}
 use Rattle.wiedemann.proofs.matrix.apply.Statement.{statement}
 use Rattle.wiedemann.proofs.matrix.apply.Tie as tie
@@ -24,6 +25,12 @@ accepted : (c : tie.Else1)
 accepted c =
     let at = c .before .before .before .before .before .before .before .before .before .before .before .args in
     apply-accepted (at .field .p) (matrix (now (at .starts)) (now (at .columns)) (now (at .values))) (now (at .g)) (now (at .v)) (now (at .out)) (now (at .work)) (none c)
+
+-- the modulus that was made
+modulus : (c : tie.After-of) → (c .of .result .p ≡ c .before .before .before .before .before .before .before .before .before .before .before .before .args .field .p) × Modular (c .of .result)
+modulus c =
+    let known = accepted (c .before) .valid in
+    modular-of (c .of .result) (c .before .before .before .before .before .before .before .before .before .before .before .before .args .field .p) (c .of .ensures) (known .positive) (known .small)
 
 apply-refusal-requires : tie.Need-apply-refusal-requires
 apply-refusal-requires c κs = search needs
@@ -44,7 +51,7 @@ returns c =
     (said .0, (said .1, λ q. refl))
 
 of-requires : tie.Need-of-requires
-of-requires c κs = (accepted c .valid .positive, accepted c .valid .small)
+of-requires c κs = search needs
 
 mul-horner : tie.Need-mul-horner
 mul-horner c = search needs
@@ -61,12 +68,12 @@ part-horner-end c = let known = accepted (c .before .before) in omega (arith, kn
 horner-requires : tie.Need-horner-requires
 horner-requires c κs =
     let at = c .before .before .before .before .before .before .before .before .before .before .before .before .before .before .args in
-    let m = c .before .before .of in
+    let made = modulus (c .before .before) in
     let n = length (now (at .v)) in
     let known =
-    subst (λ p. Applicable p (matrix (now (at .starts)) (now (at .columns)) (now (at .values))) (now (at .g)) (now (at .v)) (now (at .out)) (now (at .work))) (sym (m .ensures .0)) (accepted (c .before .before .before)) in
+    subst (λ p. Applicable p (matrix (now (at .starts)) (now (at .columns)) (now (at .values))) (now (at .g)) (now (at .v)) (now (at .out)) (now (at .work))) (sym (made .0)) (accepted (c .before .before .before)) in
     let lent = length-part 0 (n - 0) (now (at .work)) (omega (arith, known .vector .places, known .room)) ∙ sub-zero n ∙ known .vector .places in
-    (known .valid, (m .ensures .1, known .places, lent, known .vector, known .some, known .coefficients))
+    (known .valid, (made .1, known .places, lent, known .vector, known .some, known .coefficients))
 
 same-length-3 : tie.Need-same-length-3
 same-length-3 c = search needs
@@ -82,7 +89,7 @@ returns-2 c =
     let made = c .before .before .before .before .horner in
     let said =
     writes-done (applyRefusal (at .field .p) A (now (at .g)) (now (at .v)) (now (at .out)) (now (at .work))) (apply (at .field .p) A (now (at .g)) (now (at .v)))
-    (now (at .out)) (made .last .1 .1 .1 .1 .1 .1 .0) zero (made .ensures ∙ ap (λ p. apply p A (now (at .g)) (now (at .v))) (c .before .before .before .before .before .before .before .of .ensures .0)) in
+    (now (at .out)) (made .last .1 .1 .1 .1 .1 .1 .0) zero (made .ensures ∙ ap (λ p. apply p A (now (at .g)) (now (at .v))) (modulus (c .before .before .before .before .before .before .before) .0)) in
     (said .0, (said .1, λ q. absurd (q zero)))
 
 pub apply-spec : {M : Type 1} → statement M

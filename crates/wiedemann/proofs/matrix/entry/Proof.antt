@@ -3,7 +3,7 @@ use Prim.Native.Nat.{_*_, _<_}
 use native.Mathlib.Omega.{arith}
 use lib.ListN.{length, getD}
 use denote.Ref.{now}
-use Rattle.wiedemann.specs.Sums.{residues-fit}
+use Rattle.modular.specs.Words.{residues-fit}
 use borrow.Author.Needs.{needs}
 use Rattle.wiedemann.proofs.matrix.entry.Statement.{statement}
 use Rattle.wiedemann.proofs.matrix.entry.Tie as tie

@@ -1,6 +1,6 @@
 use native.Mathlib.Omega.{arith}
 use denote.Ref.{now}
-use Rattle.wiedemann.specs.Sums.{four-added}
+use Rattle.modular.specs.Sums.{four-added}
 use Rattle.checks.specs.Valid.{term}
 use Rattle.wiedemann.proofs.matrix.four.Statement.{statement}
 use Rattle.wiedemann.proofs.matrix.four.Tie as tie

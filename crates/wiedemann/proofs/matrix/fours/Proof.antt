@@ -2,8 +2,9 @@ use mathlib.Core.Path.{_≡_}
 use Prim.Native.Nat.{_+_, _-_, _%_, _≤_}
 use native.Mathlib.Omega.{arith}
 use denote.Ref.{now}
-use Rattle.wiedemann.specs.Sums.{Summed, summed-none, summed-more}
+use Rattle.modular.specs.Sums.{Summed, summed-none, summed-more}
 use Rattle.checks.specs.Valid.{term}
+use borrow.Author.Needs.{needs}
 use Rattle.wiedemann.proofs.matrix.fours.Statement.{statement}
 use Rattle.wiedemann.proofs.matrix.fours.Tie as tie
 
@@ -21,7 +22,7 @@ loop-holds c =
       omega arith,
       start .pre .1 .0,
       start .pre .1 .3,
-      summed-none (at .total) (at .from) (term (now (at .columns)) (now (at .values)) (now (at .v))) (start .pre .1 .2),
+      summed-none (at .total) (at .from) (term (now (at .columns)) (now (at .values)) (now (at .v))) (omega (arith, start .good)) (start .pre .1 .2),
     )
 
 four-requires : tie.Need-four-requires Inv-loop μ-loop
@@ -30,10 +31,7 @@ four-requires c κs =
     (pre .0, omega (arith, c .loop-test .taken, c .before .loop .inv .2, pre .1 .1))
 
 add-requires : tie.Need-add-requires Inv-loop μ-loop
-add-requires c κs =
-    let start = c .before .before .before .before .before .before in
-    let held = c .before .before .loop .inv in
-    omega (arith, held .1, held .3 .carries, start .pre .1 .1, start .pre .0 .few)
+add-requires c κs = search needs
 
 add-k : tie.Need-add-k Inv-loop μ-loop
 add-k c =
@@ -55,7 +53,7 @@ loop-again c =
       omega (arith, test, loop .inv .2),
       omega (arith, test, loop .inv .2),
       summed-more (at .total) (loop .sum) (c .add .result) (at .from) k (k + 4) f (c .before .four .result)
-          (loop .inv .0) (omega arith) (loop .inv .3) (c .before .four .ensures) (c .add .ensures),
+          (loop .inv .0) (omega arith) (omega (arith, test, start .pre .1 .1, start .pre .0 .few)) (loop .inv .3) (c .before .four .ok) (c .before .four .ensures) (c .add .ensures),
     )
 
 returns : tie.Need-returns Inv-loop μ-loop

@@ -1,4 +1,4 @@
-use mathlib.Core.Path.{ap, _∙_}
+use mathlib.Core.Path.{_≡_, ap, _∙_}
 use Prim.Native.Nat.{_-_, _≤_}
 use native.Mathlib.Omega.{arith}
 use lib.ListN.{length, getD}
@@ -6,6 +6,7 @@ use denote.Ref.{now}
 use Rattle.meaning.specs.Field.{times}
 use Rattle.laws.specs.Written.{Written, written-none, written-all}
 use Rattle.laws.specs.Part.{written-next, written-table}
+use Rattle.modular.specs.Modulus.{Multiplies, multiplies-of, times-of}
 use borrow.Author.Needs.{needs}
 use Rattle.wiedemann.proofs.matrix.multiple.Statement.{statement}
 use Rattle.wiedemann.proofs.matrix.multiple.Tie as tie
@@ -15,6 +16,11 @@ Inv-loop p c v out₀ multiplier i₀ out i = (i ≤ length v) × Written out₀
 
 abbrev μ-loop : tie.MeasureT-loop
 μ-loop p c v out₀ multiplier i₀ out i = length v - i
+
+made : (c : tie.After-of Inv-loop μ-loop) → let at = c .before .before .before .args in (c .of .result .constant ≡ at .c) × Multiplies (at .p) (c .of .result)
+made c =
+    let start = c .before .before .before in
+    multiplies-of (c .of .result) (start .args .p) (start .args .c) (c .of .ensures) (start .pre .0) (start .pre .1)
 
 of-requires : tie.Need-of-requires Inv-loop μ-loop
 of-requires c κs = search needs
@@ -31,7 +37,7 @@ shared-slice-read-times : tie.Need-shared-slice-read-times Inv-loop μ-loop
 shared-slice-read-times c = search needs
 
 times-requires : tie.Need-times-requires Inv-loop μ-loop
-times-requires c κs = c .before .before .before .of .ensures .1
+times-requires c κs = search needs
 
 mul-out : tie.Need-mul-out Inv-loop μ-loop
 mul-out c = search needs
@@ -50,10 +56,13 @@ loop-again c =
     let start = c .before .before .before .before .before .before .before in
     let at = start .args in
     let test = c .before .before .loop-test .taken in
-    let loop = c .before .before .before .loop in (
+    let loop = c .before .before .before .loop in
+    let k = c .before .before .before .before in (
       omega (arith, test),
       written-next (c .times .result) (loop .inv .1) (omega (arith, test, start .pre .2))
-          (c .times .ensures ∙ ap (λ k. times (at .p) k (getD (now (at .v)) (loop .i) 0)) (c .before .before .before .before .of .ensures .0)),
+          (c .times .ensures
+          ∙ times-of (at .p) (k .of .result) (made k .1) (getD (now (at .v)) (loop .i) 0) (omega (arith, c .before .shared-slice-known2 .given (loop .i)))
+          ∙ ap (λ k. times (at .p) k (getD (now (at .v)) (loop .i) 0)) (made k .0)),
     )
 
 same-length : tie.Need-same-length Inv-loop μ-loop

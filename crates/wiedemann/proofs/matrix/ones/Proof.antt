@@ -2,8 +2,9 @@ use mathlib.Core.Path.{_≡_}
 use Prim.Native.Nat.{_-_, _≤_}
 use native.Mathlib.Omega.{arith}
 use denote.Ref.{now}
-use Rattle.wiedemann.specs.Sums.{Summed, summed-none, summed-one}
+use Rattle.modular.specs.Sums.{Summed, summed-none, summed-one}
 use Rattle.checks.specs.Valid.{term}
+use borrow.Author.Needs.{needs}
 use Rattle.wiedemann.proofs.matrix.ones.Statement.{statement}
 use Rattle.wiedemann.proofs.matrix.ones.Tie as tie
 
@@ -20,17 +21,14 @@ loop-holds c =
     let at = start .args in (
       omega arith,
       start .pre .1 .0,
-      summed-none (at .total) (at .from) (term (now (at .columns)) (now (at .values)) (now (at .v))) (start .pre .1 .2),
+      summed-none (at .total) (at .from) (term (now (at .columns)) (now (at .values)) (now (at .v))) (omega (arith, start .good)) (start .pre .1 .2),
     )
 
 entry-requires : tie.Need-entry-requires Inv-loop μ-loop
 entry-requires c κs = let pre = c .before .before .before .before .before .pre in (pre .0, omega (arith, c .loop-test .taken, pre .1 .1))
 
 add-requires : tie.Need-add-requires Inv-loop μ-loop
-add-requires c κs =
-    let start = c .before .before .before .before .before .before in
-    let held = c .before .before .loop .inv in
-    omega (arith, held .1, held .2 .carries, start .pre .1 .1, start .pre .0 .few)
+add-requires c κs = search needs
 
 add-k : tie.Need-add-k Inv-loop μ-loop
 add-k c =
@@ -49,8 +47,8 @@ loop-again c =
     let f = term (now (at .columns)) (now (at .values)) (now (at .v)) in (
       omega (arith, loop .inv .0),
       omega (arith, test),
-      summed-one (at .total) (loop .sum) (c .add .result) (at .from) (loop .k) f (c .before .entry .result) (loop .inv .0) (loop .inv .2)
-          (c .before .entry .ensures .0) (c .add .ensures),
+      summed-one (at .total) (loop .sum) (c .add .result) (at .from) (loop .k) f (c .before .entry .result) (loop .inv .0)
+          (omega (arith, test, start .pre .1 .1, start .pre .0 .few)) (loop .inv .2) (c .before .entry .ok) (c .before .entry .ensures .0) (c .add .ensures),
     )
 
 returns : tie.Need-returns Inv-loop μ-loop

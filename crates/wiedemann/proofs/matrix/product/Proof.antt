@@ -7,6 +7,7 @@ use Rattle.meaning.specs.Calls.{productRefusal}
 use Rattle.checks.specs.Matrix.{Accepted, product-accepted}
 use Rattle.wiedemann.specs.Answers.{writes-refused, writes-done}
 use Rattle.wiedemann.specs.Horner.{step-made}
+use Rattle.modular.specs.Modulus.{Modular, modular-of}
 use borrow.Author.Needs.{needs}
 use Rattle.wiedemann.proofs.matrix.product.Statement.{statement}
 use Rattle.wiedemann.proofs.matrix.product.Tie as tie
@@ -23,6 +24,12 @@ accepted c =
     let at = c .before .before .before .before .before .before .before .before .args in
     product-accepted (at .field .p) (matrix (now (at .starts)) (now (at .columns)) (now (at .values))) (now (at .v)) (now (at .out)) (none c)
 
+-- the modulus that was made
+modulus : (c : tie.After-of) → (c .of .result .p ≡ c .before .before .before .before .before .before .before .before .before .args .field .p) × Modular (c .of .result)
+modulus c =
+    let known = accepted (c .before) .0 .valid in
+    modular-of (c .of .result) (c .before .before .before .before .before .before .before .before .before .args .field .p) (c .of .ensures) (known .positive) (known .small)
+
 product-refusal-requires : tie.Need-product-refusal-requires
 product-refusal-requires c κs = search needs
 
@@ -38,15 +45,15 @@ returns c =
     (number .ensures) (c .if1 .taken)
 
 of-requires : tie.Need-of-requires
-of-requires c κs = (accepted c .0 .valid .positive, accepted c .0 .valid .small)
+of-requires c κs = search needs
 
 step-requires : tie.Need-step-requires
 step-requires c κs =
     let at = c .before .before .before .before .before .before .before .before .before .before .args in
-    let m = c .before .of in
+    let made = modulus (c .before) in
     let size = accepted (c .before .before) .1 in
-    let known = subst (λ p. Accepted p (matrix (now (at .starts)) (now (at .columns)) (now (at .values))) (now (at .v))) (sym (m .ensures .0)) (accepted (c .before .before) .0) in
-    (known .valid, (m .ensures .1, size, known .vector .places, known .vector))
+    let known = subst (λ p. Accepted p (matrix (now (at .starts)) (now (at .columns)) (now (at .values))) (now (at .v))) (sym (made .0)) (accepted (c .before .before) .0) in
+    (known .valid, (made .1, size, known .vector .places, known .vector))
 
 same-length-2 : tie.Need-same-length-2
 same-length-2 c = search needs
@@ -55,10 +62,10 @@ returns-2 : tie.Need-returns-2
 returns-2 c =
     let at = c .before .before .before .before .before .before .before .before .before .before .before .before .before .args in
     let A = matrix (now (at .starts)) (now (at .columns)) (now (at .values)) in
-    let m = c .before .before .before .before .of in
+    let m = c .before .before .before .before in
     let left = c .before .before .step .last .1 .1 .1 .1 .1 .1 .1 .0 in
     writes-done (productRefusal (at .field .p) A (now (at .v)) (now (at .out))) (product (at .field .p) A (now (at .v))) (now (at .out)) left
-    (none (c .before .before .before .before .before)) (step-made (at .field .p) (m .result .p) (m .ensures .0) A (now (at .v)) (now (at .v)) left (c .before .before .step .ensures))
+    (none (c .before .before .before .before .before)) (step-made (at .field .p) (m .of .result .p) (modulus m .0) A (now (at .v)) (now (at .v)) left (c .before .before .step .ensures))
 
 pub product-spec : {M : Type 1} → statement M
 product-spec =

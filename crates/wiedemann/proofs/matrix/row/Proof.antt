@@ -4,8 +4,8 @@ use native.Mathlib.Nat.{add-zero}
 use native.Mathlib.Omega.{arith}
 use denote.Ref.{now}
 use Rattle.meaning.specs.List.{sumFrom}
-use Rattle.wiedemann.specs.declared.sums.Total.{Total}
-use Rattle.wiedemann.specs.Sums.{Summed, summed-both}
+use Rattle.modular.specs.declared.sums.Total.{Total}
+use Rattle.modular.specs.Sums.{Summed, summed-both}
 use Rattle.checks.specs.Valid.{term}
 use Rattle.wiedemann.proofs.matrix.row.Statement.{statement}
 use Rattle.wiedemann.proofs.matrix.row.Tie as tie

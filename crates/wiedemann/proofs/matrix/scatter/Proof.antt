@@ -7,6 +7,7 @@ use denote.Ref.{now}
 use Rattle.meaning.specs.Field.{plus, times}
 use Rattle.checks.specs.Valid.{Vector}
 use Rattle.wiedemann.specs.Transposed.{scattered, scattered-none, scattered-more, vector-scattered}
+use Rattle.modular.specs.Modulus.{Multiplies, multiplies-of, added-of}
 use borrow.Author.Needs.{needs}
 use Rattle.wiedemann.proofs.matrix.scatter.Statement.{statement}
 use Rattle.wiedemann.proofs.matrix.scatter.Tie as tie
@@ -31,6 +32,13 @@ inside c =
     let start = c .before .before .before .before .before .before .before .before in
     omega
     (arith, c .wide .ensures .0, start .pre .1 (c .before .before .before .loop .k) (omega (arith, c .before .before .loop-test .taken, start .pre .0 .3)), vector (c .before .before .before) .places)
+
+made : (c : tie.After-of Inv-loop μ-loop)
+    → let at = c .before .before .before .before .args in
+    (c .of .result .constant ≡ at .c) × Multiplies (at .p) (c .of .result)
+made c =
+    let start = c .before .before .before .before in
+    multiplies-of (c .of .result) (start .args .p) (start .args .c) (c .of .ensures) (start .pre .0 .0) (start .pre .0 .1)
 
 of-requires : tie.Need-of-requires Inv-loop μ-loop
 of-requires c κs = search needs
@@ -66,11 +74,7 @@ slice-read-added : tie.Need-slice-read-added Inv-loop μ-loop
 slice-read-added c = inside (c .before .before)
 
 added-requires : tie.Need-added-requires Inv-loop μ-loop
-added-requires c κs =
-    let before = vector (c .before .before .before .before .before) in (
-      c .before .before .before .before .before .before .of .ensures .1,
-      before .below (c .before .before .wide .result) (omega (arith, before .places, inside (c .before .before))),
-    )
+added-requires c κs = search needs
 
 mul-out : tie.Need-mul-out Inv-loop μ-loop
 mul-out c = search needs
@@ -95,11 +99,17 @@ loop-again c =
     let out = now (at .out) in
     let j = c .before .before .before .wide .ensures .0 in
     let test = c .before .before .before .before .before .loop-test .taken in
+    let m = c .before .before .before .before .before .before .before in
+    let held = vector (c .before .before .before .before .before .before) in
+    let y = getD (loop .out) (c .before .before .before .wide .result) 0 in
     let so-far = scattered (at .p) (at .c) (at .from) k columns values out in (
       omega (arith, loop .inv .0),
       omega (arith, test),
       ap₂ (λ i y. set (loop .out) i y) j
-          (c .added .ensures ∙ ap (λ m. plus (at .p) (getD (loop .out) (c .before .before .before .wide .result) 0) (times (at .p) m (getD values k 0))) (c .before .before .before .before .before .before .before .of .ensures .0)
+          (c .added .ensures
+          ∙ added-of (at .p) (m .of .result) (made m .1) (getD values k 0) (omega (arith, c .before .before .shared-slice-known4 .given k)) y
+          (held .below (c .before .before .before .wide .result) (omega (arith, held .places, inside (c .before .before .before))))
+          ∙ ap (λ m. plus (at .p) y (times (at .p) m (getD values k 0))) (made m .0)
           ∙ ap₂ (λ l i. plus (at .p) (getD l i 0) (times (at .p) (at .c) (getD values k 0))) (loop .inv .2) j)
           ∙ ap (λ l. set l (getD columns k 0) (plus (at .p) (getD so-far (getD columns k 0) 0) (times (at .p) (at .c) (getD values k 0)))) (loop .inv .2)
           ∙ scattered-more (at .p) (at .c) columns values (at .from) k out (loop .inv .0) (start .pre .1 k (omega (arith, test, start .pre .0 .3))),

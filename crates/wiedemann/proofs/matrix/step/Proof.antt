@@ -8,6 +8,7 @@ use Rattle.checks.specs.Valid.{valid-entries}
 use Rattle.laws.specs.Written.{Written, written-none, written-all}
 use Rattle.laws.specs.Part.{written-next, written-table}
 use Rattle.wiedemann.specs.Horner.{stepAt, table-step, row-bounds, row-reduced}
+use Rattle.modular.specs.Total.{residue-number}
 use borrow.Author.Needs.{needs}
 use Rattle.wiedemann.proofs.matrix.step.Statement.{statement}
 use Rattle.wiedemann.proofs.matrix.step.Tie as tie
@@ -68,7 +69,7 @@ row-requires c κs =
     (valid-entries (at .m .p) A (now (at .v)) (start .pre .0) (start .pre .1 .3), bounds .0, bounds .1)
 
 residue-requires : tie.Need-residue-requires Inv-loop μ-loop
-residue-requires c κs = (c .before .before .before .before .before .before .before .before .before .before .before .before .before .before .before .pre .1 .0, c .row .ensures .1)
+residue-requires c κs = search needs
 
 mul-out : tie.Need-mul-out Inv-loop μ-loop
 mul-out c = omega (arith, c .before .before .before .before .before .before .loop-test .taken, c .before .before .before .before .before .before .before .before .before .before .before .before .before .before .before .before .pre .0 .sized)
@@ -97,7 +98,7 @@ loop-again c =
       written-next (c .residue .result) (loop .inv .2) (omega (arith, test, start .pre .1 .1))
           (row-reduced A (loop .i) (loop .from) (to .result) (loop .inv .1) (to .ensures .0) (at .m .p) (begun .result)
           (at .c * getD (now (at .x)) (loop .i) 0) (c .residue .result) (now (at .v)) (now (at .v)) (sum .result) (begun .ensures) refl
-          (sum .ensures .0) (c .residue .ensures)),
+          (sum .ensures .0) (c .residue .ensures ∙ residue-number (at .m) (sum .result) (start .pre .1 .0) (omega (arith, sum .ok)) (sum .ensures .1))),
     )
 
 same-length : tie.Need-same-length Inv-loop μ-loop

@@ -10,6 +10,7 @@ use Rattle.laws.specs.Written.{Written, written-none, written-more, written-all
 use Rattle.laws.specs.Part.{part, apart-shorter, at-part, written-other-at, written-other}
 use Rattle.wiedemann.specs.Region.{vector-part}
 use Rattle.wiedemann.specs.Horner.{stepAt, row-bounds, row-reduced}
+use Rattle.modular.specs.Total.{residue-number}
 use borrow.Author.Needs.{needs}
 use Rattle.wiedemann.proofs.matrix.step_within.Statement.{statement}
 use Rattle.wiedemann.proofs.matrix.step_within.Tie as tie
@@ -112,7 +113,7 @@ row-requires c κs =
     )
 
 residue-requires : tie.Need-residue-requires Inv-loop μ-loop
-residue-requires c κs = (c .before .before .before .before .before .before .before .before .before .before .before .before .before .before .before .pre .1 .0, c .row .ensures .1)
+residue-requires c κs = search needs
 
 add-work : tie.Need-add-work Inv-loop μ-loop
 add-work c = omega (arith, c .before .before .before .before .before .before .before .before .loop-test .taken, c .before .before .before .before .before .before .before .before .before .before .before .before .before .before .before .before .pre .1 .1 .target-fits, c .before .before .before .before .before .before .before .before .before .before .before .before .before .before .before .before .good)
@@ -153,7 +154,7 @@ loop-again c =
           (row-reduced A i (loop .from) (to .result) (loop .inv .1) (to .ensures .0) (at .m .p) (begun .result)
           (at .c * getD (part (at .origin) n W) i 0) (c .residue .result) (part (at .source) (at .source + n - at .source) (loop .work))
           (part (at .source) n W) (sum .result) (begun .ensures ∙ ap (λ y. at .c * y) element) (source-kept (c .before .before .before .before .before .before .before .before .before))
-          (sum .ensures .0) (c .residue .ensures)),
+          (sum .ensures .0) (c .residue .ensures ∙ residue-number (at .m) (sum .result) (start .pre .1 .0) (omega (arith, sum .ok)) (sum .ensures .1))),
     )
 
 same-length : tie.Need-same-length Inv-loop μ-loop

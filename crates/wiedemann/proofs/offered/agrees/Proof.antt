@@ -14,6 +14,7 @@ use Rattle.laws.specs.List.{all-zero, all-not}
 use Rattle.checks.specs.Valid.{rowProduct, valid-entries}
 use Rattle.checks.specs.Matrix.{all-next}
 use Rattle.wiedemann.specs.Horner.{at-product, row-bounds, row-reduced}
+use Rattle.modular.specs.Total.{residue-number}
 use borrow.Author.Needs.{needs}
 use Rattle.wiedemann.proofs.offered.agrees.Statement.{statement}
 use Rattle.wiedemann.proofs.offered.agrees.Tie as tie
@@ -33,7 +34,8 @@ here : (c : tie.After-element Inv-loop μ-loop)
     → let at = c .before .before .before .before .before .before .before .before .before .before .before .before .before .before .args in
     agreement (at .m .p) (matrix (now (at .starts)) (now (at .columns)) (now (at .values))) (now (at .x)) (now (at .b)) (c .before .before .before .before .before .before .loop .i) ≡ eqb (c .before .residue .result) (c .element .result)
 here c =
-    let at = c .before .before .before .before .before .before .before .before .before .before .before .before .before .before .args in
+    let start = c .before .before .before .before .before .before .before .before .before .before .before .before .before .before in
+    let at = start .args in
     let A = matrix (now (at .starts)) (now (at .columns)) (now (at .values)) in
     let loop = c .before .before .before .before .before .before .loop in
     let to = c .before .before .before .wide2 in
@@ -43,7 +45,8 @@ here c =
     ∙ ap (λ y. y % at .m .p) (sym (zero-add (rowProduct A (now (at .x)) (loop .i))))
     ∙ sym
     (row-reduced A (loop .i) (loop .from) (to .result) (loop .inv .1) (to .ensures .0) (at .m .p) 0 0 (c .before .residue .result) (now (at .x))
-    (now (at .x)) (sum .result) refl refl (sum .ensures .0) (c .before .residue .ensures)))
+    (now (at .x)) (sum .result) refl refl (sum .ensures .0)
+    (c .before .residue .ensures ∙ residue-number (at .m) (sum .result) (start .pre .1 .0) (omega (arith, sum .ok)) (sum .ensures .1))))
     (sym (c .element .ensures))
 
 sub-n : tie.Need-sub-n Inv-loop μ-loop
@@ -82,7 +85,7 @@ row-requires c κs =
     (valid-entries (at .m .p) A (now (at .x)) (start .pre .0) (start .pre .1 .1), bounds .0, bounds .1)
 
 residue-requires : tie.Need-residue-requires Inv-loop μ-loop
-residue-requires c κs = (c .before .before .before .before .before .before .before .before .before .before .before .before .pre .1 .0, c .row .ensures .1)
+residue-requires c κs = search needs
 
 element-requires : tie.Need-element-requires Inv-loop μ-loop
 element-requires c κs = search needs

@@ -8,6 +8,7 @@ use Rattle.meaning.specs.Calls.{isNullRefusal, isNullAnswer}
 use Rattle.checks.specs.Matrix.{Accepted, system-accepted}
 use Rattle.laws.specs.Refusal.{unlessRefused-none}
 use Rattle.wiedemann.specs.Answers.{decides-refused}
+use Rattle.modular.specs.Modulus.{Modular, modular-of}
 use borrow.Author.Needs.{needs}
 use Rattle.wiedemann.proofs.offered.is_null.Statement.{statement}
 use Rattle.wiedemann.proofs.offered.is_null.Tie as tie
@@ -36,6 +37,12 @@ answer c =
     let A = matrix (now (at .starts)) (now (at .columns)) (now (at .values)) in
     unlessRefused-none (isNullRefusal (at .field .p) A (now (at .w))) (isNull (at .field .p) A (now (at .w))) false (none c)
 
+-- the modulus that was made
+modulus : (c : tie.After-of) → (c .of .result .p ≡ c .before .before .before .before .before .before .before .before .before .args .field .p) × Modular (c .of .result)
+modulus c =
+    let known = accepted (c .before .before .before) .valid in
+    modular-of (c .of .result) (c .before .before .before .before .before .before .before .before .before .args .field .p) (c .of .ensures) (known .positive) (known .small)
+
 nonzero : (c : tie.After-vanishes)
     → let at = c .before .before .before .before .before .before .before .before .before .before .args in
     isNullAnswer (at .field .p) (matrix (now (at .starts)) (now (at .columns)) (now (at .values))) (now (at .w)) ≡ c .vanishes .result
@@ -43,7 +50,7 @@ nonzero c =
     let at = c .before .before .before .before .before .before .before .before .before .before .args in
     answer (c .before .before .before .before)
     ∙ ap₂ (λ s t. not s && t) (sym (c .before .before .before .is-zero .ensures) ∙ c .before .before .if2 .left)
-    (ap (λ p. isZero (product p (matrix (now (at .starts)) (now (at .columns)) (now (at .values))) (now (at .w)))) (sym (c .before .of .ensures .0)) ∙ sym (c .vanishes .ensures))
+    (ap (λ p. isZero (product p (matrix (now (at .starts)) (now (at .columns)) (now (at .values))) (now (at .w)))) (sym (modulus (c .before) .0)) ∙ sym (c .vanishes .ensures))
 
 system-refusal-requires : tie.Need-system-refusal-requires
 system-refusal-requires c κs = search needs
@@ -67,14 +74,14 @@ returns-2 c =
     )
 
 of-requires : tie.Need-of-requires
-of-requires c κs = (accepted (c .before .before) .valid .positive, accepted (c .before .before) .valid .small)
+of-requires c κs = search needs
 
 vanishes-requires : tie.Need-vanishes-requires
 vanishes-requires c κs =
     let at = c .before .before .before .before .before .before .before .before .before .args in
     let known =
-    subst (λ p. Accepted p (matrix (now (at .starts)) (now (at .columns)) (now (at .values))) (now (at .w))) (sym (c .of .ensures .0)) (accepted (c .before .before .before)) in
-    (known .valid, (c .of .ensures .1, known .vector))
+    subst (λ p. Accepted p (matrix (now (at .starts)) (now (at .columns)) (now (at .values))) (now (at .w))) (sym (modulus c .0)) (accepted (c .before .before .before)) in
+    (known .valid, (modulus c .1, known .vector))
 
 returns-3 : tie.Need-returns-3
 returns-3 c = (none (c .before .before .before .before .before), nonzero (c .before) ∙ c .if3 .taken)

@@ -10,6 +10,7 @@ use Rattle.checks.specs.Matrix.{Accepted, takes-accepted}
 use Rattle.laws.specs.Refusal.{unlessRefused-none}
 use Rattle.wiedemann.specs.Answers.{decides-refused}
 use Rattle.wiedemann.specs.Offered.{takes-tested}
+use Rattle.modular.specs.Modulus.{Modular, modular-of}
 use borrow.Author.Needs.{needs}
 use Rattle.wiedemann.proofs.offered.takes.Statement.{statement}
 use Rattle.wiedemann.proofs.offered.takes.Tie as tie
@@ -26,6 +27,12 @@ accepted c =
     let at = c .before .before .before .before .before .before .before .args in
     takes-accepted (at .field .p) (matrix (now (at .starts)) (now (at .columns)) (now (at .values))) (now (at .x)) (now (at .b)) (none c)
 
+-- the modulus that was made
+modulus : (c : tie.After-of) → (c .of .result .p ≡ c .before .before .before .before .before .before .before .before .args .field .p) × Modular (c .of .result)
+modulus c =
+    let known = accepted (c .before) .0 .valid in
+    modular-of (c .of .result) (c .before .before .before .before .before .before .before .before .args .field .p) (c .of .ensures) (known .positive) (known .small)
+
 answer : (c : tie.After-agrees)
     → let at = c .before .before .before .before .before .before .before .before .before .args in
     takesAnswer (at .field .p) (matrix (now (at .starts)) (now (at .columns)) (now (at .values))) (now (at .x)) (now (at .b)) ≡ c .agrees .result
@@ -35,7 +42,7 @@ answer c =
     let known = accepted (c .before .before) in
     unlessRefused-none (takesRefusal (at .field .p) A (now (at .x)) (now (at .b))) (takes (at .field .p) A (now (at .x)) (now (at .b))) false
     (none (c .before .before))
-    ∙ takes-tested (at .field .p) (c .before .of .result .p) (c .before .of .ensures .0) A (now (at .x)) (now (at .b)) (c .agrees .result)
+    ∙ takes-tested (at .field .p) (c .before .of .result .p) (modulus (c .before) .0) A (now (at .x)) (now (at .b)) (c .agrees .result)
     (known .0 .valid .positive) (known .1) (c .agrees .ensures)
 
 takes-refusal-requires : tie.Need-takes-refusal-requires
@@ -50,14 +57,14 @@ returns c =
     (number .ensures) (c .if1 .taken)
 
 of-requires : tie.Need-of-requires
-of-requires c κs = (accepted c .0 .valid .positive, accepted c .0 .valid .small)
+of-requires c κs = search needs
 
 agrees-requires : tie.Need-agrees-requires
 agrees-requires c κs =
     let at = c .before .before .before .before .before .before .before .before .args in
     let known =
-    subst (λ p. Accepted p (matrix (now (at .starts)) (now (at .columns)) (now (at .values))) (now (at .x))) (sym (c .of .ensures .0)) (accepted (c .before) .0) in
-    (known .valid, (c .of .ensures .1, known .vector))
+    subst (λ p. Accepted p (matrix (now (at .starts)) (now (at .columns)) (now (at .values))) (now (at .x))) (sym (modulus c .0)) (accepted (c .before) .0) in
+    (known .valid, (modulus c .1, known .vector))
 
 returns-2 : tie.Need-returns-2
 returns-2 c = (none (c .before .before .before), answer (c .before) ∙ c .if2 .taken)

@@ -1,5 +1,5 @@
 use Rattle.wiedemann.specs.Projection.{wordTerm}
-use Rattle.wiedemann.specs.Sums.{Summed, summed-none, summed-one}
+use Rattle.modular.specs.Sums.{Summed, summed-none, summed-one}
 use denote.Ref.{now}
 use lib.ListN.{length}
 use native.Mathlib.Omega.{arith}
@@ -13,7 +13,7 @@ product-requires : tie.Need-product-requires
 product-requires c κs = search needs
 
 add-requires : tie.Need-add-requires
-add-requires c κs = omega (arith, c .before .before .before .before .pre .3, c .before .before .before .before .pre .1, c .before .before .before .before .pre .0 .few)
+add-requires c κs = search needs
 
 returns : tie.Need-returns
 returns c =
@@ -23,8 +23,8 @@ returns c =
     let f = wordTerm (now (a .words)) (now (a .v)) in
     let end : from + 1 ≡ length (now (a .v)) = omega (arith, c .before .before .if1 .taken, pre .2) in
     subst (λ m. Summed (a .total) (c .add .result) from m f) end
-    (summed-one (a .total) (a .total) (c .add .result) from from f (c .before .product .result) (omega arith) (summed-none (a .total) from f (pre .3))
-    (c .before .product .ensures .0) (c .add .ensures))
+    (summed-one (a .total) (a .total) (c .add .result) from from f (c .before .product .result) (omega arith)
+    (omega (arith, pre .1, pre .0 .few)) (summed-none (a .total) from f (omega (arith, c .before .before .before .before .before .good)) (pre .3)) (c .before .product .ok) (c .before .product .ensures .0) (c .add .ensures))
 
 returns-2 : tie.Need-returns-2
 returns-2 c =
@@ -32,7 +32,7 @@ returns-2 c =
     let pre = c .before .before .before .pre in
     let f = wordTerm (now (a .words)) (now (a .v)) in
     let end : a .from ≡ length (now (a .v)) = omega (arith, c .if1 .left, pre .1) in
-    subst (λ m. Summed (a .total) (a .total) (a .from) m f) end (summed-none (a .total) (a .from) f (pre .3))
+    subst (λ m. Summed (a .total) (a .total) (a .from) m f) end (summed-none (a .total) (a .from) f (omega (arith, c .before .before .before .good)) (pre .3))
 
 pub last-spec : {M : Type 1} → statement M
 last-spec = tie.close (tie.spec product-requires add-requires returns returns-2)

@@ -1,4 +1,4 @@
-use Rattle.wiedemann.specs.Sums.{word-fits}
+use Rattle.modular.specs.Words.{word-fits}
 use denote.Ref.{now}
 use lib.ListN.{getD}
 use native.Mathlib.Omega.{arith}

@@ -1,5 +1,5 @@
 use Rattle.wiedemann.specs.Projection.{wordTerm}
-use Rattle.wiedemann.specs.Sums.{two-added}
+use Rattle.modular.specs.Sums.{two-added}
 use denote.Ref.{now}
 use native.Mathlib.Omega.{arith}
 use Rattle.wiedemann.proofs.projection.two.Statement.{statement}

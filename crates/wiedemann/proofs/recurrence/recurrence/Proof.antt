@@ -1,9 +1,10 @@
 -- `wiedemann::recurrence::recurrence` meets its contract: a refusal leaves everything, and 0 hands the core what it asks.
-use mathlib.Core.Path.{sym, _∙_}
+use mathlib.Core.Path.{_≡_, sym, _∙_}
 use native.Mathlib.Omega.{arith}
 use denote.Ref.{now}
 use borrow.Author.Needs.{needs}
 use Rattle.checks.specs.Recurrence.{Accepted, accepted}
+use Rattle.modular.specs.Modulus.{Modular, modular-of}
 use Rattle.wiedemann.proofs.Recurred.{recurred-refused, modulus-range, ready, recurred-generator}
 use Rattle.wiedemann.proofs.recurrence.recurrence.Statement.{statement}
 use Rattle.wiedemann.proofs.recurrence.recurrence.Tie as tie
@@ -16,6 +17,12 @@ taken c =
     let a = c .before .before .before .before .before .before .before .args in
     accepted (a .field .p) (now (a .s)) (now (a .polynomial)) (now (a .work))
     (sym (c .before .recurrence-refusal .ensures) ∙ omega (arith, c .if1 .left))
+
+-- the modulus that was made
+modulus : (c : tie.After-of) → (c .of .result .p ≡ c .before .before .before .before .before .before .before .before .before .before .before .before .args .field .p) × Modular (c .of .result)
+modulus c =
+    let range = modulus-range (taken (c .before .before .before .before .before)) in
+    modular-of (c .of .result) (c .before .before .before .before .before .before .before .before .before .before .before .before .args .field .p) (c .of .ensures) (range .0) (range .1)
 
 recurrence-refusal-requires : tie.Need-recurrence-refusal-requires
 recurrence-refusal-requires c κs = omega arith
@@ -37,11 +44,11 @@ transfer-requires c κs =
     (omega arith, omega (arith, input .room))
 
 of-requires : tie.Need-of-requires
-of-requires c κs = modulus-range (taken (c .before .before .before .before))
+of-requires c κs = search needs
 
 shortest-requires : tie.Need-shortest-requires
 shortest-requires c κs =
-    let m = c .before .of .ensures in
+    let m = modulus (c .before) in
     (ready (taken (c .before .before .before .before .before .before)) (c .before .before .before .before .transfer .ensures) (m .0), m .1)
 
 add-transfer : tie.Need-add-transfer
@@ -69,7 +76,7 @@ returns-2 c =
     let core = c .before .before .before .before .before .before .before in
     let made = core .before .before in
     let copied = made .before .before .before in
-    recurred-generator (taken (copied .before .before)) (copied .transfer .ensures) (made .of .ensures .0) (core .shortest .ensures) (c .before .before .transfer2 .ensures)
+    recurred-generator (taken (copied .before .before)) (copied .transfer .ensures) (modulus made .0) (core .shortest .ensures) (c .before .before .transfer2 .ensures)
 
 pub recurrence-spec : {M : Type 1} → statement M
 recurrence-spec =

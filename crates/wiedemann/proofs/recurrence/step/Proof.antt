@@ -1,14 +1,17 @@
 -- `wiedemann::recurrence::step` meets its contract: each way through it is a case of document 01's step.
-use mathlib.Core.Path.{sym, _∙_, subst}
+use mathlib.Core.Path.{_≡_, sym, _∙_, subst}
 use mathlib.Core.Logic.{⊎-elim}
 use mathlib.Core.List.{List}
-use Prim.Native.Nat.{ℕ, _*_}
+use Prim.Native.Nat.{ℕ, _*_, _%_}
 use native.Mathlib.Omega.{arith}
 use denote.Ref.{now}
 use borrow.Author.Needs.{needs}
 use borrow.Author.Tests.{ltb-true, ltb-false}
 use Rattle.wiedemann.specs.Convolution.{crossing-within}
 use Rattle.wiedemann.specs.Recurrence.{AfterSteps}
+use Rattle.meaning.specs.Field.{times}
+use Rattle.modular.specs.Modulus.{product-of}
+use Rattle.modular.specs.Total.{number, residue-number}
 use Rattle.wiedemann.proofs.AfterSteps as after
 use Rattle.wiedemann.proofs.AfterSteps.{Kept}
 use Rattle.wiedemann.proofs.recurrence.step.Statement.{statement}
@@ -28,6 +31,25 @@ kept c =
     (λ w. subst (KeptAt c) (sym (w .1)) (after.kept-same (start .pre .0) (ltb-false (2 * start .args .c .length) (start .args .r) (w .0 .left))))
     (c .if2 .came)
 
+-- the discrepancy
+found : (c : tie.After-residue) → c .residue .result ≡ number (c .before .crossed .result) % c .before .before .before .before .before .args .m .p
+found c =
+    let start = c .before .before .before .before .before in
+    let sum = c .before .crossed in
+    c .residue .ensures
+    ∙ residue-number (start .args .m) (sum .result) (start .pre .1) (sum .ensures .low)
+    (omega (arith, sum .ensures .carries, after.within (start .pre .0), start .pre .0 .high, start .pre .0 .ready .few))
+
+-- d / e
+factor : (c : tie.After-product)
+    → let a = c .before .before .before .before .before .before .before .before .before .args in
+    c .product .result ≡ times (a .m .p) (c .before .before .before .before .residue .result) (a .c .inverse)
+factor c =
+    let start = c .before .before .before .before .before .before .before .before .before in
+    let d = c .before .before .before .before .residue in
+    c .product .ensures
+    ∙ product-of (start .args .m) (start .pre .1) (d .result) (start .args .c .inverse) (d .ok) (omega (arith, c .before .before .struct-known2 .given))
+
 add-q : tie.Need-add-q
 add-q c = omega (arith, c .before .pre .0 .ready .few)
 
@@ -43,9 +65,7 @@ crossed-requires : tie.Need-crossed-requires
 crossed-requires c κs = crossing-within 0 _ (after.crossing (c .before .before .before .pre .0)) (omega arith) (omega arith) (omega arith)
 
 residue-requires : tie.Need-residue-requires
-residue-requires c κs =
-    let pre = c .before .before .before .before .pre in
-    (pre .1, omega (arith, c .crossed .ensures .carries, after.within (pre .0), pre .0 .high, pre .0 .ready .few))
+residue-requires c κs = search needs
 
 shifted-requires : tie.Need-shifted-requires
 shifted-requires c κs = after.shift-few (c .before .before .before .before .before .before .pre .0)
@@ -55,12 +75,12 @@ same-length c = search needs
 
 returns : tie.Need-returns
 returns c =
-    let found = c .before .before in
-    let summed = found .before in
+    let got = c .before .before in
+    let summed = got .before in
     let start = summed .before .before .before .before in
     let a = start .args in
     subst (λ x. AfterSteps (a .m .p) (a .count) (a .r) (now (a .work)) (now (a .work)) x) (sym (c .shifted .ensures))
-    (after.after-zero (start .pre .0) (summed .crossed .result) (found .residue .result) (summed .crossed .ensures) (found .residue .ensures) (c .before .if1 .taken))
+    (after.after-zero (start .pre .0) (summed .crossed .result) (got .residue .result) (summed .crossed .ensures) (found got) (c .before .if1 .taken))
 
 mul-longer : tie.Need-mul-longer
 mul-longer c =
@@ -76,7 +96,7 @@ copy-within-requires : tie.Need-copy-within-requires
 copy-within-requires c κs = search needs
 
 product-requires : tie.Need-product-requires
-product-requires c κs = c .before .before .before .before .before .before .before .before .pre .1
+product-requires c κs = search needs
 
 add-subtract : tie.Need-add-subtract
 add-subtract c =
@@ -86,9 +106,9 @@ add-subtract c =
 subtract-requires : tie.Need-subtract-requires
 subtract-requires c κs =
     let made = c .before .before in
-    let found = made .before .before .before .before in
-    let start = found .before .before .before .before .before in
-    let s = after.subtracting (start .pre .0) (kept (made .before)) (found .residue .result) (made .product .result) (made .product .ensures) in
+    let got = made .before .before .before .before in
+    let start = got .before .before .before .before .before in
+    let s = after.subtracting (start .pre .0) (kept (made .before)) (got .residue .result) (made .product .result) (factor made) in
     ((s .0, start .pre .1, s .1, s .2), s .3)
 
 lengthened-requires : tie.Need-lengthened-requires
@@ -106,13 +126,13 @@ returns-2 : tie.Need-returns-2
 returns-2 c =
     let updated = c .before .before .before .before in
     let made = updated .before .before .before in
-    let found = made .before .before .before .before in
-    let summed = found .before in
+    let got = made .before .before .before .before in
+    let summed = got .before in
     let start = summed .before .before .before .before in
     let a = start .args in
     subst (λ x. AfterSteps (a .m .p) (a .count) (a .r) (now (a .work)) (updated .subtract .last .1 .1 .0) x) (sym (c .lengthened .ensures))
-    (after.after-grow (start .pre .0) (summed .crossed .result) (found .residue .result) (summed .crossed .ensures) (found .residue .ensures)
-    (kept (made .before)) (made .product .result) (made .product .ensures) (updated .subtract .last .1 .1 .0) (made .before .before .before .if1 .left) (updated .subtract .ensures)
+    (after.after-grow (start .pre .0) (summed .crossed .result) (got .residue .result) (summed .crossed .ensures) (found got)
+    (kept (made .before)) (made .product .result) (factor made) (updated .subtract .last .1 .1 .0) (made .before .before .before .if1 .left) (updated .subtract .ensures)
     (ltb-true (2 * start .args .c .length) (start .args .r) (c .before .if3 .taken)))
 
 same-length-3 : tie.Need-same-length-3
@@ -122,13 +142,13 @@ returns-3 : tie.Need-returns-3
 returns-3 c =
     let updated = c .before .before .before .before in
     let made = updated .before .before .before in
-    let found = made .before .before .before .before in
-    let summed = found .before in
+    let got = made .before .before .before .before in
+    let summed = got .before in
     let start = summed .before .before .before .before in
     let a = start .args in
     subst (λ x. AfterSteps (a .m .p) (a .count) (a .r) (now (a .work)) (updated .subtract .last .1 .1 .0) x) (sym (c .shifted2 .ensures))
-    (after.after-stay (start .pre .0) (summed .crossed .result) (found .residue .result) (summed .crossed .ensures) (found .residue .ensures)
-    (kept (made .before)) (made .product .result) (made .product .ensures) (updated .subtract .last .1 .1 .0) (made .before .before .before .if1 .left) (updated .subtract .ensures)
+    (after.after-stay (start .pre .0) (summed .crossed .result) (got .residue .result) (summed .crossed .ensures) (found got)
+    (kept (made .before)) (made .product .result) (factor made) (updated .subtract .last .1 .1 .0) (made .before .before .before .if1 .left) (updated .subtract .ensures)
     (ltb-false (2 * start .args .c .length) (start .args .r) (c .before .if3 .left)))
 
 pub step-spec : {M : Type 1} → statement M

@@ -1,5 +1,5 @@
 -- `wiedemann::recurrence::subtract` meets its contract: t lies after what is written of q.
-use mathlib.Core.Path.{ap₂, _∙_}
+use mathlib.Core.Path.{_≡_, ap, ap₂, _∙_}
 use Prim.Native.Nat.{_+_, _-_, _≤_}
 use native.Mathlib.Omega.{arith}
 use borrow.Author.Needs.{needs}
@@ -7,6 +7,7 @@ use Rattle.meaning.specs.List.{at}
 use Rattle.meaning.specs.Field.{minus, times}
 use Rattle.laws.specs.Written.{Written, written-more, written-all}
 use Rattle.laws.specs.Recurrence.{times-lt}
+use Rattle.modular.specs.Modulus.{Multiplies, multiplies-of, times-of, difference-of}
 use Rattle.wiedemann.proofs.recurrence.subtract.Statement.{statement}
 use Rattle.wiedemann.proofs.recurrence.subtract.Tie as tie
 
@@ -16,8 +17,26 @@ Inv-loop m factor work₀ q t size k i₀ work i = (i ≤ size) × Written work�
 abbrev μ-loop : tie.MeasureT-loop
 μ-loop m factor work₀ q t size k i₀ work i = size - i
 
+made : (c : tie.After-of Inv-loop μ-loop) → let a = c .before .before .args in (c .of .result .constant ≡ a .factor) × Multiplies (a .m .p) (c .of .result)
+made c =
+    let start = c .before .before in
+    multiplies-of (c .of .result) (start .args .m .p) (start .args .factor) (c .of .ensures) (start .pre .0 .0) (start .pre .0 .1 .small)
+
+-- the coefficient's multiple
+multiple : (c : tie.After-times Inv-loop μ-loop)
+    → let a = c .before .before .before .before .before .before .before .args in
+    let l = c .before .before .before .before .loop in
+    c .times .result ≡ times (a .m .p) (a .factor) (at (l .work) (a .t + l .i))
+multiple c =
+    let a = c .before .before .before .before .before .before .before .args in
+    let l = c .before .before .before .before .loop in
+    let k = c .before .before .before .before .before in
+    let x = at (l .work) (a .t + l .i) in
+    c .times .ensures ∙ times-of (a .m .p) (k .of .result) (made k .1) x (omega (arith, c .before .slice-known3 .given (a .t + l .i)))
+    ∙ ap (λ n. times (a .m .p) n x) (made k .0)
+
 of-requires : tie.Need-of-requires Inv-loop μ-loop
-of-requires c κs = (c .before .pre .0 .0, c .before .pre .0 .1 .small)
+of-requires c κs = search needs
 
 loop-holds : tie.Need-loop-holds Inv-loop μ-loop
 loop-holds c = search needs
@@ -41,19 +60,10 @@ slice-read-times : tie.Need-slice-read-times Inv-loop μ-loop
 slice-read-times c = omega arith
 
 times-requires : tie.Need-times-requires Inv-loop μ-loop
-times-requires c κs = c .before .before .before .before .of .ensures .1
+times-requires c κs = search needs
 
 difference-requires : tie.Need-difference-requires Inv-loop μ-loop
-difference-requires c κs =
-    let loop = c .before .before .before .before in
-    let made = loop .before in
-    let start = made .before .before in
-    let a = start .args in
-    let l = loop .loop in
-    let same = l .inv .1 .after (a .q + l .i) (omega arith) in
-    let below = start .pre .1 (l .i) (omega arith) in
-    let product = times-lt (a .m .p) (made .of .result .constant) (at (l .work) (a .t + l .i)) (start .pre .0 .1 .positive) in
-    (start .pre .0 .1, omega (arith, same, below), omega (arith, c .times .ensures, product))
+difference-requires c κs = search needs
 
 add-work : tie.Need-add-work Inv-loop μ-loop
 add-work c = omega arith
@@ -73,14 +83,19 @@ loop-less c = omega arith
 loop-again : tie.Need-loop-again Inv-loop μ-loop
 loop-again c =
     let loop = c .before .before .before .before .before in
-    let made = loop .before in
-    let a = made .before .before .args in
+    let start = loop .before .before .before in
+    let a = start .args in
     let l = loop .loop in
+    let h = start .pre .0 .1 in
     let q = l .inv .1 .after (a .q + l .i) (omega arith) in
-    let t = l .inv .1 .after (a .t + l .i) (omega arith) in (
+    let t = l .inv .1 .after (a .t + l .i) (omega arith) in
+    let product = times-lt (a .m .p) (a .factor) (at (l .work) (a .t + l .i)) (h .positive) in (
       omega arith,
       written-more (c .difference .result) (l .inv .1) (omega arith)
-          (c .difference .ensures ∙ ap₂ (minus (a .m .p)) q (c .before .times .ensures ∙ ap₂ (times (a .m .p)) (made .of .ensures .0) t)),
+          (c .difference .ensures
+          ∙ difference-of (a .m) h (at (l .work) (a .q + l .i)) (c .before .times .result) (omega (arith, q, start .pre .1 (l .i) (omega arith)))
+          (omega (arith, multiple (c .before), product))
+          ∙ ap₂ (minus (a .m .p)) q (multiple (c .before) ∙ ap (times (a .m .p) (a .factor)) t)),
     )
 
 same-length : tie.Need-same-length Inv-loop μ-loop
