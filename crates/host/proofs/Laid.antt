@@ -10,10 +10,10 @@ use Prim.Native.Nat.{ℕ}
 use lib.Dec.{eqb}
 use borrow.Author.Tests.{ne-eqb}
 use Rattle.meaning.specs.Solver.{Kind, Outcome, passCount, applications}
-use Rattle.wiedemann.specs.declared.recurrence.Answer.{Answer}
-use Rattle.wiedemann.specs.declared.recurrence.Answer.the-variants.{Degree, Refused}
+use Rattle.recurrence.specs.declared.Answer.{Answer}
+use Rattle.recurrence.specs.declared.Answer.the-variants.{Degree, Refused}
 use Rattle.solver.specs.declared.Counts.{Counts}
-use Rattle.wiedemann.specs.Recurrence.{GivesDegree}
+use Rattle.recurrence.specs.Recurrence.{GivesDegree}
 use Rattle.solver.specs.Verdict.{Counted}
 use Rattle.host.specs.declared.runs.Verdict.{Verdict}
 use Rattle.host.specs.Answers.{kindNumber, verdictOf, systemOf}

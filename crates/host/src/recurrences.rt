@@ -1,14 +1,14 @@
 // The shortest recurrence.
 use field::Field;
-use wiedemann::recurrence::Answer;
-use wiedemann::recurrence::recurrence;
+use recurrence::Answer;
+use recurrence::recurrence;
 ghost use mathlib.Core.Path.{_≡_};
 ghost use mathlib.Core.Logic.{_≢_};
 ghost use Prim.Native.Nat.{ℕ, _+_, _≤_};
 ghost use lib.ListN.{take};
 ghost use Rattle.meaning.specs.Recurrence.{IsShortest};
 ghost use Rattle.meaning.specs.Calls.{recurrenceRefusal, recurrenceAnswer, recurrenceAfter};
-ghost use Rattle.wiedemann.specs.Recurrence.{GivesDegree};
+ghost use Rattle.recurrence.specs.Recurrence.{GivesDegree};
 ghost use Rattle.host.specs.Answers.{degreeOf};
 
 #[repr(C)]

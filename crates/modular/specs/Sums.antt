@@ -1,5 +1,6 @@
 -- Sums over ranges, and loops that sum into a total.
 --     sumFrom-empty, sumFrom-suc, sumFrom-next      sums over a range: nothing, and one more at its end
+--     sumFrom-zero     a range from 0 on
 --     sumFrom-split    a range as two
 --     sumFrom-one, sumFrom-two, sumFrom-four, two-added, four-added        a few terms, as the code adds them
 --     sumFrom-ext      terms that agree within the range
@@ -7,7 +8,7 @@
 --                      turn with one term, summed-both for two such loops after each other
 use mathlib.Core.Path.{_≡_, sym, ap, ap₂, _∙_}
 use Prim.Native.Nat.{ℕ, zero, suc, _+_, _-_, _≤_, _<_}
-use native.Mathlib.Nat.{zero-add, add-zero, add-assoc, add-suc, sub-self, add-sub-of-le}
+use native.Mathlib.Nat.{zero-add, add-zero, add-assoc, add-suc, sub-zero, sub-self, add-sub-of-le}
 use native.Mathlib.Numerals.{add-one}
 use native.Mathlib.Omega.{arith}
 use Rattle.meaning.specs.List.{sum, sumFrom}
@@ -19,6 +20,10 @@ use Rattle.modular.specs.Total.{number, added, add-sums, added-low}
 
 pub sumFrom-empty : (a : ℕ) (f : ℕ → ℕ) → sumFrom a a f ≡ 0
 sumFrom-empty a f = ap (λ n. sum n (λ j. f (a + j))) (sub-self a) ∙ sum-zero (λ j. f (a + j))
+
+pub sumFrom-zero : (n : ℕ) (f : ℕ → ℕ) → sumFrom 0 n f ≡ sum n f
+sumFrom-zero n f =
+    ap (λ m. sum m (λ j. f (0 + j))) (sub-zero n) ∙ sum-ext n (λ j. f (0 + j)) f (λ i l. ap f (zero-add i))
 
 pub sumFrom-suc : (a b : ℕ) (f : ℕ → ℕ) → a ≤ b → sumFrom a (suc b) f ≡ sumFrom a b f + f b
 sumFrom-suc a b f l =

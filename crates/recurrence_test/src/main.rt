@@ -1,13 +1,13 @@
 // Makes the calls of the shortest recurrence that standard input lists, after their number. A call is two lists: its modulus and the places of its
 // polynomial and work slices; and the terms. A line of the output: the refusal's number, or 0 and the degree; the polynomial slice and two places
 // behind it; and of the work slice what a call may not change, two places behind it and, where it refuses, all. vectors.py makes calls and output.
+use recurrence::Answer;
 use test_io::at;
 use test_io::front;
 use test_io::list;
 use test_io::place;
 use test_io::print;
 use test_io::show;
-use wiedemann::recurrence::Answer;
 
 // The answer; the places that the call was free to change.
 fn print_answer(answer: Answer, work: usize) -> usize {
@@ -30,7 +30,7 @@ fn call(memory: &[u32], from: usize) {
     let room = place(head, 2);
     let mut polynomial = test_io::lent();
     let mut work = test_io::lent();
-    let answer = wiedemann::recurrence::recurrence(
+    let answer = recurrence::recurrence(
         field::Field { p: at(head, 0) },
         list(memory, from, 1),
         front(&mut polynomial, places),

@@ -37,7 +37,7 @@ use Rattle.wiedemann.specs.Projection.{Words}
 use Rattle.laws.specs.Part.{part, length-part, at-part}
 use Rattle.laws.specs.Lent.{lent, length-lent, take-lent, inner-lent, part-at, part-of-part, same-take, same-drop}
 use Rattle.wiedemann.specs.Turns.{Shortened}
-use Rattle.wiedemann.specs.Factor.{Factors, Multiplied}
+use Rattle.recurrence.specs.Factor.{Factors, Multiplied}
 
 abbrev pub generatorAt : ℕ → ℕ → ℕ
 generatorAt n left = residualAt n + (3 * n + (2 * left + 2))

@@ -2,7 +2,6 @@
 --     wordTerm         the product of word i with element i
 --     Raw              what the sum of such products needs to know
 --     Words            the random words as vectors of n; words-of: where they are taken
---     sumFrom-zero     a sum from 0 on
 --     sum-one          a sum of which one term is not 0
 --     dot-words        a dot product with words, each taken modulo p: one reduction is enough
 --     dot-unit         a dot product with a unit vector: an element
@@ -46,10 +45,6 @@ pub words-of : (n : ℕ) (words : List ℕ) → wordsTaken n words ≡ true → 
 words-of n words t =
     let count = vectorCount-div n words in
     record { count = refl; whole = vectorCount-whole n words t ∙ ap (λ k. k * n) count; few = omega (arith, vectorCount-few n words t, count) }
-
-pub sumFrom-zero : (n : ℕ) (f : ℕ → ℕ) → sumFrom 0 n f ≡ sum n f
-sumFrom-zero n f =
-    ap (λ m. sum m (λ j. f (0 + j))) (sub-zero n) ∙ sum-ext n (λ j. f (0 + j)) f (λ i l. ap f (zero-add i))
 
 pub sum-one : (n : ℕ) (f : ℕ → ℕ) (j : ℕ) → j < n → ((i : ℕ) → i < n → i ≢ j → f i ≡ 0) → sum n f ≡ f j
 sum-one zero f j l h = absurd (omega arith)

@@ -39,7 +39,7 @@ use Rattle.laws.specs.Part.{part, Apart, length-part, at-part, part-ext, writte
 use Rattle.wiedemann.specs.Region.{Regions}
 use Rattle.laws.specs.Part as region
 use Rattle.wiedemann.specs.Horner.{step, stepAt, table-step, step-product, power-zero, power-suc, apply-one, apply-cons, vector-table, vector-product}
-use Rattle.wiedemann.specs.Recurrence.{HoldsGenerator}
+use Rattle.recurrence.specs.Recurrence.{HoldsGenerator}
 use Rattle.laws.specs.Lent.{part-at, part-cons, lent, length-lent, take-lent, inner-lent, same-take, same-drop, written-take, written-drop, take-padded}
 
 pub data Seat (n a : ℕ) : Type 0 where

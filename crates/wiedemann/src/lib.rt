@@ -1,8 +1,5 @@
-// Sparse matrices modulo a prime: their products and polynomials, shortest recurrences, one pass of a run, and the checks of offered answers.
-mod convolution;
-pub mod factor;
+// Sparse matrices modulo a prime: their products and polynomials, one pass of a run, and the checks of offered answers.
 pub mod matrix;
 pub mod offered;
 pub mod pass;
 mod projection;
-pub mod recurrence;

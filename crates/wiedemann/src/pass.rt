@@ -15,16 +15,16 @@ ghost use Rattle.wiedemann.specs.Projection.{Words};
 ghost use Rattle.wiedemann.specs.Turns.{Seat, Other, Turning, Advanced, Sequenced, Leading, Applied, Generated, Shortened};
 ghost use Rattle.wiedemann.specs.Pass.{generatorAt, Makes, Passes};
 ghost use Rattle.checks.specs.Pass.{State};
-use crate::factor::multiply;
 use crate::matrix::step_within;
 use crate::projection::Projection;
 use crate::projection::projected;
-use crate::recurrence::Answer;
-use crate::recurrence::generate;
 use checks::pass_refusal;
 use checks::residual_at;
 use field::Field;
 use modular::modulus::Modulus;
+use recurrence::Answer;
+use recurrence::factor::multiply;
+use recurrence::generate;
 use slices::copy_within;
 
 // The region of the next iterate: the second after the first and the third, the third after the second.

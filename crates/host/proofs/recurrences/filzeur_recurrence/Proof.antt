@@ -3,7 +3,7 @@ use Prim.Native.Nat.{_+_, _≤_}
 use lib.ListN.{take}
 use Rattle.meaning.specs.Recurrence.{IsShortest}
 use Rattle.meaning.specs.Calls.{recurrenceRefusal, recurrenceAnswer}
-use Rattle.wiedemann.specs.Recurrence.{GivesDegree}
+use Rattle.recurrence.specs.Recurrence.{GivesDegree}
 use Rattle.host.specs.declared.recurrences.Degree.{Degree}
 use Rattle.host.proofs.Laid.{degree-answered}
 use Rattle.host.proofs.Small.{degree-small}

@@ -1,6 +1,6 @@
 use mathlib.Core.Path.{sym, ap₂, subst}
 use native.Mathlib.Omega.{arith}
-use Rattle.wiedemann.specs.Recurrence.{GivesDegree}
+use Rattle.recurrence.specs.Recurrence.{GivesDegree}
 use Rattle.host.specs.Answers.{degreeOf}
 use borrow.Author.Needs.{needs}
 use Rattle.host.proofs.recurrences.numbers_of.Statement.{statement}

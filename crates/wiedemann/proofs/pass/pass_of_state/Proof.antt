@@ -1,5 +1,5 @@
 use Rattle.wiedemann.specs.Pass.{residualAt, generatorAt, Narrowed, narrowed-from, narrowed-factors, made}
-use Rattle.wiedemann.specs.Factor.{multiplied-lent, factors-taken, product-of}
+use Rattle.recurrence.specs.Factor.{multiplied-lent, factors-taken, product-of}
 use Rattle.laws.specs.Lent.{lent, part-at, part-of-part}
 use Rattle.laws.specs.Part.{part, length-part}
 use Rattle.residue.specs.Prime.{isModulus-Prime}

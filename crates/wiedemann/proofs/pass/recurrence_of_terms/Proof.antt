@@ -1,4 +1,4 @@
-use Rattle.wiedemann.specs.Recurrence.{Ready, terms-taken}
+use Rattle.recurrence.specs.Recurrence.{Ready, terms-taken}
 use Rattle.wiedemann.specs.Turns.{generated}
 use Rattle.residue.specs.Prime.{isModulus-Prime, isModulus-le}
 use Rattle.laws.specs.Part.{part, length-part, at-part}

@@ -1,5 +1,6 @@
 use native.Mathlib.Nat.{zero-add}
-use Rattle.wiedemann.specs.Projection.{wordTerm, sumFrom-zero, dot-words}
+use Rattle.wiedemann.specs.Projection.{wordTerm, dot-words}
+use Rattle.modular.specs.Sums.{sumFrom-zero}
 use Rattle.modular.specs.declared.sums.Total.{Total}
 use Rattle.modular.specs.Sums.{summed-both}
 use Rattle.meaning.specs.List.{sum, sumFrom}

@@ -1,0 +1,83 @@
+-- The end of the steps: L, and f, which is q in reverse order.
+--     at-generator-within, at-generator-past     the coefficients of f
+--     degree-at                                  L is that of the last steps
+--     holds-generator                            q reversed in its region is f, with zeros after it
+--     generator-at                               f in its region, coefficient by coefficient
+use mathlib.Core.Path.{_≡_, sym, ap, _∙_, subst}
+use mathlib.Core.Logic.{⊎-elim}
+use mathlib.Core.List.{List}
+use Prim.Native.Nat.{ℕ, _+_, _-_, _≤_, _<_}
+use native.Mathlib.Omega.{arith}
+use lib.ListN.{length, take, drop, length-drop}
+use lib.Seq.{getD-take, getD-drop, length-take-le}
+use Rattle.meaning.specs.List.{at}
+use Rattle.meaning.specs.Recurrence.{steps, reversed, degree, generator}
+use Rattle.laws.specs.List.{table-of, getD-table, getD-table-past}
+use Rattle.laws.specs.Recurrence.{Regular, steps-regular}
+use Rattle.recurrence.specs.declared.steps.Register.{Register}
+use Rattle.recurrence.specs.Recurrence.{Ready, AfterSteps, Reversed, HoldsGenerator}
+use Rattle.recurrence.proofs.HoldsSteps.{lt-or-ge}
+use Rattle.recurrence.proofs.AfterSteps.{front}
+
+module _ (p : ℕ) (s : List ℕ) (n : ℕ) (e : length s ≡ n) where
+  pub degree-at : degree p s ≡ steps p s n .L
+  unfolding degree
+  degree-at = ap (λ k. steps p s k .L) e
+
+  pub at-generator-within : (i : ℕ) → i ≤ steps p s n .L → at (generator p s) i ≡ at (steps p s n .q) (steps p s n .L - i)
+  unfolding generator reversed
+  at-generator-within i l =
+      getD-table (degree p s + 1) (λ k. at (steps p s (length s) .q) (degree p s - k)) i 0 (omega (arith, degree-at))
+      ∙ ap (λ k. at (steps p s k .q) (degree p s - i)) e ∙ ap (λ k. at (steps p s n .q) (k - i)) degree-at
+
+  pub at-generator-past : (i : ℕ) → steps p s n .L < i → at (generator p s) i ≡ 0
+  unfolding generator reversed
+  at-generator-past i l =
+      getD-table-past (degree p s + 1) (λ k. at (steps p s (length s) .q) (degree p s - k)) i 0 (omega (arith, degree-at))
+
+pub holds-generator : {p count r : ℕ} {W W₁ W′ : List ℕ} {c : Register} → Ready p count W → r ≡ count → AfterSteps p count r W W₁ c
+    → Reversed W₁ (count + 2) (c .length) W′ → HoldsGenerator p count W W′ (c .length)
+holds-generator {p} {count} {r} {W} {W₁} {W′} {c} ready end b turned =
+    record {
+      answer = a .holds .L ∙ sym (degree-at p s count size);
+      f = table-of 0 (take (count + 2) (drop (count + 2) W′)) (count + 2) (λ i. at (generator p s) i)
+          (length-take-le (count + 2) (drop (count + 2) W′) (subst (λ n. count + 2 ≤ n) (sym (length-drop (count + 2) W′)) (omega (arith, room))))
+          (λ i l. getD-take (count + 2) (drop (count + 2) W′) i 0 l ∙ getD-drop (count + 2) W′ i 0 ∙ place i l);
+      terms =
+          front (count + 2) W₁ W′ (turned .same-length) (omega (arith, a .room, ready .room)) (λ k l. turned .before k l) ∙ a .terms;
+    }
+  where
+    a : AfterSteps p count count W W₁ c
+    a = subst (λ n. AfterSteps p count n W W₁ c) end b
+
+    s : List ℕ
+    s = take count W
+
+    size : length s ≡ count
+    size = length-take-le count W (omega (arith, ready .room))
+
+    room : length W′ ≡ length W
+    room = turned .same-length ∙ a .room
+
+    regular : Regular p count (steps p s count)
+    regular = steps-regular p (ready .two) s count
+
+    within : c .length ≤ count
+    within = subst (λ x. x ≤ count) (sym (a .holds .L)) (regular .within)
+
+    place : (i : ℕ) → i < count + 2 → at W′ (count + 2 + i) ≡ at (generator p s) i
+    place i l =
+        ⊎-elim
+        (λ past. turned .after (count + 2 + i) (omega arith) ∙ a .holds .q i l
+        ∙ regular .q-end i (subst (λ x. x < i) (a .holds .L) past)
+        ∙ sym (at-generator-past p s count size i (subst (λ x. x < i) (a .holds .L) past)))
+        (λ inside. turned .inside i inside ∙ a .holds .q (c .length - i) (omega (arith, within))
+        ∙ ap (λ k. at (steps p s count .q) (k - i)) (a .holds .L)
+        ∙ sym (at-generator-within p s count size i (subst (λ x. i ≤ x) (a .holds .L) inside)))
+        (lt-or-ge (c .length) i)
+
+pub generator-at : {p count : ℕ} {W W′ : List ℕ} {L : ℕ} → HoldsGenerator p count W W′ L → (i : ℕ) → i < count + 2
+    → at W′ (count + 2 + i) ≡ at (generator p (take count W)) i
+generator-at {p} {count} {W} {W′} {L} held i l =
+    sym (getD-take (count + 2) (drop (count + 2) W′) i 0 l ∙ getD-drop (count + 2) W′ i 0) ∙ ap (λ x. at x i) (held .f)
+    ∙ getD-table (count + 2) (λ k. at (generator p (take count W)) k) i 0 l
