@@ -1,4 +1,6 @@
-use Rattle.wiedemann.specs.Pass.{residualAt, generatorAt, Narrowed, narrowed-from, narrowed-factors, made}
+use Rattle.checks.specs.Pass.{residualAt}
+use Rattle.wiedemann.specs.Pass.{Narrowed, narrowed-from, narrowed-factors, made}
+use Rattle.wiedemann.specs.Projection.{words-of}
 use Rattle.recurrence.specs.Factor.{multiplied-lent, factors-taken, product-of}
 use Rattle.laws.specs.Lent.{lent, part-at, part-of-part}
 use Rattle.laws.specs.Part.{part, length-part}
@@ -79,7 +81,7 @@ take-factor-requires c κs =
     rw (c .before .residual-at .ensures) (
       (pre .0 .0, pre .0 .1),
       (
-        (pre .0 .2, omega (arith, below), omega (arith, pre .0 .0 .sized), s .words-taken),
+        (pre .0 .2, omega (arith, below), omega (arith, pre .0 .0 .sized), words-of n (now (a .words)) (s .words-taken)),
         (
           omega (arith, long, room, below),
           subst (λ l. Vector (a .m .p) n l)
