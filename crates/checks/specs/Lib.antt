@@ -4,3 +4,4 @@ pub mod Matrix
 pub mod Recurrence
 pub mod Solver
 pub mod Pass
+pub mod Answers

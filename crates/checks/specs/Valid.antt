@@ -7,18 +7,21 @@
 --     rowProduct       their sum over row i
 --     Entries          what the sum of a row needs to know: entries and elements below 2³¹ − 1, columns within v
 --     valid-entries    a valid matrix with a vector
+--     vector-table     what is reduced has elements below p
+--     row-bounds       where a row begins and ends
 use mathlib.Core.Path.{_≡_}
 use mathlib.Core.Bool.{true}
 use mathlib.Core.List.{List}
-use Prim.Native.Nat.{ℕ, _+_, _*_, _≤_, _<_}
+use Prim.Native.Nat.{ℕ, _+_, _*_, _%_, _≤_, _<_}
+use native.Mathlib.Nat.{mod-lt}
 use native.Mathlib.Omega.{arith}
 use lib.Dec.{ltb}
 use lib.ListN.{length}
 use borrow.Author.Tests.{ltb-true, lt-ltb}
-use Rattle.meaning.specs.List.{at}
+use Rattle.meaning.specs.List.{at, table}
 use Rattle.meaning.specs.Matrix.{Matrix, size, rowSum}
 use Rattle.meaning.specs.Refusal.{elements}
-use Rattle.laws.specs.List.{every-at, every-of}
+use Rattle.laws.specs.List.{every-at, every-of, length-table, getD-table}
 use Rattle.laws.specs.Accepted.{modulus-low, modulus-high, AcceptedSystem, start-within, column-within, value-below, right-at}
 
 pub record Valid (p : ℕ) (A : Matrix) : Type 0 where
@@ -92,3 +95,11 @@ valid-entries p A v h w =
       value = λ k l. omega (arith, h .value k l, h .small);
       element = λ i l. omega (arith, w .below i (omega (arith, w .places)), h .small);
     }
+
+pub vector-table : (p n : ℕ) (f : ℕ → ℕ) → 0 < p → Vector p n (table n (λ i. f i % p))
+vector-table p n f l =
+    record { places = length-table n (λ i. f i % p); below = λ i k. rw (getD-table n (λ j. f j % p) i 0 k) (mod-lt (f i) l) }
+
+pub row-bounds : (A : Matrix) (i from to : ℕ) → from ≡ at (A .starts) i → to ≡ at (A .starts) (i + 1) → {p : ℕ} → Valid p A → i < size A
+    → (from ≤ to) × (to ≤ length (A .columns))
+row-bounds A i from to here next h l = (omega (arith, here, next, h .rise i l), omega (arith, next, h .within i l))

@@ -16,6 +16,13 @@ ghost use Rattle.meaning.specs.Calls.{systemChecks, productRefusal, applyRefusa
 ghost use Rattle.checks.specs.Pass.{residualAt, stateChecks, passRefusal};
 ghost use Rattle.checks.specs.Matrix.{columnTaken, rises, Ordered};
 
+// What a call that writes a slice answers.
+pub enum Writing {
+    Done,
+    // The number of the first check that turned the input down.
+    Refused(u32),
+}
+
 // A number of 32 bits as an index.
 pub fn wide(x: u32) -> usize
     ensures { λ r. ⌜ (r ≡ x) × (r ≤ 4294967295) ⌝ }

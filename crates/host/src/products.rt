@@ -1,16 +1,16 @@
 // Av, the transposed product and g(A)v.
+use checks::Writing;
 use field::Field;
-use wiedemann::matrix::Writing;
+use transposed::transposed;
 use wiedemann::matrix::apply;
 use wiedemann::matrix::product;
-use wiedemann::matrix::transposed;
 ghost use mathlib.Core.Path.{_≡_};
 ghost use mathlib.Core.Logic.{_≢_};
 ghost use Prim.Native.Nat.{ℕ};
 ghost use Rattle.meaning.specs.Matrix.{matrix};
 ghost use Rattle.meaning.specs.Matrix as meaning;
 ghost use Rattle.meaning.specs.Calls.{productRefusal, productAfter, applyRefusal, applyAfter};
-ghost use Rattle.wiedemann.specs.Answers.{Writes};
+ghost use Rattle.checks.specs.Answers.{Writes};
 
 fn number_of(writing: Writing) -> u32
     ensures { λ r. ⌜ ((number : ℕ) → Writes writing number → r ≡ number) ⌝ }

@@ -5,6 +5,7 @@
 // end whether A takes v to b and whether v is a null vector. A large case is its first list alone, with the numbers that make the others.
 // vectors.py makes cases and output.
 ghost use Prim.Native.Nat.{_≤_};
+use checks::Writing;
 use field::Field;
 use test_io::at;
 use test_io::front;
@@ -13,7 +14,6 @@ use test_io::part;
 use test_io::place;
 use test_io::print;
 use test_io::show;
-use wiedemann::matrix::Writing;
 use wiedemann::offered::Offered;
 
 // The answer; the places of work that the call was free to change.
@@ -59,14 +59,7 @@ fn calls(memory: &[u32], from: usize) {
     show(&out, 0, room);
     let left = part(&out, 0, room);
     print_verdict(wiedemann::offered::takes(f, starts, columns, values, v, left));
-    let transposed = wiedemann::matrix::transposed(
-        f,
-        starts,
-        columns,
-        values,
-        v,
-        front(&mut out, room),
-    );
+    let transposed = transposed::transposed(f, starts, columns, values, v, front(&mut out, room));
     print_writing(transposed, 0);
     show(&out, 0, room);
     let mut work = test_io::lent();

@@ -1,7 +1,7 @@
 -- Horner's rule for the polynomial of a matrix.
 --     stepAt           its element i
 --     step p A c x v   element i is c × x[i] plus the product of row i with v: Horner's step, and the product if c is 0
---     row-bounds, row-reduced      a row by the bounds that a loop over rows carries: they are in order, and its sum, reduced
+--     row-reduced      a row's sum by the bounds that a loop over rows carries, reduced
 --     step-product     step p A 0 x v ≡ product p A v; step-made: what such a step leaves
 --     sum-head, sum-scale, sum-swap, sum-mod-ext      laws of sums
 --     power-zero, power-suc      the clauses of power
@@ -12,12 +12,12 @@
 --     horner-begins, horner-goes-on      the rule as a loop runs it: from the last coefficient, and by one step more
 --     Turn               the rule by turns between two slices: turn-even, turn-odd where it begins; turn-work, turn-out: what is read next; turn-to-even,
 --                        turn-to-odd: a step more
---     vector-table, vector-step, vector-product, vector-apply      what is reduced has elements below p
+--     vector-step, vector-product, vector-apply      what is reduced has elements below p
 use mathlib.Core.Path.{_≡_, refl, sym, ap, ap₂, _∙_, subst}
 use mathlib.Core.Logic.{_≢_}
 use mathlib.Core.List.{List, [], _∷_}
 use Prim.Native.Nat.{ℕ, zero, suc, _+_, _*_, _-_, _%_, _≤_, _<_}
-use native.Mathlib.Nat.{zero-add, add-zero, zero-mul, mul-zero, mul-add, mul-left-comm, mod-lt, add-mod-mod}
+use native.Mathlib.Nat.{zero-add, add-zero, zero-mul, mul-zero, mul-add, mul-left-comm, add-mod-mod}
 use native.Mathlib.Omega.{arith}
 use lib.ListN.{length, drop}
 use lib.Seq.{drop-cons, drop-length}
@@ -26,7 +26,7 @@ use Rattle.meaning.specs.Field.{times}
 use Rattle.meaning.specs.Matrix.{Matrix, size, product, power, apply}
 use Rattle.laws.specs.List.{sum-zero, sum-suc, sum-ext, sum-zeros, sum-add, sum-mod, length-table, getD-table, table-ext}
 use Rattle.residue.specs.Numbers.{mul-mod-mod}
-use Rattle.checks.specs.Valid.{Valid, Vector, term, rowProduct}
+use Rattle.checks.specs.Valid.{Valid, Vector, term, rowProduct, vector-table}
 use Rattle.modular.specs.declared.sums.Total.{Total}
 use Rattle.modular.specs.Total.{number}
 
@@ -37,9 +37,6 @@ unfoldable pub step : ℕ → Matrix → ℕ → List ℕ → List ℕ → List 
 step p A c x v = table (size A) (stepAt p A c x v)
 
 module _ (A : Matrix) (i from to : ℕ) (here : from ≡ at (A .starts) i) (next : to ≡ at (A .starts) (i + 1)) where
-  pub row-bounds : {p : ℕ} → Valid p A → i < size A → (from ≤ to) × (to ≤ length (A .columns))
-  row-bounds h l = (omega (arith, here, next, h .rise i l), omega (arith, next, h .within i l))
-
   pub row-reduced : (p start s x : ℕ) (v w : List ℕ) (r : Total) → start ≡ s → v ≡ w
       → number r ≡ start + sumFrom from to (term (A .columns) (A .values) v) → x ≡ number r % p → x ≡ (s + rowProduct A w i) % p
   row-reduced p start s x v w r e q summed reduced =
@@ -197,10 +194,6 @@ horner-goes-on p A h g v i w w′ l k held made =
     ∙ sym (apply-cons p A h (at g (i - 1)) (drop (suc (i - 1)) g) v) ∙ ap (λ m. apply p A m v) (sym (drop-cons g (i - 1) 0 (omega (arith, k))))
 
 -- ---- their elements
-
-pub vector-table : (p n : ℕ) (f : ℕ → ℕ) → 0 < p → Vector p n (table n (λ i. f i % p))
-vector-table p n f l =
-    record { places = length-table n (λ i. f i % p); below = λ i k. rw (getD-table n (λ j. f j % p) i 0 k) (mod-lt (f i) l) }
 
 pub vector-step : (p : ℕ) (A : Matrix) (c : ℕ) (x v : List ℕ) → 0 < p → Vector p (size A) (step p A c x v)
 unfolding step

@@ -1,7 +1,6 @@
 -- what the contracts cite
 pub mod Region
 pub mod Horner
-pub mod Transposed
 pub mod Offered
 pub mod Answers
 pub mod Projection

@@ -38,7 +38,8 @@ use Rattle.laws.specs.Written.{Written}
 use Rattle.laws.specs.Part.{part, Apart, length-part, at-part, part-ext, written-part}
 use Rattle.wiedemann.specs.Region.{Regions}
 use Rattle.laws.specs.Part as region
-use Rattle.wiedemann.specs.Horner.{step, stepAt, table-step, step-product, power-zero, power-suc, apply-one, apply-cons, vector-table, vector-product}
+use Rattle.wiedemann.specs.Horner.{step, stepAt, table-step, step-product, power-zero, power-suc, apply-one, apply-cons, vector-product}
+use Rattle.checks.specs.Valid.{vector-table}
 use Rattle.recurrence.specs.Recurrence.{HoldsGenerator}
 use Rattle.laws.specs.Lent.{part-at, part-cons, lent, length-lent, take-lent, inner-lent, same-take, same-drop, written-take, written-drop, take-padded}
 

@@ -8,15 +8,15 @@ ghost use Rattle.meaning.specs.Field.{times};
 ghost use Rattle.modular.specs.Modulus.{Modular};
 ghost use Rattle.modular.specs.Total.{number};
 ghost use Rattle.modular.specs.Sums.{Summed};
-ghost use Rattle.meaning.specs.Matrix.{matrix, product, apply, transposed};
+ghost use Rattle.meaning.specs.Matrix.{matrix, product, apply};
 ghost use Rattle.meaning.specs.Calls.{productRefusal, productAfter, applyRefusal, applyAfter};
 ghost use Rattle.checks.specs.Valid.{Entries, term, Valid, Vector};
 ghost use Rattle.wiedemann.specs.Horner.{step, stepAt};
 ghost use Rattle.laws.specs.Written.{Written};
 ghost use Rattle.laws.specs.Part.{part};
 ghost use Rattle.wiedemann.specs.Region.{Regions};
-ghost use Rattle.wiedemann.specs.Transposed.{scattered};
-ghost use Rattle.wiedemann.specs.Answers.{Writes};
+ghost use Rattle.checks.specs.Answers.{Writes};
+use checks::Writing;
 use checks::apply_refusal;
 use checks::product_refusal;
 use checks::wide;
@@ -25,7 +25,6 @@ use modular::modulus::Modulus;
 use modular::multiplier::Multiplier;
 use modular::sums::Total;
 use modular::sums::times;
-use slices::clear;
 
 // The product of entry k's value with the element of v at its column.
 fn entry(k: usize, columns: &[u32], values: &[u32], v: &[u32]) -> u64
@@ -208,53 +207,6 @@ pub(crate) fn horner(
     }
 }
 
-// c × the value of each entry added to out at its column: what a row adds to the transposed product. Its entries share one multiplier.
-fn scatter(p: u32, c: u32, from: usize, to: usize, columns: &[u32], values: &[u32], out: &mut [u32])
-    requires { ⌜ (c < p) × (p ≤ 2147483647) × (from ≤ to) × (to ≤ length (now columns))
-        × (length (now columns) ≡ length (now values)) × Vector p (length (now out)) (now out) ⌝ }
-    requires { ⌜ ((k : ℕ) → k < length (now columns) → at (now columns) k < length (now out)) ⌝ }
-    ensures { λ r. ⌜ now (out .exit) ≡ scattered p c from to (now (columns .entry)) (now (values .entry)) (now (out .entry)) ⌝ }
-{
-    let multiplier = Multiplier::of(p, c);
-    let mut k = from;
-    while k < to {
-        let j = wide(columns[k]);
-        out[j] = multiplier.added(p, values[k], out[j]);
-        k += 1;
-    }
-}
-
-// The transposed product into out, row after row.
-pub(crate) fn transposed_into(
-    p: u32,
-    starts: &[u32],
-    columns: &[u32],
-    values: &[u32],
-    v: &[u32],
-    out: &mut [u32],
-)
-    requires { ⌜ Valid p (matrix (now starts) (now columns) (now values)) ⌝ }
-    requires { ⌜ (length (now out) ≡ length (now starts) - 1) × Vector p (length (now starts) - 1) (now v) ⌝ }
-    ensures { λ r. ⌜ now (out .exit) ≡ transposed p (matrix (now (starts .entry)) (now (columns .entry)) (now (values .entry))) (now (v .entry)) ⌝ }
-{
-    clear(out);
-    let mut from = wide(starts[0]);
-    let mut i = 0;
-    while i < v.len() {
-        let to = wide(starts[i + 1]);
-        scatter(p, v[i], from, to, columns, values, out);
-        from = to;
-        i += 1;
-    }
-}
-
-// What a call that writes a slice answers.
-pub enum Writing {
-    Done,
-    // The number of the first check that turned the input down.
-    Refused(u32),
-}
-
 // Av into out.
 pub fn product(
     field: Field,
@@ -275,29 +227,6 @@ pub fn product(
         return Writing::Refused(number);
     }
     step(Modulus::of(p), 0, v, starts, columns, values, v, out);
-    Writing::Done
-}
-
-// The transposed product into out.
-pub fn transposed(
-    field: Field,
-    starts: &[u32],
-    columns: &[u32],
-    values: &[u32],
-    v: &[u32],
-    out: &mut [u32],
-) -> Writing
-    ensures { λ r. ⌜ Writes r
-        (productRefusal (field .p) (matrix (now (starts .entry)) (now (columns .entry)) (now (values .entry))) (now (v .entry)) (now (out .entry))) ⌝ }
-    ensures { λ r. ⌜ now (out .exit)
-        ≡ productAfter transposed (field .p) (matrix (now (starts .entry)) (now (columns .entry)) (now (values .entry))) (now (v .entry)) (now (out .entry)) ⌝ }
-{
-    let p = field.p;
-    let number = product_refusal(p, starts, columns, values, v, out);
-    if number != 0 {
-        return Writing::Refused(number);
-    }
-    transposed_into(p, starts, columns, values, v, out);
     Writing::Done
 }
 

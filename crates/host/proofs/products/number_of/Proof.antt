@@ -1,5 +1,5 @@
 use mathlib.Core.Path.{sym, subst}
-use Rattle.wiedemann.specs.Answers.{Writes}
+use Rattle.checks.specs.Answers.{Writes}
 use borrow.Author.Needs.{needs}
 use Rattle.host.proofs.products.number_of.Statement.{statement}
 use Rattle.host.proofs.products.number_of.Tie as tie

@@ -7,7 +7,7 @@ use denote.Ref.{now}
 use Rattle.meaning.specs.Matrix.{matrix, apply}
 use Rattle.meaning.specs.Calls.{applyRefusal}
 use Rattle.checks.specs.Matrix.{Applicable, apply-accepted}
-use Rattle.wiedemann.specs.Answers.{writes-refused, writes-done}
+use Rattle.checks.specs.Answers.{writes-refused, writes-done}
 use Rattle.laws.specs.Part.{length-part}
 use Rattle.modular.specs.Modulus.{Modular, modular-of}
 use borrow.Author.Needs.{needs}

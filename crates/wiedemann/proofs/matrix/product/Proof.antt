@@ -5,7 +5,7 @@ use Prim.Native.Nat.{_-_}
 use Rattle.meaning.specs.Matrix.{matrix, product}
 use Rattle.meaning.specs.Calls.{productRefusal}
 use Rattle.checks.specs.Matrix.{Accepted, product-accepted}
-use Rattle.wiedemann.specs.Answers.{writes-refused, writes-done}
+use Rattle.checks.specs.Answers.{writes-refused, writes-done}
 use Rattle.wiedemann.specs.Horner.{step-made}
 use Rattle.modular.specs.Modulus.{Modular, modular-of}
 use borrow.Author.Needs.{needs}

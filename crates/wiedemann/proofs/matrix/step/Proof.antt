@@ -7,7 +7,8 @@ use Rattle.meaning.specs.Matrix.{matrix}
 use Rattle.checks.specs.Valid.{valid-entries}
 use Rattle.laws.specs.Written.{Written, written-none, written-all}
 use Rattle.laws.specs.Part.{written-next, written-table}
-use Rattle.wiedemann.specs.Horner.{stepAt, table-step, row-bounds, row-reduced}
+use Rattle.wiedemann.specs.Horner.{stepAt, table-step, row-reduced}
+use Rattle.checks.specs.Valid.{row-bounds}
 use Rattle.modular.specs.Total.{residue-number}
 use borrow.Author.Needs.{needs}
 use Rattle.wiedemann.proofs.matrix.step.Statement.{statement}

@@ -9,7 +9,8 @@ use Rattle.checks.specs.Valid.{Entries, valid-entries}
 use Rattle.laws.specs.Written.{Written, written-none, written-more, written-all}
 use Rattle.laws.specs.Part.{part, apart-shorter, at-part, written-other-at, written-other}
 use Rattle.wiedemann.specs.Region.{vector-part}
-use Rattle.wiedemann.specs.Horner.{stepAt, row-bounds, row-reduced}
+use Rattle.wiedemann.specs.Horner.{stepAt, row-reduced}
+use Rattle.checks.specs.Valid.{row-bounds}
 use Rattle.modular.specs.Total.{residue-number}
 use borrow.Author.Needs.{needs}
 use Rattle.wiedemann.proofs.matrix.step_within.Statement.{statement}

@@ -13,7 +13,8 @@ use Rattle.meaning.specs.Matrix.{Matrix, matrix, product}
 use Rattle.laws.specs.List.{all-zero, all-not}
 use Rattle.checks.specs.Valid.{rowProduct, valid-entries}
 use Rattle.checks.specs.Matrix.{all-next}
-use Rattle.wiedemann.specs.Horner.{at-product, row-bounds, row-reduced}
+use Rattle.wiedemann.specs.Horner.{at-product, row-reduced}
+use Rattle.checks.specs.Valid.{row-bounds}
 use Rattle.modular.specs.Total.{residue-number}
 use borrow.Author.Needs.{needs}
 use Rattle.wiedemann.proofs.offered.agrees.Statement.{statement}

@@ -26,8 +26,7 @@ use Rattle.meaning.specs.Field.{plus, times}
 use Rattle.meaning.specs.Matrix.{Matrix, size, rowSum, transposed}
 use Rattle.laws.specs.List.{sum-zero, sum-suc, length-table, getD-table, table-ext, table-of}
 use Rattle.modular.specs.Sums.{sumFrom-empty, sumFrom-next}
-use Rattle.checks.specs.Valid.{Vector}
-use Rattle.wiedemann.specs.Horner.{vector-table}
+use Rattle.checks.specs.Valid.{Vector, vector-table}
 
 abbrev pub hit : List ℕ → List ℕ → ℕ → ℕ → ℕ → ℕ
 hit columns values c j k = cond (eqb (at columns k) j) (at values k * c) 0

@@ -5,10 +5,10 @@ use Prim.Native.Nat.{_-_}
 use Rattle.meaning.specs.Matrix.{matrix, transposed}
 use Rattle.meaning.specs.Calls.{productRefusal}
 use Rattle.checks.specs.Matrix.{Accepted, product-accepted}
-use Rattle.wiedemann.specs.Answers.{writes-refused, writes-done}
+use Rattle.checks.specs.Answers.{writes-refused, writes-done}
 use borrow.Author.Needs.{needs}
-use Rattle.wiedemann.proofs.matrix.transposed.Statement.{statement}
-use Rattle.wiedemann.proofs.matrix.transposed.Tie as tie
+use Rattle.transposed.proofs.transposed.Statement.{statement}
+use Rattle.transposed.proofs.transposed.Tie as tie
 
 none : (c : tie.Else1)
     → let at = c .before .before .before .before .before .before .before .before .args in

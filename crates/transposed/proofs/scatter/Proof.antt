@@ -1,4 +1,4 @@
--- `wiedemann::matrix::scatter` meets its contract: the loop's invariant: out has the entries passed added at their columns.
+-- the loop's invariant: out has the entries passed added at their columns.
 use mathlib.Core.Path.{_≡_, refl, sym, ap, ap₂, _∙_, subst}
 use Prim.Native.Nat.{_-_, _≤_, _<_}
 use native.Mathlib.Omega.{arith}
@@ -6,11 +6,11 @@ use lib.ListN.{length, getD, set}
 use denote.Ref.{now}
 use Rattle.meaning.specs.Field.{plus, times}
 use Rattle.checks.specs.Valid.{Vector}
-use Rattle.wiedemann.specs.Transposed.{scattered, scattered-none, scattered-more, vector-scattered}
+use Rattle.transposed.specs.Transposed.{scattered, scattered-none, scattered-more, vector-scattered}
 use Rattle.modular.specs.Modulus.{Multiplies, multiplies-of, added-of}
 use borrow.Author.Needs.{needs}
-use Rattle.wiedemann.proofs.matrix.scatter.Statement.{statement}
-use Rattle.wiedemann.proofs.matrix.scatter.Tie as tie
+use Rattle.transposed.proofs.scatter.Statement.{statement}
+use Rattle.transposed.proofs.scatter.Tie as tie
 
 abbrev Inv-loop : tie.InvT-loop
 Inv-loop p c from to columns values out₀ multiplier k₀ out k =

@@ -7,11 +7,11 @@ use Rattle.meaning.specs.List.{zeros}
 use Rattle.meaning.specs.Matrix.{matrix}
 use Rattle.checks.specs.Valid.{Vector}
 use Rattle.laws.specs.Part.{written-table}
-use Rattle.wiedemann.specs.Horner.{row-bounds}
-use Rattle.wiedemann.specs.Transposed.{gathered, gathered-none, gathered-next, gathered-all, vector-gathered}
+use Rattle.checks.specs.Valid.{row-bounds}
+use Rattle.transposed.specs.Transposed.{gathered, gathered-none, gathered-next, gathered-all, vector-gathered}
 use borrow.Author.Needs.{needs}
-use Rattle.wiedemann.proofs.matrix.transposed_into.Statement.{statement}
-use Rattle.wiedemann.proofs.matrix.transposed_into.Tie as tie
+use Rattle.transposed.proofs.transposed_into.Statement.{statement}
+use Rattle.transposed.proofs.transposed_into.Tie as tie
 
 abbrev Inv-loop : tie.InvT-loop
 Inv-loop p starts columns values v out₀ from₀ i₀ out from i =
