@@ -7,7 +7,7 @@ use std::num::wrapping_add_u32;
 use std::num::wrapping_sub_u32;
 use std::num::wrapping_sub_u64;
 ghost use mathlib.Core.Path.{_≡_};
-ghost use Prim.Native.Nat.{_*_, _/_};
+ghost use Prim.Native.Nat.{_+_, _*_, _/_, _%_, _<_};
 ghost use Rattle.modular.specs.Modulus.{lessened, restored, reduced, modulusOf, barrett, differenceOf};
 
 const MAX: u64 = 18446744073709551615;
@@ -54,6 +54,14 @@ fn upper(a: u64, b: u64) -> u64
     front * first + middle / 4294967296 + rest / 4294967296
 }
 
+// r + 1 modulo p, for r below p.
+fn successor(p: u32, r: u32) -> u32
+    requires { ⌜ r < p ⌝ }
+    ensures { λ s. ⌜ s ≡ (r + 1) % p ⌝ }
+{
+    if r + 1 == p { 0 } else { r + 1 }
+}
+
 impl Modulus {
     // For 0, by which nothing is divided, reciprocal and weight are 0.
     pub fn of(p: u32) -> Self
@@ -70,7 +78,7 @@ impl Modulus {
         Modulus {
             p,
             reciprocal: MAX / m,
-            weight: ((MAX % m + 1) % m) as u32,
+            weight: successor(p, (MAX % m) as u32),
         }
     }
 

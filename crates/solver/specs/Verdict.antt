@@ -5,7 +5,7 @@
 --     kindOf, SameRun, same-run      two runs on one system, whatever their words and slices, agree in kind, vector and f
 --     closing            the counts at the end, with the applications of G(A)b
 --     Ends, Closed       what is made of F when r is zero
---     constant, coefficients, image      F[0] and G in the polynomial slice, and G(A)b in the vector slice
+--     constant, divisor, coefficients, image      F[0], its inverse and G in the polynomial slice, and G(A)b in the vector slice
 --     closed             so it is the meaning's `solve`
 --     refused, taken     a call that was refused, and one that was not
 use mathlib.Core.Path.{_≡_, refl, sym, ap, _∙_, subst}
@@ -19,11 +19,13 @@ use lib.ListN.{length, take, drop, length-drop}
 use lib.Seq.{take-all, getD-drop}
 use borrow.Author.Tests.{eq-eqb, ne-eqb, le-leb}
 use Rattle.meaning.specs.List.{at, padded}
+use Rattle.meaning.specs.Field.{inverse}
 use Rattle.meaning.specs.Matrix.{Matrix, size, apply}
 use Rattle.meaning.specs.Solver.{Run, Kind, solved, singular, Outcome, passCount, applications, verdict, close, solve}
 use Rattle.meaning.specs.ThirdCondition.{ThirdCondition, SameAnswer}
 use Rattle.meaning.specs.Refusal.{check, first, matrixChecks}
 use Rattle.meaning.specs.Calls.{applyRefusal, applyAfter, runChecks, solverRefusal, vectorAfter, polynomialAfter}
+use Rattle.residue.specs.Inverse.{inverse-lt}
 use Rattle.bridge.specs.ThirdCondition.{everyRun, everyTwoRuns}
 use Rattle.solver.specs.declared.Counts.{Counts}
 use Rattle.solver.specs.declared.Verdict.{Verdict}
@@ -139,6 +141,13 @@ module _ {p : ℕ} {A : Matrix} {b W : List ℕ} {c : Counts} (s : System p A b)
   -- F[0] stands in the polynomial slice's first place
   pub constant : at P 0 ≡ at (part 0 (c .degree + 1) W) 0
   constant = ap (λ l. at l 0) e ∙ getD-table (size A + 1) (λ i. at (part 0 (c .degree + 1) W) i) 0 0 (omega arith)
+
+  -- its inverse is an element
+  pub divisor : {y : ℕ} → y ≡ inverse p (at P 0) → at P 0 ≢ 0 → y < p
+  divisor {y} i n =
+      subst (λ x. x < p) (sym i)
+      (inverse-lt p (s .accepted .prime) (at P 0) (omega (arith, n))
+      (subst (λ x. x < p) (sym (constant ∙ at-part 0 (c .degree + 1) W 0 (omega arith))) (q .elements 0 (omega arith))))
 
   -- G stands behind it
   pub coefficients : part 1 (c .degree) P ≡ drop 1 (part 0 (c .degree + 1) W)

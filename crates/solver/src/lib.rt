@@ -14,6 +14,7 @@ ghost use Rattle.meaning.specs.Matrix.{matrix};
 ghost use Rattle.meaning.specs.Refusal.{wordsTaken};
 ghost use Rattle.meaning.specs.Solver.{begin};
 ghost use Rattle.checks.specs.Valid.{Vector};
+ghost use Rattle.modular.specs.Modulus.{Multiplies};
 ghost use Rattle.laws.specs.Part.{part};
 ghost use Rattle.checks.specs.Pass.{residualAt};
 ghost use Rattle.wiedemann.specs.Pass.{held};
@@ -23,6 +24,7 @@ use checks::residual_at;
 use checks::solver_refusal;
 use field::Field;
 use field::inverse_modulo;
+use modular::multiplier::Multiplier;
 use slices::is_zero;
 use slices::write_padded;
 use wiedemann::matrix::apply;
@@ -47,23 +49,24 @@ pub enum Verdict {
 
 // ---- slices
 
-// −w × inverse modulo p.
-fn quotient(p: u32, w: u32, inverse: u32) -> u32
-    requires { ⌜ (w < p) × (p ≤ 2147483647) ⌝ }
-    ensures { λ r. ⌜ r ≡ times p (minus p 0 w) inverse ⌝ }
+// −w times the multiplier's constant modulo p.
+fn quotient(p: u32, k: Multiplier, w: u32) -> u32
+    requires { ⌜ (w < p) × Multiplies p k ⌝ }
+    ensures { λ r. ⌜ r ≡ times p (minus p 0 w) (k .constant) ⌝ }
 {
     let negative = if w == 0 { 0 } else { p - w };
-    ((negative as u64) * (inverse as u64) % (p as u64)) as u32
+    k.times(p, negative)
 }
 
-// Each element w becomes −w × inverse. A division for an element, once in a run.
+// Each element w becomes −w × inverse.
 fn divide(p: u32, inverse: u32, v: &mut [u32])
-    requires { ⌜ (p ≤ 2147483647) × Vector p (length (now v)) (now v) ⌝ }
+    requires { ⌜ (inverse < p) × (p ≤ 2147483647) × Vector p (length (now v)) (now v) ⌝ }
     ensures { λ _. ⌜ now (v .exit) ≡ table (length (now (v .entry))) (λ i. times p (minus p 0 (at (now (v .entry)) i)) inverse) ⌝ }
 {
+    let k = Multiplier::of(p, inverse);
     let mut i = 0;
     while i < v.len() {
-        v[i] = quotient(p, v[i], inverse);
+        v[i] = quotient(p, k, v[i]);
         i += 1;
     }
 }

@@ -1,4 +1,4 @@
-use Rattle.solver.specs.Verdict.{constant, image}
+use Rattle.solver.specs.Verdict.{divisor, constant, image}
 use Rattle.wiedemann.specs.Horner.{vector-apply}
 use Rattle.laws.specs.Lent.{part-at}
 use Rattle.laws.specs.Part.{part}
@@ -155,7 +155,7 @@ divide-requires c κs =
     let P = c .before .before .before .before .before .before .before .before .before .before .before .before .before .before .before .before .write-padded .last .1 .0 in
     let written : P ≡ padded (n + 1) F = c .before .before .before .before .before .before .before .before .before .before .before .before .before .before .before .before .write-padded .ensures ∙ ap₂ padded (pre .1 .1 .1) (part-at W 0 (d + 1 - 0) 0 (d + 1) refl (omega arith)) in
     let done = c .before .before .before .before .before .before .before .before .apply .ensures .1 .0 ∙ image (pre .0) (pre .1 .0) P written (c .before .before .before .before .before .before .before .before .before .before .before .before .before .if1 .left) (now (a .vector)) W (pre .1 .1 .0) refl (d + 1 - 1) (omega arith) in
-    (pre .0 .valid .small, subst (λ v. Vector (a .field .p) (length v) v) (sym done) (whole (vector-apply (a .field .p) A (drop 1 F) (now (a .b)) (pre .0 .valid .positive))))
+    (divisor (pre .0) (pre .1 .0) P written (c .before .inverse-modulo .ensures) (c .before .before .if2 .left), pre .0 .valid .small, subst (λ v. Vector (a .field .p) (length v) v) (sym done) (whole (vector-apply (a .field .p) A (drop 1 F) (now (a .b)) (pre .0 .valid .positive))))
 
 closed-requires-3 : tie.Need-closed-requires-3
 closed-requires-3 c κs = (omega (arith, c .before .before .before .before .before .before .before .before .before .before .before .before .before .before .before .before .before .before .before .before .before .before .before .before .before .before .before .before .before .before .pre .1 .0 .found, c .before .before .before .before .before .before .before .before .before .before .before .before .before .before .before .before .before .before .before .before .before .before .before .before .before .before .before .before .before .before .pre .0 .valid .sized), c .before .before .before .before .before .before .before .before .before .before .before .before .before .before .before .before .before .before .before .before .before .before .before .before .before .before .before .before .before .before .pre .1 .0 .few)
