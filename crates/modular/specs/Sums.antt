@@ -80,7 +80,7 @@ summed-none t a f l h =
     record { sum = sym (ap (λ x. number t + x) (sumFrom-empty a f) ∙ add-zero (number t)); low = l; carries = h }
 
 -- a turn adds the word x
-pub summed-more : (t s r : Total) (a b c : ℕ) (f : ℕ → ℕ) (x : ℕ) → a ≤ b → b < c → c < 18446744073709551616 → Summed t s a b f
+pub summed-more : (t s r : Total) (a b c : ℕ) (f : ℕ → ℕ) (x : ℕ) → a ≤ b → b < c → c < 4294967296 → Summed t s a b f
     → x < 18446744073709551616 → x ≡ sumFrom b c f → r ≡ added s x → Summed t r a c f
 summed-more t s r a b c f x l k n h w e m =
     let more = add-sums s r x m (h .low) w (omega (arith, h .carries, k, n)) in
@@ -92,7 +92,7 @@ summed-more t s r a b c f x l k n h w e m =
       carries = omega (arith, more .1, h .carries, k);
     }
 
-pub summed-one : (t s r : Total) (a b : ℕ) (f : ℕ → ℕ) (x : ℕ) → a ≤ b → b < 18446744073709551615 → Summed t s a b f
+pub summed-one : (t s r : Total) (a b : ℕ) (f : ℕ → ℕ) (x : ℕ) → a ≤ b → b < 4294967295 → Summed t s a b f
     → x < 18446744073709551616 → x ≡ f b → r ≡ added s x → Summed t r a (b + 1) f
 summed-one t s r a b f x l n h w e m =
     summed-more t s r a b (b + 1) f x l (omega arith) (omega (arith, n)) h w (e ∙ sym (sumFrom-one b f)) m

@@ -1,7 +1,7 @@
 -- Sums of words in two words (src/sums.rt).
 --     number           the number that a total stands for
 --     added t x        a word added: the lower words' sum, and its carry in the higher
---     residueOf m t    the higher word's lower 32 bits taken at m's weight, and the carry of that again; then the remainder
+--     residueOf m t    the higher word taken at m's weight, and the carry of that again; then the remainder
 --     add-sums         a word is added to the number, and at most 1 to the higher word
 --     added-low, carry-le              the lower word of a sum, and what is above it
 --     high-fits, fold-fits             what `residueOf` adds up fits a word, whatever the words are
@@ -22,7 +22,7 @@ unfoldable pub added : Total → ℕ → Total
 added t x =
     record {
       low = (t .low + x) % 18446744073709551616;
-      high = (t .high + (t .low + x) / 18446744073709551616) % 18446744073709551616;
+      high = (t .high + (t .low + x) / 18446744073709551616) % 4294967296;
     }
 
 -- the lower word of s, and what is above it at the weight
@@ -30,7 +30,7 @@ abbrev pub folded : ℕ → ℕ → ℕ
 folded weight s = s % 18446744073709551616 + s / 18446744073709551616 * weight
 
 unfoldable pub residueOf : Modulus → Total → ℕ
-residueOf m t = barrett m (folded (m .weight) (t .low + t .high % 4294967296 * m .weight))
+residueOf m t = barrett m (folded (m .weight) (t .low + t .high * m .weight))
 
 -- ---- laws
 
@@ -38,7 +38,7 @@ residueOf m t = barrett m (folded (m .weight) (t .low + t .high % 4294967296 * m
 pub carry-le : (a b : ℕ) → a < 18446744073709551616 → b < 18446744073709551616 → (a + b) / 18446744073709551616 ≤ 1
 carry-le a b k l = omega (arith, k, l)
 
-pub add-sums : (t r : Total) (x : ℕ) → r ≡ added t x → t .low < 18446744073709551616 → x < 18446744073709551616 → t .high < 18446744073709551615
+pub add-sums : (t r : Total) (x : ℕ) → r ≡ added t x → t .low < 18446744073709551616 → x < 18446744073709551616 → t .high < 4294967295
     → (number r ≡ number t + x) × (r .high ≤ t .high + 1)
 unfolding added
 add-sums t r x e k l h =
@@ -92,8 +92,7 @@ pub residue-number : (m : Modulus) (t : Total) → Modular m → t .low < 184467
     → residueOf m t ≡ number t % m .p
 unfolding residueOf
 residue-number m t h k l =
-    ap (λ x. barrett m (folded (m .weight) (t .low + x * m .weight))) (mod-eq-of-lt l)
-    ∙ remainder-of m h (folded (m .weight) (t .low + t .high * m .weight)) (fold-fits (t .low) (t .high) (m .weight) k l light)
+    remainder-of m h (folded (m .weight) (t .low + t .high * m .weight)) (fold-fits (t .low) (t .high) (m .weight) k l light)
     ∙ fold-number (m .p) (m .weight) (t .low) (t .high) (h .weight)
   where
     light : m .weight < 4294967296

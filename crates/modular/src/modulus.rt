@@ -14,10 +14,10 @@ const MAX: u64 = 18446744073709551615;
 
 pub struct Modulus {
     pub p: u32,
-    // The quotient of 2⁶⁴ − 1 by p.
-    pub reciprocal: u64,
     // 2⁶⁴ modulo p.
     pub weight: u32,
+    // The quotient of 2⁶⁴ − 1 by p.
+    pub reciprocal: u64,
 }
 
 // The lower 32 bits of x − y: all of the difference, where it is known to be that small.
@@ -70,15 +70,15 @@ impl Modulus {
         if p == 0 {
             return Modulus {
                 p,
-                reciprocal: 0,
                 weight: 0,
+                reciprocal: 0,
             };
         }
         let m = p as u64;
         Modulus {
             p,
-            reciprocal: MAX / m,
             weight: successor(p, (MAX % m) as u32),
+            reciprocal: MAX / m,
         }
     }
 

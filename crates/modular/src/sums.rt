@@ -5,6 +5,7 @@
 //     total = total.add(x);         // for each word x: up to four products of residues, or two of a residue with any 32-bit word
 //     total.residue(m)
 use crate::modulus::Modulus;
+use std::num::wrapping_add_u32;
 use std::num::wrapping_add_u64;
 ghost use mathlib.Core.Path.{_≡_};
 ghost use Prim.Native.Nat.{_*_};
@@ -13,7 +14,7 @@ ghost use Rattle.modular.specs.Total.{added, residueOf};
 // The number low + high × 2⁶⁴.
 pub struct Total {
     pub low: u64,
-    pub high: u64,
+    pub high: u32,
 }
 
 // The whole product of two 32-bit words.
@@ -32,7 +33,7 @@ impl Total {
         let carry = if low < x { 1 } else { 0 };
         Total {
             low,
-            high: wrapping_add_u64(self.high, carry),
+            high: wrapping_add_u32(self.high, carry),
         }
     }
 
@@ -45,7 +46,7 @@ impl Total {
             low: self.low,
             high: 0,
         };
-        let sum = lower.add(self.high % 4294967296 * weight);
-        m.remainder(sum.low + sum.high * weight)
+        let sum = lower.add((self.high as u64) * weight);
+        m.remainder(sum.low + (sum.high as u64) * weight)
     }
 }

@@ -13,8 +13,8 @@ weight p z l = mod-add-mod 18446744073709551615 p 1 ∙ sym (mod-eq-of-lt (omega
 returns : tie.Need-returns
 returns c = rw (c .if1 .taken)
 
-div-t4 : tie.Need-div-t4
-div-t4 c = search needs
+div-t7 : tie.Need-div-t7
+div-t7 c = search needs
 
 rem-successor : tie.Need-rem-successor
 rem-successor c = search needs
@@ -32,4 +32,4 @@ returns-2 c =
 
 pub of-spec : {M : Type 1} → statement M
 of-spec =
-    tie.close (tie.spec returns div-t4 rem-successor cast-successor successor-requires returns-2)
+    tie.close (tie.spec returns rem-successor cast-successor successor-requires div-t7 returns-2)

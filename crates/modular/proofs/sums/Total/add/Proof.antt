@@ -13,14 +13,14 @@ carry c = ⊎-elim (λ w. omega arith) (λ w. omega arith) (c .if1 .came)
 wrapping-add-u64-requires : tie.Need-wrapping-add-u64-requires
 wrapping-add-u64-requires c κs = search needs
 
-wrapping-add-u64-requires-2 : tie.Need-wrapping-add-u64-requires-2
-wrapping-add-u64-requires-2 c κs = search needs
+wrapping-add-u32-requires : tie.Need-wrapping-add-u32-requires
+wrapping-add-u32-requires c κs = search needs
 
 returns : tie.Need-returns
 unfolding added
 returns c =
     let high = c .before .before .before .args .self .high in
-    rw (c .before .before .wrapping-add-u64 .ensures, c .wrapping-add-u642 .ensures ∙ ap (λ n. (high + n) % 18446744073709551616) (carry (c .before)))
+    rw (c .before .before .wrapping-add-u64 .ensures, c .wrapping-add-u32 .ensures ∙ ap (λ n. (high + n) % 4294967296) (carry (c .before)))
 
 pub add-spec : {M : Type 1} → statement M
-add-spec = tie.close (tie.spec wrapping-add-u64-requires wrapping-add-u64-requires-2 returns)
+add-spec = tie.close (tie.spec wrapping-add-u64-requires wrapping-add-u32-requires returns)

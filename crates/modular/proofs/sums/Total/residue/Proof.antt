@@ -1,4 +1,4 @@
--- `modular::sums::Total::residue` meets its contract: what the higher word counts for is added to the lower, and the carry of that counts once more.
+-- What the higher word counts for is added to the lower, and the carry of that counts once more.
 use mathlib.Core.Path.{_≡_, ap, ap₂, _∙_}
 use Prim.Native.Nat.{ℕ, _+_, _*_, _/_, _%_, _<_}
 use native.Mathlib.Nat.{le-add-left, lt-of-le-of-lt, mod-eq-of-lt, zero-add}
@@ -14,7 +14,7 @@ module _ (c : tie.After-struct-known2) where
   low = c .before .before .args .self .low
 
   abbrev high : ℕ
-  high = c .before .before .args .self .high % 4294967296
+  high = c .before .before .args .self .high
 
   abbrev weight : ℕ
   weight = c .before .before .args .m .weight
@@ -23,10 +23,13 @@ module _ (c : tie.After-struct-known2) where
   below = c .struct-known2 .given .0 .fits
 
   light : weight < 4294967296
-  light = c .before .struct-known .given .1 .1 .0 .fits
+  light = c .before .struct-known .given .1 .0 .fits
+
+  few : high < 4294967296
+  few = c .struct-known2 .given .1 .0 .fits
 
   room : high * weight + weight < 18446744073709551616
-  room = high-fits low high weight below (omega arith) light
+  room = high-fits low high weight below few light
 
 module _ (c : tie.After-add) where
   -- the sum's two words, as the definition has them
@@ -39,16 +42,22 @@ module _ (c : tie.After-add) where
       (ap (λ t. t .high) (c .add .ensures) ∙ mod-eq-of-lt {n = 0 + s / 18446744073709551616} (omega (arith, carry)) ∙ zero-add (s / 18446744073709551616))
 
   fits : c .add .result .low + c .add .result .high * weight (c .before) < 18446744073709551616
-  fits = rw same (fold-fits (low (c .before)) (high (c .before)) (weight (c .before)) (below (c .before)) (omega arith) (light (c .before)))
+  fits = rw same (fold-fits (low (c .before)) (high (c .before)) (weight (c .before)) (below (c .before)) (few (c .before)) (light (c .before)))
 
 cast-weight : tie.Need-cast-weight
 cast-weight c = search needs
+
+cast-add : tie.Need-cast-add
+cast-add c = search needs
 
 mul-add : tie.Need-mul-add
 mul-add c = record { fits = omega (arith, room c) }
 
 add-requires : tie.Need-add-requires
 add-requires c κs = search needs
+
+cast-remainder : tie.Need-cast-remainder
+cast-remainder c = search needs
 
 mul-remainder : tie.Need-mul-remainder
 mul-remainder c =
@@ -72,8 +81,10 @@ residue-spec =
     tie.close
     (tie.spec
     cast-weight
+    cast-add
     mul-add
     add-requires
+    cast-remainder
     mul-remainder
     add-remainder
     remainder-requires
