@@ -11,7 +11,7 @@
 --     written-take, written-drop      what a write leaves before it and after it
 --     take-padded            a list out of zeros after it
 --     written-lent           a part that was lent and written whole
-use mathlib.Core.Path.{_≡_, refl, sym, ap, ap₂, _∙_}
+use mathlib.Core.Path.{_≡_, sym, ap, ap₂, _∙_}
 use mathlib.Core.List.{List, _∷_, _++_}
 use Prim.Native.Nat.{ℕ, suc, _+_, _-_, _≤_, _<_}
 use native.Mathlib.Omega.{arith}

@@ -6,19 +6,23 @@
 --     modulusOf p          p with its reciprocal and its weight; a quotient by 0 is 0 and a remainder the number itself, so that both are 0 for 0
 --     barrett m x          x less the multiple of p that the reciprocal gives, in 32 bits, reduced
 --     differenceOf m a b   a less b, restored
---     multiplierOf p c     c with its quotient
+--     quotientOf m x       the quotient that the reciprocal gives, in 32 bits, and one more where it leaves p or above
+--     multiplierOf m c     c with its quotient
 --     shoup p k x          constant × x less the multiple of p that the quotient gives, in 32 bits, reduced
 --     shoupAdded p k x y   y and that in 32 bits, reduced
 -- What that is for a record that `of` made:
 --     Modular m            m's p is a modulus of at most 31 bits, with its reciprocal and its weight: modular-of
---     remainder-of, difference-of, product-of
+--     remainder-of, quotient-of, difference-of, product-of
 --     Multiplies p k       k's constant is a residue modulo p, with its quotient: multiplies-of
 --     times-of, added-of
 use mathlib.Core.Path.{_≡_, refl, sym, ap, _∙_}
+use mathlib.Core.Bool.{Bool, true, false, cond}
 use Prim.Native.Nat.{ℕ, _+_, _*_, _-_, _/_, _%_, _≤_, _<_}
-use native.Mathlib.Nat.{mod-lt, mod-eq-of-lt, zero-mul, one-mul, div-lt-iff-lt-mul}
+use native.Mathlib.Nat.{mod-lt, mod-eq-of-lt, zero-mul, one-mul, add-mul, add-zero, div-lt-iff-lt-mul, le-div-iff-mul-le, div-eq-of-lt-le, lt-of-le-of-lt}
 use native.Mathlib.Decide.{decLt}
 use native.Mathlib.Omega.{arith}
+use lib.Dec.{ltb}
+use borrow.Author.Tests.{lt-ltb, le-ltb}
 use Rattle.meaning.specs.Field.{plus, minus, times}
 use Rattle.residue.specs.Numbers.{mod-eq-sub, sub-mod-le, sub-mod-lt}
 use Rattle.modular.specs.declared.modulus.Modulus.{Modulus}
@@ -46,8 +50,14 @@ barrett m x = reduced (m .p) (lessened x (m .reciprocal * x / 184467440737095516
 unfoldable pub differenceOf : Modulus → ℕ → ℕ → ℕ
 differenceOf m a b = restored (m .p) (lessened a b)
 
-abbrev pub multiplierOf : ℕ → ℕ → Multiplier
-multiplierOf p c = record { constant = c; quotient = c * 4294967296 / p % 4294967296 }
+-- 32 bits of the reciprocal's quotient, and one more where it leaves p or above
+unfoldable pub quotientOf : Modulus → ℕ → ℕ
+quotientOf m x =
+    let q = m .reciprocal * x / 18446744073709551616 % 4294967296 in
+    (q + cond (ltb (lessened x (q * m .p)) (m .p)) 0 1) % 4294967296
+
+abbrev pub multiplierOf : Modulus → ℕ → Multiplier
+multiplierOf m c = record { constant = c; quotient = quotientOf m (c * 4294967296) }
 
 unfoldable pub shoup : ℕ → Multiplier → ℕ → ℕ
 shoup p k x = reduced p (lessened (k .constant * x) (k .quotient * x / 4294967296 * p))
@@ -112,6 +122,23 @@ near : (p x y : ℕ) → p ≤ 2147483647 → y ≤ x → x - y < p + p → redu
 near p x y s l k =
     ap (reduced p) (lessened-whole x y l (omega (arith, s, k))) ∙ reduced-mod p (x - y) s k
 
+-- a quotient that is right or one too small
+corrected : (p x q : ℕ) → p ≤ 2147483647 → q * p ≤ x → x - q * p < p + p → x / p < 4294967296
+    → (q + cond (ltb (lessened x (q * p)) p) 0 1) % 4294967296 ≡ x / p
+corrected p x q s low high k = go (decLt (x - q * p) p)
+  where
+    by : (b : Bool) (n : ℕ) → ltb (x - q * p) p ≡ b → cond b 0 1 ≡ n → x / p ≡ q + n → (q + cond (ltb (lessened x (q * p)) p) 0 1) % 4294967296 ≡ x / p
+    by b n t c e =
+        ap (λ y. (q + cond (ltb y p) 0 1) % 4294967296) (lessened-whole x (q * p) low (omega (arith, high, s)))
+        ∙ ap (λ y. (q + cond y 0 1) % 4294967296) t ∙ ap (λ y. (q + y) % 4294967296) c ∙ ap (λ y. y % 4294967296) (sym e) ∙ mod-eq-of-lt k
+
+    go : Dec (x - q * p < p) → (q + cond (ltb (lessened x (q * p)) p) 0 1) % 4294967296 ≡ x / p
+    go (yes a) =
+        by true 0 (lt-ltb (x - q * p) p a) refl (div-eq-of-lt-le {k = q} p low (omega (arith, a, low, add-mul q 1 p, one-mul p)) ∙ sym (add-zero q))
+    go (no a) =
+        by false 1 (le-ltb (x - q * p) p (omega (arith, a))) refl
+        (div-eq-of-lt-le {k = q + 1} p (omega (arith, a, low, add-mul q 1 p, one-mul p)) (omega (arith, high, low, add-mul q 1 p, add-mul (q + 1) 1 p, one-mul p)))
+
 -- ---- a modulus
 
 pub record Modular (m : Modulus) : Type 0 where
@@ -140,6 +167,20 @@ module _ (m : Modulus) (h : Modular m) where
       (barrett-lt 18446744073709551615 (m .p) x (h .positive) l)
       ∙ barrett-mod 18446744073709551615 (m .p) x
 
+  pub quotient-of : (x : ℕ) → x < 18446744073709551616 → x / m .p < 4294967296 → quotientOf m x ≡ x / m .p
+  unfolding quotientOf
+  quotient-of x l k =
+      ap (λ q. (q + cond (ltb (lessened x (q * m .p)) (m .p)) 0 1) % 4294967296)
+      (ap (λ r. r * x / 18446744073709551616 % 4294967296) (h .reciprocal)
+      ∙ mod-eq-of-lt {n = near} (lt-of-le-of-lt (le-div-iff-mul-le {k = m .p} {x = near} {y = x} (h .positive) .1 low) k))
+      ∙ corrected (m .p) x near (h .small) low (barrett-lt 18446744073709551615 (m .p) x (h .positive) l) k
+    where
+      near : ℕ
+      near = 18446744073709551615 / m .p * x / 18446744073709551616
+
+      low : near * m .p ≤ x
+      low = barrett-le 18446744073709551615 (m .p) x
+
   pub difference-of : (a b : ℕ) → a < m .p → b < m .p → differenceOf m a b ≡ minus (m .p) a b
   unfolding differenceOf minus
   difference-of a b k l = go (decLt a b)
@@ -159,15 +200,15 @@ pub record Multiplies (p : ℕ) (k : Multiplier) : Type 0 where
   pub small : p ≤ 2147483647
   pub quotient : k .quotient ≡ k .constant * 4294967296 / p
 
-pub multiplies-of : (k : Multiplier) (p c : ℕ) → k ≡ multiplierOf p c → c < p → p ≤ 2147483647 → (k .constant ≡ c) × Multiplies p k
-multiplies-of k p c e l s = (
+pub multiplies-of : (k : Multiplier) (m : Modulus) (c : ℕ) → k ≡ multiplierOf m c → Modular m → c < m .p → (k .constant ≡ c) × Multiplies (m .p) k
+multiplies-of k m c e h l = (
   ap (λ n. n .constant) e,
   rw e (record {
     below = l;
-    small = s;
+    small = h .small;
     quotient =
-        mod-eq-of-lt
-        (div-lt-iff-lt-mul {k = p} {x = c * 4294967296} {y = 4294967296} (omega (arith, l)) .1 (omega (arith, l)));
+        quotient-of m h (c * 4294967296) (omega (arith, l, h .small))
+        (div-lt-iff-lt-mul {k = m .p} {x = c * 4294967296} {y = 4294967296} (h .positive) .1 (omega (arith, l)));
   }),
 )
 

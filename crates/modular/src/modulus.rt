@@ -8,7 +8,7 @@ use std::num::wrapping_sub_u32;
 use std::num::wrapping_sub_u64;
 ghost use mathlib.Core.Path.{_≡_};
 ghost use Prim.Native.Nat.{_+_, _*_, _/_, _%_, _<_};
-ghost use Rattle.modular.specs.Modulus.{lessened, restored, reduced, modulusOf, barrett, differenceOf};
+ghost use Rattle.modular.specs.Modulus.{lessened, restored, reduced, modulusOf, barrett, quotientOf, differenceOf};
 
 const MAX: u64 = 18446744073709551615;
 
@@ -89,6 +89,16 @@ impl Modulus {
         let p = self.p;
         let quotient = upper(self.reciprocal, x) % 4294967296;
         reduced(p, lessened(x, quotient * (p as u64)))
+    }
+
+    // The quotient of x by p, 32 bits of it: the one that the reciprocal gives is right or one too small, and what it leaves of x says which.
+    pub fn quotient(self, x: u64) -> u32
+        ensures { λ r. ⌜ r ≡ quotientOf self x ⌝ }
+    {
+        let near = upper(self.reciprocal, x) % 4294967296;
+        let rest = lessened(x, near * (self.p as u64));
+        let more = if rest < self.p { 0 } else { 1 };
+        wrapping_add_u32(near as u32, more)
     }
 
     // a − b modulo p.

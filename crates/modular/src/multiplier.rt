@@ -1,7 +1,8 @@
-// Products by one constant for a whole row, after Shoup: the constant's quotient is taken once, and no product costs a division.
+// Products by one constant for a whole row, after Shoup: the constant's quotient is taken once, by the modulus's reciprocal, and nothing costs a division.
 //
-//     let multiplier = Multiplier::of(p, c);       // once for a row
+//     let multiplier = Multiplier::of(m, c);       // once for a row, without a division too
 //     multiplier.times(p, x)                       // c × x modulo p, for any 32-bit word x
+use crate::modulus::Modulus;
 use crate::modulus::lessened;
 use crate::modulus::reduced;
 use crate::sums::times;
@@ -17,18 +18,12 @@ pub struct Multiplier {
 
 impl Multiplier {
     // For 0, by which nothing is divided, the quotient is 0.
-    pub fn of(p: u32, c: u32) -> Self
-        ensures { λ k. ⌜ k ≡ multiplierOf p c ⌝ }
+    pub fn of(m: Modulus, c: u32) -> Self
+        ensures { λ k. ⌜ k ≡ multiplierOf m c ⌝ }
     {
-        if p == 0 {
-            return Multiplier {
-                constant: c,
-                quotient: 0,
-            };
-        }
         Multiplier {
             constant: c,
-            quotient: ((c as u64) * 4294967296 / (p as u64) % 4294967296) as u32,
+            quotient: m.quotient((c as u64) * 4294967296),
         }
     }
 

@@ -40,7 +40,7 @@ fn subtract(m: Modulus, factor: u32, work: &mut [u32], q: usize, t: usize, size:
     ensures { λ _. ⌜ Written (now (work .entry)) q size
         (λ i. minus (m .p) (at (now (work .entry)) (q + i)) (times (m .p) factor (at (now (work .entry)) (t + i)))) (now (work .exit)) ⌝ }
 {
-    let k = Multiplier::of(m.p, factor);
+    let k = Multiplier::of(m, factor);
     let mut i = 0;
     while i < size {
         work[q + i] = m.difference(work[q + i], k.times(m.p, work[t + i]));

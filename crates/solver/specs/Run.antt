@@ -18,7 +18,6 @@ use native.Mathlib.Nat.{zero-add, eq-or-lt-of-le}
 use native.Mathlib.Decide.{decLt}
 use native.Mathlib.Numerals.{add-one}
 use native.Mathlib.Omega.{arith}
-use lib.Dec.{ltb}
 use lib.ListN.{length, take, drop, getD, set, length-set, length-append, take-append-drop}
 use lib.Seq.{take-suc, take-all, getD-set-same, getD-set-other}
 use Rattle.meaning.specs.List.{at, isZero, padded}
@@ -43,7 +42,6 @@ use Rattle.bridge.specs.ThirdCondition.{Accepted, accepted, projections-zero, e
 use Rattle.checks.specs.Valid.{Valid, Vector, valid-of, vector-elements}
 use Rattle.checks.specs.Matrix.{vectorChecks}
 use Rattle.wiedemann.specs.declared.pass.Pass.{Pass as CodePass}
-use Rattle.wiedemann.specs.declared.pass.Passed.{Passed}
 use Rattle.wiedemann.specs.declared.pass.Passed.the-variants.{Made, Refused}
 use Rattle.laws.specs.Part.{part, at-part, part-ext}
 use Rattle.laws.specs.Lent.{lent, length-lent, part-lent, part-at, part-cons}

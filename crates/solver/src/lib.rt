@@ -24,6 +24,7 @@ use checks::residual_at;
 use checks::solver_refusal;
 use field::Field;
 use field::inverse_modulo;
+use modular::modulus::Modulus;
 use modular::multiplier::Multiplier;
 use slices::is_zero;
 use slices::write_padded;
@@ -63,7 +64,7 @@ fn divide(p: u32, inverse: u32, v: &mut [u32])
     requires { ⌜ (inverse < p) × (p ≤ 2147483647) × Vector p (length (now v)) (now v) ⌝ }
     ensures { λ _. ⌜ now (v .exit) ≡ table (length (now (v .entry))) (λ i. times p (minus p 0 (at (now (v .entry)) i)) inverse) ⌝ }
 {
-    let k = Multiplier::of(p, inverse);
+    let k = Multiplier::of(Modulus::of(p), inverse);
     let mut i = 0;
     while i < v.len() {
         v[i] = quotient(p, k, v[i]);

@@ -7,49 +7,59 @@ ghost use Rattle.meaning.specs.Matrix.{matrix, transposed};
 ghost use Rattle.meaning.specs.Calls.{productRefusal, productAfter};
 ghost use Rattle.checks.specs.Answers.{Writes};
 ghost use Rattle.checks.specs.Valid.{Valid, Vector};
+ghost use Rattle.modular.specs.Modulus.{Modular};
 ghost use Rattle.transposed.specs.Transposed.{scattered};
 use checks::Writing;
 use checks::product_refusal;
 use checks::wide;
 use field::Field;
+use modular::modulus::Modulus;
 use modular::multiplier::Multiplier;
 use slices::clear;
 
 // c × the value of each entry added to out at its column: what a row adds to the transposed product. Its entries share one multiplier.
-fn scatter(p: u32, c: u32, from: usize, to: usize, columns: &[u32], values: &[u32], out: &mut [u32])
-    requires { ⌜ (c < p) × (p ≤ 2147483647) × (from ≤ to) × (to ≤ length (now columns))
-        × (length (now columns) ≡ length (now values)) × Vector p (length (now out)) (now out) ⌝ }
+fn scatter(
+    m: Modulus,
+    c: u32,
+    from: usize,
+    to: usize,
+    columns: &[u32],
+    values: &[u32],
+    out: &mut [u32],
+)
+    requires { ⌜ (c < m .p) × Modular m × (from ≤ to) × (to ≤ length (now columns))
+        × (length (now columns) ≡ length (now values)) × Vector (m .p) (length (now out)) (now out) ⌝ }
     requires { ⌜ ((k : ℕ) → k < length (now columns) → at (now columns) k < length (now out)) ⌝ }
-    ensures { λ r. ⌜ now (out .exit) ≡ scattered p c from to (now (columns .entry)) (now (values .entry)) (now (out .entry)) ⌝ }
+    ensures { λ r. ⌜ now (out .exit) ≡ scattered (m .p) c from to (now (columns .entry)) (now (values .entry)) (now (out .entry)) ⌝ }
 {
-    let multiplier = Multiplier::of(p, c);
+    let multiplier = Multiplier::of(m, c);
     let mut k = from;
     while k < to {
         let j = wide(columns[k]);
-        out[j] = multiplier.added(p, values[k], out[j]);
+        out[j] = multiplier.added(m.p, values[k], out[j]);
         k += 1;
     }
 }
 
 // The transposed product into out, row after row.
 fn transposed_into(
-    p: u32,
+    m: Modulus,
     starts: &[u32],
     columns: &[u32],
     values: &[u32],
     v: &[u32],
     out: &mut [u32],
 )
-    requires { ⌜ Valid p (matrix (now starts) (now columns) (now values)) ⌝ }
-    requires { ⌜ (length (now out) ≡ length (now starts) - 1) × Vector p (length (now starts) - 1) (now v) ⌝ }
-    ensures { λ r. ⌜ now (out .exit) ≡ transposed p (matrix (now (starts .entry)) (now (columns .entry)) (now (values .entry))) (now (v .entry)) ⌝ }
+    requires { ⌜ Valid (m .p) (matrix (now starts) (now columns) (now values)) × Modular m ⌝ }
+    requires { ⌜ (length (now out) ≡ length (now starts) - 1) × Vector (m .p) (length (now starts) - 1) (now v) ⌝ }
+    ensures { λ r. ⌜ now (out .exit) ≡ transposed (m .p) (matrix (now (starts .entry)) (now (columns .entry)) (now (values .entry))) (now (v .entry)) ⌝ }
 {
     clear(out);
     let mut from = wide(starts[0]);
     let mut i = 0;
     while i < v.len() {
         let to = wide(starts[i + 1]);
-        scatter(p, v[i], from, to, columns, values, out);
+        scatter(m, v[i], from, to, columns, values, out);
         from = to;
         i += 1;
     }
@@ -74,6 +84,7 @@ pub fn transposed(
     if number != 0 {
         return Writing::Refused(number);
     }
-    transposed_into(p, starts, columns, values, v, out);
+    let m = Modulus::of(p);
+    transposed_into(m, starts, columns, values, v, out);
     Writing::Done
 }

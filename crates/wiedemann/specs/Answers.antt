@@ -4,10 +4,9 @@
 use mathlib.Core.Path.{_≡_, sym, _∙_}
 use mathlib.Core.Logic.{_≢_}
 use mathlib.Core.Bool.{Bool, true, false}
-use mathlib.Core.List.{List}
 use Prim.Native.Nat.{ℕ}
 use Rattle.meaning.specs.Refusal.{unlessRefused}
-use Rattle.laws.specs.Refusal.{unlessRefused-none, unlessRefused-some}
+use Rattle.laws.specs.Refusal.{unlessRefused-some}
 use Rattle.wiedemann.specs.declared.offered.Offered.{Offered}
 use Rattle.wiedemann.specs.declared.offered.Offered.the-variants as offered
 

@@ -10,22 +10,15 @@
 --     makes-modulus        .. the modulus by its other name
 use mathlib.Core.Path.{_≡_, refl, sym, ap, ap₂, _∙_, subst}
 use mathlib.Core.Logic.{_≢_}
-use mathlib.Core.Bool.{Bool, true, false, not, _&&_}
 use mathlib.Core.List.{List, [], _∷_, _++_}
-use Prim.Native.Nat.{ℕ, _+_, _-_, _*_, _/_, _≤_, _<_}
+use Prim.Native.Nat.{ℕ, _+_, _-_, _*_, _≤_, _<_}
 use native.Mathlib.Nat.{zero-add, add-zero}
 use native.Mathlib.Omega.{arith}
-use lib.Dec.{ltb, leb}
 use lib.ListN.{length, take, getD}
-use borrow.Author.Tests.{ltb-true, leb-true, lt-ltb, le-ltb, le-leb, lt-leb}
 use Rattle.meaning.specs.List.{at}
 use Rattle.meaning.specs.Matrix.{Matrix, size, apply}
 use Rattle.meaning.specs.Recurrence.{degree, generator}
-use Rattle.meaning.specs.Refusal.{Check, check, first, elements, matrixChecks, wordsTaken}
 use Rattle.meaning.specs.Solver.{Pass, Run, projections, terms, multiply, passTerms, pass}
-use Rattle.laws.specs.Bool.{and-left, and-right}
-use Rattle.laws.specs.Refusal.{first-nil, first-past, first-stops, first-passed, first-append-none, first-append-some, numbered-matrix}
-use Rattle.laws.specs.Solver.{vectorCount-div, vectorCount-whole, vectorCount-few}
 use Rattle.residue.specs.Prime.{Prime}
 use Rattle.laws.specs.Recurrence.{generator-below}
 use Rattle.checks.specs.Valid.{Vector}
@@ -33,7 +26,6 @@ use Rattle.checks.specs.Pass.{residualAt, passRefusal}
 use Rattle.wiedemann.specs.declared.pass.Pass.{Pass as CodePass}
 use Rattle.wiedemann.specs.declared.pass.Passed.{Passed}
 use Rattle.wiedemann.specs.declared.pass.Passed.the-variants.{Made, Refused}
-use Rattle.wiedemann.specs.Projection.{Words}
 use Rattle.laws.specs.Part.{part, length-part, at-part}
 use Rattle.laws.specs.Lent.{lent, length-lent, take-lent, inner-lent, part-at, part-of-part, same-take, same-drop}
 use Rattle.wiedemann.specs.Turns.{Shortened}

@@ -12,15 +12,15 @@ use mathlib.Core.Logic.{_≢_, _⊎_, inl, inr}
 use mathlib.Core.Bool.{true, cond}
 use mathlib.Core.List.{List, []}
 use Prim.Native.Nat.{ℕ, zero, suc, _+_, _-_, _*_, _/_, _%_, _≤_, _<_}
-use native.Mathlib.Nat.{zero-add, add-zero, zero-mod, zero-mul, one-mul, mod-eq-of-lt, eq-or-lt-of-le, le-of-suc-le-suc, sub-zero}
+use native.Mathlib.Nat.{zero-add, add-zero, zero-mod, zero-mul, one-mul, mod-eq-of-lt, eq-or-lt-of-le, le-of-suc-le-suc}
 use native.Mathlib.Decide.{decLt}
 use native.Mathlib.Omega.{arith}
 use lib.Dec.{eqb}
 use lib.ListN.{length, getD, List·getD-eq-default}
 use borrow.Author.Tests.{eq-eqb, ne-eqb}
-use Rattle.meaning.specs.List.{at, sum, sumFrom, table}
+use Rattle.meaning.specs.List.{at, sum, table}
 use Rattle.meaning.specs.Solver.{vectorCount, projections, dot}
-use Rattle.laws.specs.List.{sum-suc, sum-ext, sum-zeros, getD-table}
+use Rattle.laws.specs.List.{sum-suc, sum-zeros, getD-table}
 use Rattle.meaning.specs.Refusal.{wordsTaken}
 use Rattle.laws.specs.Solver.{vectorCount-div, vectorCount-whole, vectorCount-few, length-projections, projection-unit}
 use Rattle.residue.specs.Numbers.{mod-mul-mod}

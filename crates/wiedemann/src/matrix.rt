@@ -161,14 +161,14 @@ pub(crate) fn step_within(
 }
 
 // c × v into out.
-fn multiple(p: u32, c: u32, v: &[u32], out: &mut [u32])
-    requires { ⌜ (c < p) × (p ≤ 2147483647) × (length (now out) ≡ length (now v)) ⌝ }
-    ensures { λ r. ⌜ now (out .exit) ≡ table (length (now (v .entry))) (λ i. times p c (at (now (v .entry)) i)) ⌝ }
+fn multiple(m: Modulus, c: u32, v: &[u32], out: &mut [u32])
+    requires { ⌜ (c < m .p) × Modular m × (length (now out) ≡ length (now v)) ⌝ }
+    ensures { λ r. ⌜ now (out .exit) ≡ table (length (now (v .entry))) (λ i. times (m .p) c (at (now (v .entry)) i)) ⌝ }
 {
-    let multiplier = Multiplier::of(p, c);
+    let multiplier = Multiplier::of(m, c);
     let mut i = 0;
     while i < v.len() {
-        out[i] = multiplier.times(p, v[i]);
+        out[i] = multiplier.times(m.p, v[i]);
         i += 1;
     }
 }
@@ -193,9 +193,9 @@ pub(crate) fn horner(
 {
     let mut i = g.len() - 1;
     if i % 2 == 0 {
-        multiple(m.p, g[i], v, out);
+        multiple(m, g[i], v, out);
     } else {
-        multiple(m.p, g[i], v, work);
+        multiple(m, g[i], v, work);
     }
     while 0 < i {
         i -= 1;

@@ -1,13 +1,11 @@
-use mathlib.Core.Path.{refl}
 use mathlib.Core.Logic.{⊎-elim}
-use mathlib.Core.List.{List}
-use Prim.Native.Nat.{ℕ, _+_, _-_, _≤_}
+use Prim.Native.Nat.{_+_, _-_, _≤_}
 use native.Mathlib.Omega.{arith}
 use lib.ListN.{length}
 use denote.Ref.{now}
 use Rattle.meaning.specs.List.{at}
 use Rattle.laws.specs.Written.{Written, written-none, written-more, written-all}
-use Rattle.slices.specs.Copy.{CopyFits, Copies, copies-none, copies-all, not-inside, overlap}
+use Rattle.slices.specs.Copy.{CopyFits, copies-none, copies-all, not-inside, overlap}
 use borrow.Author.Needs.{needs}
 use Rattle.slices.proofs.copy_within.Statement.{statement}
 use Rattle.slices.proofs.copy_within.Tie as tie

@@ -1,5 +1,5 @@
 -- `system_text_test::lengthen` is safe and ends: the slice keeps its length.
-use mathlib.Core.Path.{_≡_, _∙_}
+use mathlib.Core.Path.{_≡_}
 use Prim.Native.Nat.{_-_}
 use native.Mathlib.Omega.{arith}
 use lib.ListN.{length, length-set}

@@ -13,18 +13,18 @@ use Rattle.transposed.proofs.scatter.Statement.{statement}
 use Rattle.transposed.proofs.scatter.Tie as tie
 
 abbrev Inv-loop : tie.InvT-loop
-Inv-loop p c from to columns values out₀ multiplier k₀ out k =
-    (from ≤ k) × (k ≤ to) × (out ≡ scattered p c from k columns values out₀)
+Inv-loop m c from to columns values out₀ multiplier k₀ out k =
+    (from ≤ k) × (k ≤ to) × (out ≡ scattered (m .p) c from k columns values out₀)
 
 abbrev μ-loop : tie.MeasureT-loop
-μ-loop p c from to columns values out₀ multiplier k₀ out k = to - k
+μ-loop m c from to columns values out₀ multiplier k₀ out k = to - k
 
-vector : (c : tie.At-loop Inv-loop μ-loop) → Vector (c .before .before .before .before .before .args .p) (length (now (c .before .before .before .before .before .args .out))) (c .loop .out)
+vector : (c : tie.At-loop Inv-loop μ-loop) → Vector (c .before .before .before .before .before .args .m .p) (length (now (c .before .before .before .before .before .args .out))) (c .loop .out)
 vector c =
     let start = c .before .before .before .before .before in
     let at = start .args in
-    subst (λ l. Vector (at .p) (length (now (at .out))) l) (sym (c .loop .inv .2))
-    (vector-scattered (at .p) (at .c) (now (at .columns)) (now (at .values)) (at .from) (c .loop .k) (length (now (at .out))) (now (at .out))
+    subst (λ l. Vector (at .m .p) (length (now (at .out))) l) (sym (c .loop .inv .2))
+    (vector-scattered (at .m .p) (at .c) (now (at .columns)) (now (at .values)) (at .from) (c .loop .k) (length (now (at .out))) (now (at .out))
     (omega (arith, start .pre .0 .0)) refl)
 
 inside : (c : tie.After-wide Inv-loop μ-loop) → c .wide .result < length (c .before .before .before .loop .out)
@@ -35,10 +35,10 @@ inside c =
 
 made : (c : tie.After-of Inv-loop μ-loop)
     → let at = c .before .before .before .before .args in
-    (c .of .result .constant ≡ at .c) × Multiplies (at .p) (c .of .result)
+    (c .of .result .constant ≡ at .c) × Multiplies (at .m .p) (c .of .result)
 made c =
     let start = c .before .before .before .before in
-    multiplies-of (c .of .result) (start .args .p) (start .args .c) (c .of .ensures) (start .pre .0 .0) (start .pre .0 .1)
+    multiplies-of (c .of .result) (start .args .m) (start .args .c) (c .of .ensures) (start .pre .0 .1) (start .pre .0 .0)
 
 of-requires : tie.Need-of-requires Inv-loop μ-loop
 of-requires c κs = search needs
@@ -49,7 +49,7 @@ loop-holds c =
     let at = start .args in (
       omega arith,
       start .pre .0 .2,
-      scattered-none (at .p) (at .c) (now (at .columns)) (now (at .values)) (at .from) (length (now (at .out))) (now (at .out)) (start .pre .0 .5),
+      scattered-none (at .m .p) (at .c) (now (at .columns)) (now (at .values)) (at .from) (length (now (at .out))) (now (at .out)) (start .pre .0 .5),
     )
 
 mul-wide : tie.Need-mul-wide Inv-loop μ-loop
@@ -102,17 +102,17 @@ loop-again c =
     let m = c .before .before .before .before .before .before .before in
     let held = vector (c .before .before .before .before .before .before) in
     let y = getD (loop .out) (c .before .before .before .wide .result) 0 in
-    let so-far = scattered (at .p) (at .c) (at .from) k columns values out in (
+    let so-far = scattered (at .m .p) (at .c) (at .from) k columns values out in (
       omega (arith, loop .inv .0),
       omega (arith, test),
       ap₂ (λ i y. set (loop .out) i y) j
           (c .added .ensures
-          ∙ added-of (at .p) (m .of .result) (made m .1) (getD values k 0) (omega (arith, c .before .before .shared-slice-known4 .given k)) y
+          ∙ added-of (at .m .p) (m .of .result) (made m .1) (getD values k 0) (omega (arith, c .before .before .shared-slice-known4 .given k)) y
           (held .below (c .before .before .before .wide .result) (omega (arith, held .places, inside (c .before .before .before))))
-          ∙ ap (λ m. plus (at .p) y (times (at .p) m (getD values k 0))) (made m .0)
-          ∙ ap₂ (λ l i. plus (at .p) (getD l i 0) (times (at .p) (at .c) (getD values k 0))) (loop .inv .2) j)
-          ∙ ap (λ l. set l (getD columns k 0) (plus (at .p) (getD so-far (getD columns k 0) 0) (times (at .p) (at .c) (getD values k 0)))) (loop .inv .2)
-          ∙ scattered-more (at .p) (at .c) columns values (at .from) k out (loop .inv .0) (start .pre .1 k (omega (arith, test, start .pre .0 .3))),
+          ∙ ap (λ m. plus (at .m .p) y (times (at .m .p) m (getD values k 0))) (made m .0)
+          ∙ ap₂ (λ l i. plus (at .m .p) (getD l i 0) (times (at .m .p) (at .c) (getD values k 0))) (loop .inv .2) j)
+          ∙ ap (λ l. set l (getD columns k 0) (plus (at .m .p) (getD so-far (getD columns k 0) 0) (times (at .m .p) (at .c) (getD values k 0)))) (loop .inv .2)
+          ∙ scattered-more (at .m .p) (at .c) columns values (at .from) k out (loop .inv .0) (start .pre .1 k (omega (arith, test, start .pre .0 .3))),
     )
 
 same-length : tie.Need-same-length Inv-loop μ-loop
@@ -123,7 +123,7 @@ returns c =
     let at = c .before .before .before .before .before .before .args in
     let loop = c .before .loop in
     let end : loop .k ≡ at .to = omega (arith, loop .inv .1, c .loop-test .left) in
-    loop .inv .2 ∙ ap (λ m. scattered (at .p) (at .c) (at .from) m (now (at .columns)) (now (at .values)) (now (at .out))) end
+    loop .inv .2 ∙ ap (λ m. scattered (at .m .p) (at .c) (at .from) m (now (at .columns)) (now (at .values)) (now (at .out))) end
 
 pub scatter-spec : {M : Type 1} → statement M
 scatter-spec =

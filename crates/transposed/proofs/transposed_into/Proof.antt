@@ -5,29 +5,27 @@ use lib.ListN.{length, getD}
 use denote.Ref.{now}
 use Rattle.meaning.specs.List.{zeros}
 use Rattle.meaning.specs.Matrix.{matrix}
-use Rattle.checks.specs.Valid.{Vector}
-use Rattle.laws.specs.Part.{written-table}
-use Rattle.checks.specs.Valid.{row-bounds}
+use Rattle.checks.specs.Valid.{Vector, row-bounds}
 use Rattle.transposed.specs.Transposed.{gathered, gathered-none, gathered-next, gathered-all, vector-gathered}
 use borrow.Author.Needs.{needs}
 use Rattle.transposed.proofs.transposed_into.Statement.{statement}
 use Rattle.transposed.proofs.transposed_into.Tie as tie
 
 abbrev Inv-loop : tie.InvT-loop
-Inv-loop p starts columns values v out₀ from₀ i₀ out from i =
-    (i ≤ length v) × (from ≡ getD starts i 0) × (out ≡ gathered p (matrix starts columns values) v i)
+Inv-loop m starts columns values v out₀ from₀ i₀ out from i =
+    (i ≤ length v) × (from ≡ getD starts i 0) × (out ≡ gathered (m .p) (matrix starts columns values) v i)
 
 abbrev μ-loop : tie.MeasureT-loop
-μ-loop p starts columns values v out₀ from₀ i₀ out from i = length v - i
+μ-loop m starts columns values v out₀ from₀ i₀ out from i = length v - i
 
 vector : (c : tie.At-loop Inv-loop μ-loop)
     → let at = c .before .before .before .before .before .before .before .before .before .before .before .before .args in
-    Vector (at .p) (length (now (at .starts)) - 1) (c .loop .out)
+    Vector (at .m .p) (length (now (at .starts)) - 1) (c .loop .out)
 vector c =
     let start = c .before .before .before .before .before .before .before .before .before .before .before .before in
     let at = start .args in
-    subst (λ l. Vector (at .p) (length (now (at .starts)) - 1) l) (sym (c .loop .inv .2))
-    (vector-gathered (at .p) (matrix (now (at .starts)) (now (at .columns)) (now (at .values))) (now (at .v)) (c .loop .i) (start .pre .0 .positive))
+    subst (λ l. Vector (at .m .p) (length (now (at .starts)) - 1) l) (sym (c .loop .inv .2))
+    (vector-gathered (at .m .p) (matrix (now (at .starts)) (now (at .columns)) (now (at .values))) (now (at .v)) (c .loop .i) (start .pre .0 .0 .positive))
 
 inside : (c : tie.In-loop Inv-loop μ-loop) → c .before .loop .i < length (now (c .before .before .before .before .before .before .before .before .before .before .before .before .before .args .starts)) - 1
 inside c = omega (arith, c .loop-test .taken, c .before .before .before .before .before .before .before .before .before .before .before .before .before .pre .1 .1 .places)
@@ -36,7 +34,7 @@ clear-requires : tie.Need-clear-requires Inv-loop μ-loop
 clear-requires c κs = search needs
 
 shared-slice-read-wide : tie.Need-shared-slice-read-wide Inv-loop μ-loop
-shared-slice-read-wide c = omega (arith, c .before .before .before .before .before .before .before .before .before .before .pre .0 .one-more)
+shared-slice-read-wide c = omega (arith, c .before .before .before .before .before .before .before .before .before .before .pre .0 .0 .one-more)
 
 wide-requires : tie.Need-wide-requires Inv-loop μ-loop
 wide-requires c κs = search needs
@@ -49,23 +47,23 @@ loop-holds c =
     let cleared = c .before .before .before .before .clear in (
       omega arith,
       c .wide .ensures .0,
-      cleared .ensures ∙ ap zeros (start .pre .1 .0) ∙ gathered-none (at .p) (matrix (now (at .starts)) (now (at .columns)) (now (at .values))) (now (at .v)),
+      cleared .ensures ∙ ap zeros (start .pre .1 .0) ∙ gathered-none (at .m .p) (matrix (now (at .starts)) (now (at .columns)) (now (at .values))) (now (at .v)),
     )
 
 add-wide : tie.Need-add-wide Inv-loop μ-loop
-add-wide c = omega (arith, inside c, c .before .before .before .before .before .before .before .before .before .before .before .before .before .pre .0 .sized)
+add-wide c = omega (arith, inside c, c .before .before .before .before .before .before .before .before .before .before .before .before .before .pre .0 .0 .sized)
 
 mul-wide : tie.Need-mul-wide Inv-loop μ-loop
-mul-wide c = omega (arith, inside c, c .before .before .before .before .before .before .before .before .before .before .before .before .before .pre .0 .sized)
+mul-wide c = omega (arith, inside c, c .before .before .before .before .before .before .before .before .before .before .before .before .before .pre .0 .0 .sized)
 
 shared-slice-read-wide-2 : tie.Need-shared-slice-read-wide-2 Inv-loop μ-loop
-shared-slice-read-wide-2 c = omega (arith, inside (c .before), c .before .before .before .before .before .before .before .before .before .before .before .before .before .before .pre .0 .one-more)
+shared-slice-read-wide-2 c = omega (arith, inside (c .before), c .before .before .before .before .before .before .before .before .before .before .before .before .before .before .pre .0 .0 .one-more)
 
 wide-requires-2 : tie.Need-wide-requires-2 Inv-loop μ-loop
 wide-requires-2 c κs = search needs
 
 mul-scatter : tie.Need-mul-scatter Inv-loop μ-loop
-mul-scatter c = omega (arith, inside (c .before .before), c .before .before .before .before .before .before .before .before .before .before .before .before .before .before .before .pre .0 .sized)
+mul-scatter c = omega (arith, inside (c .before .before), c .before .before .before .before .before .before .before .before .before .before .before .before .before .before .before .pre .0 .0 .sized)
 
 shared-slice-read-scatter : tie.Need-shared-slice-read-scatter Inv-loop μ-loop
 shared-slice-read-scatter c = c .before .before .before .loop-test .taken
@@ -74,7 +72,7 @@ scatter-requires : tie.Need-scatter-requires Inv-loop μ-loop
 scatter-requires c κs =
     let start = c .before .before .before .before .before .before .before .before .before .before .before .before .before .before .before .before .before in
     let at = start .args in
-    let known = start .pre .0 in
+    let known = start .pre .0 .0 in
     let loop = c .before .before .before .before .before .loop in
     let within = inside (c .before .before .before .before) in
     let to = c .before .before .wide2 in
@@ -82,7 +80,7 @@ scatter-requires c κs =
     let before = vector (c .before .before .before .before .before) in (
       (
         start .pre .1 .1 .below (loop .i) within,
-        known .small,
+        start .pre .0 .1,
         bounds .0,
         bounds .1,
         known .paired,
@@ -92,7 +90,7 @@ scatter-requires c κs =
     )
 
 add-i : tie.Need-add-i Inv-loop μ-loop
-add-i c = omega (arith, inside (c .before .before .before .before .before .before .before), c .before .before .before .before .before .before .before .before .before .before .before .before .before .before .before .before .before .before .before .before .pre .0 .sized)
+add-i c = omega (arith, inside (c .before .before .before .before .before .before .before), c .before .before .before .before .before .before .before .before .before .before .before .before .before .before .before .before .before .before .before .before .pre .0 .0 .sized)
 
 loop-less : tie.Need-loop-less Inv-loop μ-loop
 loop-less c = omega (arith, c .before .before .before .before .before .before .before .loop-test .taken)
@@ -105,7 +103,7 @@ loop-again c =
     let made = c .before .before .scatter in (
       omega (arith, c .before .before .before .before .before .before .before .loop-test .taken),
       to .ensures .0,
-      gathered-next (at .p) (matrix (now (at .starts)) (now (at .columns)) (now (at .values))) (now (at .v)) (loop .i) (loop .from) (to .result) (loop .out) (made .last .1 .1 .1 .1 .1 .1 .0) (loop .inv .1)
+      gathered-next (at .m .p) (matrix (now (at .starts)) (now (at .columns)) (now (at .values))) (now (at .v)) (loop .i) (loop .from) (to .result) (loop .out) (made .last .1 .1 .1 .1 .1 .1 .0) (loop .inv .1)
           (to .ensures .0) (loop .inv .2) (made .ensures),
     )
 
@@ -119,7 +117,7 @@ returns c =
     let A = matrix (now (at .starts)) (now (at .columns)) (now (at .values)) in
     let loop = c .before .loop in
     let end : loop .i ≡ length (now (at .starts)) - 1 = omega (arith, loop .inv .0, c .loop-test .left, start .pre .1 .1 .places) in
-    loop .inv .2 ∙ ap (gathered (at .p) A (now (at .v))) end ∙ gathered-all (at .p) A (now (at .v))
+    loop .inv .2 ∙ ap (gathered (at .m .p) A (now (at .v))) end ∙ gathered-all (at .m .p) A (now (at .v))
 
 pub transposed-into-spec : {M : Type 1} → statement M
 transposed-into-spec =

@@ -20,7 +20,7 @@ abbrev μ-loop : tie.MeasureT-loop
 made : (c : tie.After-of Inv-loop μ-loop) → let a = c .before .before .args in (c .of .result .constant ≡ a .factor) × Multiplies (a .m .p) (c .of .result)
 made c =
     let start = c .before .before in
-    multiplies-of (c .of .result) (start .args .m .p) (start .args .factor) (c .of .ensures) (start .pre .0 .0) (start .pre .0 .1 .small)
+    multiplies-of (c .of .result) (start .args .m) (start .args .factor) (c .of .ensures) (start .pre .0 .1) (start .pre .0 .0)
 
 -- the coefficient's multiple
 multiple : (c : tie.After-times Inv-loop μ-loop)

@@ -1,4 +1,4 @@
-use mathlib.Core.Path.{_≡_, sym, ap, _∙_, subst}
+use mathlib.Core.Path.{_≡_, sym, ap, _∙_}
 use mathlib.Core.Logic.{⊎-elim}
 use Prim.Native.Nat.{_-_}
 use native.Mathlib.Omega.{arith}
@@ -29,7 +29,7 @@ multiple-requires : tie.Need-multiple-requires Inv-loop μ-loop
 multiple-requires c κs =
     let start = c .before .before .before .before .before .before .before .before .before .before in
     let pre = start .pre in
-    (pre .1 .5 .below (length (now (start .args .g)) - 1) (omega (arith, pre .1 .4)), pre .0 .small, pre .1 .1 ∙ sym (pre .1 .3 .places))
+    (pre .1 .5 .below (length (now (start .args .g)) - 1) (omega (arith, pre .1 .4)), pre .1 .0, pre .1 .1 ∙ sym (pre .1 .3 .places))
 
 mul-multiple-2 : tie.Need-mul-multiple-2 Inv-loop μ-loop
 mul-multiple-2 c = omega (arith, c .before .before .before .before .before .before .before .before .good)
@@ -41,7 +41,7 @@ multiple-requires-2 : tie.Need-multiple-requires-2 Inv-loop μ-loop
 multiple-requires-2 c κs =
     let start = c .before .before .before .before .before .before .before .before .before .before in
     let pre = start .pre in
-    (pre .1 .5 .below (length (now (start .args .g)) - 1) (omega (arith, pre .1 .4)), pre .0 .small, pre .1 .2 ∙ sym (pre .1 .3 .places))
+    (pre .1 .5 .below (length (now (start .args .g)) - 1) (omega (arith, pre .1 .4)), pre .1 .0, pre .1 .2 ∙ sym (pre .1 .3 .places))
 
 loop-holds : tie.Need-loop-holds Inv-loop μ-loop
 loop-holds c =

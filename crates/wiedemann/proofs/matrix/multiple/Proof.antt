@@ -12,15 +12,15 @@ use Rattle.wiedemann.proofs.matrix.multiple.Statement.{statement}
 use Rattle.wiedemann.proofs.matrix.multiple.Tie as tie
 
 abbrev Inv-loop : tie.InvT-loop
-Inv-loop p c v out₀ multiplier i₀ out i = (i ≤ length v) × Written out₀ 0 i (λ k. times p c (getD v k 0)) out
+Inv-loop m c v out₀ multiplier i₀ out i = (i ≤ length v) × Written out₀ 0 i (λ k. times (m .p) c (getD v k 0)) out
 
 abbrev μ-loop : tie.MeasureT-loop
-μ-loop p c v out₀ multiplier i₀ out i = length v - i
+μ-loop m c v out₀ multiplier i₀ out i = length v - i
 
-made : (c : tie.After-of Inv-loop μ-loop) → let at = c .before .before .before .args in (c .of .result .constant ≡ at .c) × Multiplies (at .p) (c .of .result)
+made : (c : tie.After-of Inv-loop μ-loop) → let at = c .before .before .before .args in (c .of .result .constant ≡ at .c) × Multiplies (at .m .p) (c .of .result)
 made c =
     let start = c .before .before .before in
-    multiplies-of (c .of .result) (start .args .p) (start .args .c) (c .of .ensures) (start .pre .0) (start .pre .1)
+    multiplies-of (c .of .result) (start .args .m) (start .args .c) (c .of .ensures) (start .pre .1) (start .pre .0)
 
 of-requires : tie.Need-of-requires Inv-loop μ-loop
 of-requires c κs = search needs
@@ -28,7 +28,7 @@ of-requires c κs = search needs
 loop-holds : tie.Need-loop-holds Inv-loop μ-loop
 loop-holds c =
     let at = c .before .before .before .args in
-    (omega arith, written-none (now (at .out)) 0 (λ k. times (at .p) (at .c) (getD (now (at .v)) k 0)))
+    (omega arith, written-none (now (at .out)) 0 (λ k. times (at .m .p) (at .c) (getD (now (at .v)) k 0)))
 
 mul-times : tie.Need-mul-times Inv-loop μ-loop
 mul-times c = search needs
@@ -61,8 +61,8 @@ loop-again c =
       omega (arith, test),
       written-next (c .times .result) (loop .inv .1) (omega (arith, test, start .pre .2))
           (c .times .ensures
-          ∙ times-of (at .p) (k .of .result) (made k .1) (getD (now (at .v)) (loop .i) 0) (omega (arith, c .before .shared-slice-known2 .given (loop .i)))
-          ∙ ap (λ k. times (at .p) k (getD (now (at .v)) (loop .i) 0)) (made k .0)),
+          ∙ times-of (at .m .p) (k .of .result) (made k .1) (getD (now (at .v)) (loop .i) 0) (omega (arith, c .before .shared-slice-known2 .given (loop .i)))
+          ∙ ap (λ k. times (at .m .p) k (getD (now (at .v)) (loop .i) 0)) (made k .0)),
     )
 
 same-length : tie.Need-same-length Inv-loop μ-loop
@@ -73,7 +73,7 @@ returns c =
     let start = c .before .before .before .before .before in
     let loop = c .before .loop in
     written-table (now (start .args .out)) (length (now (start .args .v)))
-    (λ k. times (start .args .p) (start .args .c) (getD (now (start .args .v)) k 0)) (loop .out) (start .pre .2)
+    (λ k. times (start .args .m .p) (start .args .c) (getD (now (start .args .v)) k 0)) (loop .out) (start .pre .2)
     (written-all (omega (arith, loop .inv .0, c .loop-test .left)) (loop .inv .1))
 
 pub multiple-spec : {M : Type 1} → statement M

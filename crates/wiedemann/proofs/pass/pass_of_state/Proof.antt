@@ -12,9 +12,9 @@ use denote.Ref.{now}
 use lib.ListN.{length, getD}
 use native.Mathlib.Nat.{add-zero}
 use native.Mathlib.Omega.{arith}
-use Prim.Native.Nat.{ℕ, _+_, _-_, _*_, _≤_}
+use Prim.Native.Nat.{ℕ, _+_, _-_, _≤_}
 use mathlib.Core.List.{List, []}
-use mathlib.Core.Path.{_≡_, refl, sym, subst, _∙_}
+use mathlib.Core.Path.{refl, sym, subst, _∙_}
 use borrow.Author.Needs.{needs}
 use Rattle.wiedemann.proofs.pass.pass_of_state.Statement.{statement}
 use Rattle.wiedemann.proofs.pass.pass_of_state.Tie as tie

@@ -1,13 +1,13 @@
-use mathlib.Core.Path.{_≡_, sym, ap, _∙_, subst}
-use mathlib.Core.List.{[], List}
-use Prim.Native.Nat.{ℕ, suc, _+_, _-_, _*_, _/_, _%_, _≤_, _<_}
+use mathlib.Core.Path.{_≡_, sym, ap, _∙_}
+use mathlib.Core.List.{List}
+use Prim.Native.Nat.{ℕ, suc, _+_, _-_, _*_, _%_, _≤_}
 use native.Mathlib.Nat.{mul-le-mul, suc-mul}
 use native.Mathlib.Omega.{arith}
 use lib.ListN.{length, getD, take, drop, length-drop}
 use lib.Seq.{take-all, getD-drop}
 use denote.Ref.{now}
 use Rattle.meaning.specs.List.{at}
-use Rattle.meaning.specs.Solver.{dot, projections}
+use Rattle.meaning.specs.Solver.{dot}
 use Rattle.laws.specs.List.{table-ext}
 use Rattle.laws.specs.Solver.{vectorCount-div, projection-words}
 use Rattle.wiedemann.specs.Projection.{projection-past}

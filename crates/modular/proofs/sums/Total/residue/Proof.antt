@@ -1,6 +1,6 @@
 -- What the higher word counts for is added to the lower, and the carry of that counts once more.
 use mathlib.Core.Path.{_≡_, ap, ap₂, _∙_}
-use Prim.Native.Nat.{ℕ, _+_, _*_, _/_, _%_, _<_}
+use Prim.Native.Nat.{ℕ, _+_, _*_, _/_, _<_}
 use native.Mathlib.Nat.{le-add-left, lt-of-le-of-lt, mod-eq-of-lt, zero-add}
 use native.Mathlib.Omega.{arith}
 use Rattle.modular.specs.Modulus.{barrett}
