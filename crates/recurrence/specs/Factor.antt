@@ -3,6 +3,7 @@
 --     factorsFit, factorsRefusal      8: their places; 3, 8 and 9 of two factors
 --     GivesProduct     what a call answers and leaves: product-given, product-refused; product-of: where no check turns the factors down
 --     fits-of, fits-not, fits-by      what the places' test says; that it fails; the test as the code makes it
+--     product-one      the product where F = 1: f
 --     factors-of, factors-taken       what no check turned down, and that none turns it down
 --     productAt        coefficient k of the product
 --     Meeting          the places of F that meet one of f in coefficient k
@@ -17,7 +18,7 @@ use mathlib.Core.Logic.{_≢_, _⊎_, inl, inr}
 use mathlib.Core.Bool.{Bool, true, false, not, _&&_}
 use mathlib.Core.List.{List, [], _∷_}
 use Prim.Native.Nat.{ℕ, _+_, _-_, _*_, _%_, _≤_, _<_}
-use native.Mathlib.Nat.{zero-add, add-zero, zero-mul, mul-zero, mod-lt, eq-or-lt-of-le}
+use native.Mathlib.Nat.{zero-add, add-zero, zero-mul, mul-zero, mod-lt, eq-or-lt-of-le, one-mul, mod-eq-of-lt, sub-zero}
 use native.Mathlib.Decide.{decLt}
 use native.Mathlib.Omega.{arith}
 use lib.Dec.{leb, ltb}
@@ -35,10 +36,10 @@ use Rattle.recurrence.specs.declared.Answer.the-variants.{Degree, Refuse
 use Rattle.laws.specs.List.{sum-ext, sum-zeros, table-of}
 use Rattle.modular.specs.declared.sums.Total.{Total}
 use Rattle.modular.specs.Total.{number}
-use Rattle.modular.specs.Sums.{Summed, sumFrom-split, sumFrom-ext}
+use Rattle.modular.specs.Sums.{Summed, sumFrom-zero, sumFrom-split, sumFrom-ext, sumFrom-one}
 use Rattle.recurrence.specs.Convolution.{cross, Crossing, nothing}
+use Rattle.laws.specs.Written.{Written}
 use Rattle.laws.specs.Part.{part, length-part, at-part}
-use Rattle.modular.specs.Sums.{sumFrom-zero}
 use Rattle.laws.specs.Lent.{lent, length-lent, part-lent, inner-lent, drop-lent, part-at, part-of-part, same-after, drop-ext}
 
 -- F, degree d, and f, degree t
@@ -124,7 +125,7 @@ module _ {p : ℕ} {W : List ℕ} {d f t : ℕ} (h : Factors p W d f t) where
               (omega (arith, h .right (k - i) (omega (arith, a, m .start)), small));
         }
 
-    meets : sumFrom from to (cross W 0 (f + k)) ≡ sum (k + 1) (λ i. at (part 0 (d + 1) W) i * at (part f (t + 1) W) (k - i))
+    pub meets : sumFrom from to (cross W 0 (f + k)) ≡ sum (k + 1) (λ i. at (part 0 (d + 1) W) i * at (part f (t + 1) W) (k - i))
     unfolding left right
     meets =
         sym
@@ -246,11 +247,11 @@ pub record GivesProduct (p : ℕ) (W : List ℕ) (d f t : ℕ) (r : Answer) (W�
   -- "every lent slice keeps its contents"
   pub refused : (k : ℕ) → r ≡ Refused k → (factorsRefusal p W d f t ≡ k) × (k ≢ 0) × (W′ ≡ W)
 
-pub product-given : {p : ℕ} {W : List ℕ} {d f t : ℕ} {W′ : List ℕ} → factorsRefusal p W d f t ≡ 0 → Multiplied p W d f t W′
-    → GivesProduct p W d f t (Degree (d + t)) W′
-product-given {d} {t} z m =
+pub product-given : {p : ℕ} {W : List ℕ} {d f t n : ℕ} {W′ : List ℕ} → n ≡ d + t → factorsRefusal p W d f t ≡ 0 → Multiplied p W d f t W′
+    → GivesProduct p W d f t (Degree n) W′
+product-given {n = n} s z m =
     record {
-      product = λ n e. (z, (let same : d + t ≡ n = cc in sym same), m);
+      product = λ k e. (z, (let same : n ≡ k = cc in sym same ∙ s), m);
       refused = λ k e. absurd (let y : _≡_ {A = ℕ} 0 1 = cc in omega arith);
     }
 
@@ -338,6 +339,25 @@ factors-taken {p} {W} {d} {f} {t} two small h =
 
     right : (i : ℕ) → i < t + 1 → at (part f (t + 1) W) i < p
     right i l = subst (λ x. x < p) (sym (at-part f (t + 1) W i l)) (h .right i (omega (arith, l)))
+
+-- F = 1: the product is f
+pub product-one : {p : ℕ} {W : List ℕ} {d f t : ℕ} {W′ : List ℕ} → Factors p W d f t → d ≡ 0 → at W 0 ≡ 1
+    → Written W 0 (t + 1) (λ i. at W (f + i)) W′ → Multiplied p W d f t W′
+product-one {p} {W} {d} {f} {t} {W′} h z one w =
+    descending-all h
+    (record {
+      same-length = w .same-length;
+      below = λ i l. absurd (omega (arith, l));
+      inside = λ i a l. ap (at W′) (sym (zero-add i)) ∙ w .inside i (omega (arith, l, z)) ∙ sym (place i (omega (arith, l, z)));
+      after = λ i l. w .after i (omega (arith, l, z));
+    })
+  where
+    place : (k : ℕ) → k ≤ t → productAt p W d f t k ≡ at W (f + k)
+    place k l =
+        ap (λ x. x % p)
+        (sym (meets h {k = k} {from = 0} {to = 1} (record { inside = omega (arith, l); start = omega (arith, l); low = omega arith; short = omega arith; end = inr (omega (arith, z)) }))
+        ∙ sumFrom-one 0 (cross W 0 (f + k)) ∙ ap (λ x. at W 0 * at W x) (sub-zero (f + k)) ∙ ap (λ x. x * at W (f + k)) one ∙ one-mul (at W (f + k)))
+        ∙ mod-eq-of-lt (h .right k l)
 
 -- a leading part that holds F and f, lent to the product
 pub multiplied-lent : {p : ℕ} {W : List ℕ} {d f t : ℕ} (m : ℕ) {Y : List ℕ} → d + t < f → f + t < m → m ≤ length W → length Y ≡ m

@@ -3,6 +3,7 @@ use crate::Answer;
 use crate::convolution::crossed;
 use checks::are_elements;
 use modular::modulus::Modulus;
+use slices::copy_within;
 ghost use mathlib.Core.Path.{_≡_};
 ghost use Prim.Native.Nat.{_+_, _≤_};
 ghost use lib.ListN.{length};
@@ -74,6 +75,12 @@ pub fn multiply(p: u32, work: &mut [u32], d: usize, f: usize, t: usize) -> Answe
     let number = factors_refusal(p, work, d, f, t);
     if number != 0 {
         return Answer::Refused(number);
+    }
+    let front: usize = 0;
+    // F = 1, as a run's first pass has it: the product is f.
+    if (d == 0) & (work[front] == 1) {
+        copy_within(work, f, front, t + 1);
+        return Answer::Degree(t);
     }
     multiply_within(Modulus::of(p), work, d, f, t);
     Answer::Degree(d + t)
