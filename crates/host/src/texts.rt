@@ -1,14 +1,15 @@
 // System texts, and the text call.
-use system_text::reader::Reading;
-use system_text::reader::read;
-use system_text::writer::Written;
-use system_text::writer::write;
+use system_reader::Reading;
+use system_reader::read;
+use system_writer::Written;
+use system_writer::write;
 ghost use mathlib.Core.Path.{_≡_};
 ghost use Prim.Native.Nat.{_≤_};
 ghost use Rattle.meaning.specs.Matrix.{matrix};
 ghost use Rattle.meaning.specs.Calls.{readerRefusal, readerAnswer, readerAfter, writerRefusal, writerAnswer, writerAfter, textAnswer, textAfter};
-ghost use Rattle.system_text.specs.Answers.{refusalOfRead, modulusOfRead, sizeOfRead, countOfRead, startsOfSystem, columnsOfSystem};
-ghost use Rattle.system_text.specs.Answers.{valuesOfSystem, rightOfSystem, modulusOfDocument, sizeOfDocument, countOfDocument, refusalOfWritten, lengthOfWritten};
+ghost use Rattle.system_reader.specs.Answers.{refusalOfRead, modulusOfRead, sizeOfRead, countOfRead, startsOfSystem, columnsOfSystem};
+ghost use Rattle.system_reader.specs.Answers.{valuesOfSystem, rightOfSystem, modulusOfDocument, sizeOfDocument, countOfDocument};
+ghost use Rattle.system_writer.specs.Answers.{refusalOfWritten, lengthOfWritten};
 ghost use Rattle.host.specs.Answers.{systemOf, lengthOf};
 ghost use lib.ListN.{length};
 

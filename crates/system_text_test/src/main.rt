@@ -8,8 +8,8 @@
 // vectors.py makes calls and output.
 ghost use Prim.Native.Nat.{_≤_};
 use libc::STDIN_FILENO;
-use system_text::reader::Reading;
-use system_text::writer::Written;
+use system_reader::Reading;
+use system_writer::Written;
 use test_io::at;
 use test_io::front;
 use test_io::list;
@@ -34,7 +34,7 @@ fn write(
     let size = place(sizes, i);
     let mut out = test_io::lent_text();
     let text = test_io::text_front(&mut out, size);
-    match system_text::writer::write(p, starts, columns, values, b, text) {
+    match system_writer::write(p, starts, columns, values, b, text) {
         Written::Length(length) => {
             print(0);
             print(length as u64);
@@ -93,7 +93,7 @@ fn read(text: &[u8], head: &[u32], sizes: &[u32]) {
     let mut columns = test_io::lent();
     let mut values = test_io::lent();
     let mut b = test_io::lent();
-    let reading = system_text::reader::read(
+    let reading = system_reader::read(
         text,
         front(&mut starts, l0),
         front(&mut columns, l1),

@@ -1,6 +1,6 @@
 use mathlib.Core.Path.{sym, ap}
 use native.Mathlib.Omega.{arith}
-use Rattle.system_text.specs.Answers.{refusalOfWritten, lengthOfWritten}
+use Rattle.system_writer.specs.Answers.{refusalOfWritten, lengthOfWritten}
 use Rattle.host.specs.Answers.{lengthOf}
 use borrow.Author.Needs.{needs}
 use Rattle.host.proofs.texts.numbers_of_length.Statement.{statement}

@@ -1,5 +1,5 @@
 use mathlib.Core.Path.{sym, ap}
-use Rattle.system_text.specs.Answers.{refusalOfRead, modulusOfRead, sizeOfRead, countOfRead}
+use Rattle.system_reader.specs.Answers.{refusalOfRead, modulusOfRead, sizeOfRead, countOfRead}
 use Rattle.host.specs.Answers.{systemOf}
 use borrow.Author.Needs.{needs}
 use Rattle.host.proofs.texts.numbers_of_system.Statement.{statement}

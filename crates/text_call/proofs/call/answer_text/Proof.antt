@@ -4,7 +4,7 @@ use Prim.Native.Nat.{_≤_}
 use lib.ListN.{length}
 use Rattle.meaning.specs.Calls.{readerRefusal}
 use Rattle.line_writer.specs.Written.{wrote-start, wrote-as}
-use Rattle.system_text.specs.Answers.{refusalOfRead, modulusOfRead, sizeOfRead, countOfRead}
+use Rattle.system_reader.specs.Answers.{refusalOfRead, modulusOfRead, sizeOfRead, countOfRead}
 use Rattle.text_call.specs.Checks.{text-by-reader, byReader-long, byReader-refused, byReader-short, byReader-taken, text-refused, text-given, text-taken, solved-fits}
 use Rattle.text_call.specs.Loaded.{refused-number, read-loaded, read-rows, read-outcome}
 use Rattle.text_call.proofs.Parts.{some, answer-ends, answer-room}

@@ -1,0 +1,72 @@
+// The second pass over a text that the checks have taken: the lent slices are filled.
+ghost use mathlib.Core.Path.{_≡_};
+ghost use Prim.Native.Nat.{_+_, _-_, _≤_};
+ghost use lib.ListN.{length, drop, replicate};
+ghost use lib.Seq.{sets};
+ghost use Rattle.meaning.specs.List.{overwrite};
+ghost use Rattle.system_reader.specs.Places.{entriesOf, elementsOf};
+ghost use Rattle.system_reader.specs.Fill.{startsOf, columnsOf, valuesOf, rightOf, EntriesAhead, ElementsAhead};
+use crate::line::line;
+use checks::wide;
+
+// One value from a place to another.
+pub(crate) fn fill(a: &mut [u32], from: usize, to: usize, value: u32)
+    requires { ⌜ (from ≤ to) × (to ≤ length (now a)) ⌝ }
+    ensures { λ _. ⌜ now (a .exit) ≡ sets (now (a .entry)) from (replicate (to - from) value) ⌝ }
+{
+    let mut i = from;
+    while i < to {
+        a[i] = value;
+        i += 1;
+    }
+}
+
+// The `a` lines: a row's start is the number of entries above it.
+pub(crate) fn fill_entries(
+    text: &[u8],
+    from: usize,
+    count: usize,
+    n: usize,
+    starts: &mut [u32],
+    columns: &mut [u32],
+    values: &mut [u32],
+)
+    requires { ⌜ EntriesAhead (now text) from count n ⌝ }
+    requires { ⌜ (n + 1 ≤ length (now starts)) × (count ≤ length (now columns)) × (count ≤ length (now values)) ⌝ }
+    ensures { λ _. ⌜ now (starts .exit) ≡ overwrite (startsOf n (entriesOf (drop from (now (text .entry))))) (now (starts .entry)) ⌝ }
+    ensures { λ _. ⌜ now (columns .exit) ≡ overwrite (columnsOf (entriesOf (drop from (now (text .entry))))) (now (columns .entry)) ⌝ }
+    ensures { λ _. ⌜ now (values .exit) ≡ overwrite (valuesOf (entriesOf (drop from (now (text .entry))))) (now (values .entry)) ⌝ }
+{
+    let mut at = from;
+    let mut above: usize = 0;
+    let mut k: usize = 0;
+    while k < count {
+        let l = line(text, at, b"a", 3);
+        let below = wide(l.first);
+        fill(starts, above, below, k as u32);
+        columns[k] = l.second - 1;
+        values[k] = l.third;
+        above = below;
+        at = l.next;
+        k += 1;
+    }
+    fill(starts, above, n + 1, count as u32);
+}
+
+// The `b` lines; the other elements are 0.
+pub(crate) fn fill_elements(text: &[u8], from: usize, count: usize, n: usize, right: &mut [u32])
+    requires { ⌜ ElementsAhead (now text) from count n ⌝ }
+    requires { ⌜ n ≤ length (now right) ⌝ }
+    ensures { λ _. ⌜ now (right .exit) ≡ overwrite (rightOf n (elementsOf (drop from (now (text .entry))))) (now (right .entry)) ⌝ }
+{
+    fill(right, 0, n, 0);
+    let mut at = from;
+    let mut k: usize = 0;
+    while k < count {
+        let l = line(text, at, b"b", 2);
+        let below = wide(l.first);
+        right[below - 1] = l.second;
+        at = l.next;
+        k += 1;
+    }
+}

@@ -1,0 +1,3 @@
+-- What the contracts cite, and the laws that tie it to the meaning.
+pub mod Answers
+pub mod Writes
