@@ -3,7 +3,7 @@
 --     solved≢singular      the kinds differ
 --     span-to, span-from   "b is a sum of multiples of Ab, A²b, .., Aⁿb" is the theory's Span
 -- Of any c in which a run stands (Run's Stands) with r = 0, for any size, 0 included, and any projections:
---     end-verdict          the theory's Verdict of D and F
+--     end-verdict          D and F settle A and b, in the theory
 --     end-monic, end-annihilates, end-lowest      F is monic of degree D, F(A)b = 0, and every other such g has a higher degree
 --     IsSingular, IsSolved, end-singular, end-solved      kind and vector where F[0] is 0, and where it is not
 --     end-exactly, end-solves, end-not-zero, end-to-zero      the kind is solved exactly if b is in the span; what the vector is then, and otherwise
@@ -49,7 +49,7 @@ use Rattle.residue.specs.Residue.{residues, mk, value, mk-zero, mk-inj, mk-inv,
 use Rattle.residue.specs.Lists.{Reduced, reduced-getD, coef, coef-below, coef-ext, coef-table, values}
 use Rattle.krylov.specs.Operator.{Kills, times-at, power-below, apply-below, apply-degree-zero}
 use Rattle.krylov.specs.Operator as theory
-use Rattle.krylov.specs.Verdict.{Span, tail, solution, Verdict, verdict-unique, solution-zero}
+use Rattle.krylov.specs.Verdict.{Span, tail, solution, Settles, verdict-unique, solution-zero}
 use Rattle.krylov.specs.Verdict as theory-verdict
 use Rattle.bridge.specs.Lists.{reduced-table-mod, every-reduced, table-coef, mk-dot-mod, mk-times, mk-difference}
 use Rattle.bridge.specs.Recurrence.{monic-to, monic-from}
@@ -137,7 +137,7 @@ module _ (p : ℕ) (h : Prime p) (A : Matrix) (b : List ℕ) (size-b : length b 
       }
 
   module _ {us : List (ℕ → C)} (c : Run) (I : Stands p h A b us c) (z : isZero (c .residual) ≡ true) where
-    pub end-verdict : Verdict (residues p h) (size A) (operator p h A) (coef p h b) (c .found) (coef p h (c .factor))
+    pub end-verdict : Settles (residues p h) (size A) (operator p h A) (coef p h b) (c .found) (coef p h (c .factor))
     end-verdict =
         theory-verdict.verdict (residues p h) (size A) (operator p h A) (coef p h b) (operator-linear p h A) below-b (I .reached) (isZero-null p h (c .residual) z)
 

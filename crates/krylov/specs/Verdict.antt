@@ -3,7 +3,7 @@
 --     Span n A b           b is a sum of multiples of Ab, A²b, .., Aⁿb
 --     solution A b D F     −G(A)b / F[0]: document 01's x
 --     solution-zero        null for D = 0
---     Verdict n A b D F    the third condition. F is monic of degree D ≤ n and kills b; every other one that does has a higher degree;
+--     Settles n A b D F    the third condition. F is monic of degree D ≤ n and kills b; every other one that does has a higher degree;
 --                          F[0] is not 0 exactly if b is in the span, and then A takes the solution to b; otherwise A takes G(A)b to
 --                          zero, and G(A)b is not null
 --     verdict              so it is for whatever is reached with r null
@@ -52,7 +52,7 @@ module _ (K : Field) where
   abbrev pub solution : Operator R → (ℕ → C) → ℕ → (ℕ → C) → ℕ → C
   solution A b D F = times R (⊖ inv (F 0)) (apply R A D (tail R F) b)
 
-  pub record Verdict (n : ℕ) (A : Operator R) (b : ℕ → C) (D : ℕ) (F : ℕ → C) : Type 0 where
+  pub record Settles (n : ℕ) (A : Operator R) (b : ℕ → C) (D : ℕ) (F : ℕ → C) : Type 0 where
     pub kills : Kills R A D F b
     pub degree-le : D ≤ n
     pub least : (k : ℕ) (g : ℕ → C) → Kills R A k g b → D ≤ k
@@ -117,14 +117,14 @@ module _ (K : Field) (n : ℕ) (A : Operator (K .ring)) (b : ℕ → K .ring .C)
   pub solution-zero : (F : ℕ → C) → solution K A b 0 F ≡ null R
   solution-zero F = ap (times R (⊖ inv (F 0))) (operator.apply-zero R A (tail R F) b) ∙ fun-ext (λ p. simp vector-laws)
 
-  pub verdict-unique : {D D′ : ℕ} {F F′ : ℕ → C} → Verdict K n A b D F → Verdict K n A b D′ F′ → (D ≡ D′) × (F ≡ F′)
+  pub verdict-unique : {D D′ : ℕ} {F F′ : ℕ → C} → Settles K n A b D F → Settles K n A b D′ F′ → (D ≡ D′) × (F ≡ F′)
   verdict-unique {D} {D′} {F} {F′} p q = (e, q .only F (subst (λ d. Kills R A d F b) e (p .kills)))
     where
       e : D ≡ D′
       e = le-antisymm (p .least D′ F′ (q .kills)) (q .least D F (p .kills))
 
   module _ (B : Below R n b) where
-    pub verdict : {us : List (ℕ → C)} {r : ℕ → C} {D : ℕ} {F : ℕ → C} → Reached R n A b us r D F → r ≡ null R → Verdict K n A b D F
+    pub verdict : {us : List (ℕ → C)} {r : ℕ → C} {D : ℕ} {F : ℕ → C} → Reached R n A b us r D F → r ≡ null R → Settles K n A b D F
     verdict {us} {r} {D} {F} p e =
         record {
           kills = k;

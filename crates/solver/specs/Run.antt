@@ -1,5 +1,5 @@
 -- The solver's run in its work slice, which is laid out as a pass has it (wiedemann's Pass).
---     System, system-of  what the checks leave known of a system
+--     CheckedSystem, system-of  what the checks leave known of a system
 --     none, counted      the counts before the first pass, and after one more
 --     begun              r = b, F = 1, D = 0 in the slice
 --     run-append         a run with projections after others
@@ -50,12 +50,12 @@ use Rattle.checks.specs.Pass.{residualAt, passRefusal, refused-state, state-0}
 use Rattle.wiedemann.specs.Pass.{held, passOf, Passes}
 use Rattle.solver.specs.declared.Counts.{Counts}
 
-pub record System (p : ℕ) (A : Matrix) (b : List ℕ) : Type 0 where
+pub record CheckedSystem (p : ℕ) (A : Matrix) (b : List ℕ) : Type 0 where
   pub checked : first (matrixChecks p A) ≡ 0
   pub valid : Valid p A
   pub accepted : Accepted p A b
 
-pub system-of : (p : ℕ) (A : Matrix) (b words : List ℕ) → first (runChecks p A b words) ≡ 0 → System p A b
+pub system-of : (p : ℕ) (A : Matrix) (b words : List ℕ) → first (runChecks p A b words) ≡ 0 → CheckedSystem p A b
 unfolding runChecks systemChecks
 system-of p A b words e =
     record { checked = matrix; valid = valid-of (run-accepted p A b words e .system); accepted = accepted p A b words e }
@@ -153,7 +153,7 @@ pub record Midway (p : ℕ) (A : Matrix) (b words W : List ℕ) (j : ℕ) (c : C
   pub within : j ≤ length (projections p (size A) words)
   pub state : held (size A) W (c .degree) made ≡ run p A (take j (projections p (size A) words)) (begin b)
 
-pub midway-begin : {p : ℕ} {A : Matrix} {b words W : List ℕ} → System p A b → 16 * size A + 16 ≤ length W → held (size A) W 0 [] ≡ begin b
+pub midway-begin : {p : ℕ} {A : Matrix} {b words W : List ℕ} → CheckedSystem p A b → 16 * size A + 16 ≤ length W → held (size A) W 0 [] ≡ begin b
     → Midway p A b words W 0 none
 midway-begin {p} {A} {b} {words} {W} s room e =
     record {
@@ -188,7 +188,7 @@ pass-cost p A u c r q e g =
     last : Pass
     last = record { left = size A - c .found; degree = t; applications = 2 * (size A - c .found) - 1 + t }
 
-module _ {p : ℕ} {A : Matrix} {b words W : List ℕ} {j : ℕ} {c : Counts} (s : System p A b) (most : length (projections p (size A) words) ≤ 8192)
+module _ {p : ℕ} {A : Matrix} {b words W : List ℕ} {j : ℕ} {c : Counts} (s : CheckedSystem p A b) (most : length (projections p (size A) words) ≤ 8192)
     (m : Midway p A b words W j c) where
   h : Prime p
   h = s .accepted .prime
@@ -307,7 +307,7 @@ pub record Closable (p : ℕ) (A : Matrix) (W : List ℕ) (c : Counts) : Type 0 
   pub few : c .applications ≤ 134217728
   pub elements : (i : ℕ) → i ≤ c .degree → at W i < p
 
-pub closable : {p : ℕ} {A : Matrix} {b words W : List ℕ} {c : Counts} → System p A b → Finished p A b words W c → Closable p A W c
+pub closable : {p : ℕ} {A : Matrix} {b words W : List ℕ} {c : Counts} → CheckedSystem p A b → Finished p A b words W c → Closable p A W c
 closable {p} {A} {b} {words} {W} {c} s f =
     record {
       found = found;

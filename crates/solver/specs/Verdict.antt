@@ -37,7 +37,7 @@ use Rattle.wiedemann.specs.Pass.{held}
 use Rattle.laws.specs.Bool.{and-both}
 use Rattle.laws.specs.List.{length-table, getD-table}
 use Rattle.laws.specs.Refusal.{first-nil, first-pass, first-append-none, first-append-zero, numbered-matrix, numbered-run, unlessRefused-none}
-use Rattle.solver.specs.Run.{System, Closable, Finished}
+use Rattle.solver.specs.Run.{CheckedSystem, Closable, Finished}
 
 pub record Counted (c : Counts) (o : Outcome) : Type 0 where
   pub degree : c .degree ≡ o .degree
@@ -133,7 +133,7 @@ pub record Closed (p : ℕ) (A : Matrix) (b W : List ℕ) (c : Counts) (r : Verd
 
 -- ---- G(A)b
 
-module _ {p : ℕ} {A : Matrix} {b W : List ℕ} {c : Counts} (s : System p A b) (q : Closable p A W c) (P : List ℕ)
+module _ {p : ℕ} {A : Matrix} {b W : List ℕ} {c : Counts} (s : CheckedSystem p A b) (q : Closable p A W c) (P : List ℕ)
     (e : P ≡ padded (size A + 1) (part 0 (c .degree + 1) W)) where
   sized : length (part 0 (c .degree + 1) W) ≡ c .degree + 1
   sized = length-part 0 (c .degree + 1) W (omega (arith, q .found, q .room))

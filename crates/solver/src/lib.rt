@@ -18,7 +18,7 @@ ghost use Rattle.modular.specs.Modulus.{Multiplies};
 ghost use Rattle.laws.specs.Part.{part};
 ghost use Rattle.checks.specs.Pass.{residualAt};
 ghost use Rattle.wiedemann.specs.Pass.{held};
-ghost use Rattle.solver.specs.Run.{System, none, counted, Finished, Closable};
+ghost use Rattle.solver.specs.Run.{CheckedSystem, none, counted, Finished, Closable};
 ghost use Rattle.solver.specs.Verdict.{closing, Closed, Solves};
 use checks::residual_at;
 use checks::solver_refusal;
@@ -123,7 +123,7 @@ fn run(
     words: &[u32],
     work: &mut [u32],
 ) -> Counts
-    requires { ⌜ System (field .p) (matrix (now starts) (now columns) (now values)) (now b) ⌝ }
+    requires { ⌜ CheckedSystem (field .p) (matrix (now starts) (now columns) (now values)) (now b) ⌝ }
     requires { ⌜ (wordsTaken (length (now starts) - 1) (now words) ≡ true) × (16 * (length (now starts) - 1) + 16 ≤ length (now work)) ⌝ }
     ensures { λ c. ⌜ Finished (field .p) (matrix (now (starts .entry)) (now (columns .entry)) (now (values .entry)))
         (now (b .entry)) (now (words .entry)) (now (work .exit)) c ⌝ }
@@ -170,7 +170,7 @@ fn finish(
     vector: &mut [u32],
     polynomial: &mut [u32],
 ) -> Verdict
-    requires { ⌜ System (field .p) (matrix (now starts) (now columns) (now values)) (now b) ⌝ }
+    requires { ⌜ CheckedSystem (field .p) (matrix (now starts) (now columns) (now values)) (now b) ⌝ }
     requires { ⌜ Closable (field .p) (matrix (now starts) (now columns) (now values)) (now work) c ⌝ }
     requires { ⌜ (length (now vector) ≡ length (now starts) - 1) × (length (now polynomial) ≡ length (now starts) - 1 + 1) ⌝ }
     ensures { λ r. ⌜ Closed (field .p) (matrix (now (starts .entry)) (now (columns .entry)) (now (values .entry)))

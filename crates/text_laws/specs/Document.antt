@@ -207,7 +207,7 @@ split-form f (suc count) after (l ∷ ls) e =
     }
 
 -- a text whose lines are those of a shaped document
-record Says (text : List ℕ) : Type 0 where
+record Described (text : List ℕ) : Type 0 where
   said : Document
   asLines : lines text ≡ linesOf said ++ (blank ∷ [])
   isShaped : shaped said ≡ true
@@ -235,7 +235,7 @@ one (h ∷ []) e = refl
 one (h ∷ g ∷ hs) e = absurd (omega arith)
 
 says-groups : (text : List ℕ) (h : List ℕ) (es bs : List (List ℕ)) (x y : List ℕ)
-    → lines text ≡ groups (h ∷ []) es bs (x ∷ []) (y ∷ []) → Says text
+    → lines text ≡ groups (h ∷ []) es bs (x ∷ []) (y ∷ []) → Described text
 unfolding shaped
 says-groups text h es bs x y e =
     let tail-b = map (say ending) (x ∷ []) ++ map (say nothing) (y ∷ []) in
@@ -267,12 +267,12 @@ no-ranks : (ls : List Line) → map rankOf ls ≡ [] → ls ≡ []
 no-ranks [] e = refl
 no-ranks (l ∷ ls) e = absurd (cons≢nil e)
 
-says-ranks : (text : List ℕ) (a b : ℕ) → map rankOf (lines text) ≡ 0 ∷ (replicate a 1 ++ (replicate b 2 ++ (3 ∷ 4 ∷ []))) → Says text
+says-ranks : (text : List ℕ) (a b : ℕ) → map rankOf (lines text) ≡ 0 ∷ (replicate a 1 ++ (replicate b 2 ++ (3 ∷ 4 ∷ []))) → Described text
 says-ranks text a b e = headed (split-form header 1 (replicate a 1 ++ (replicate b 2 ++ (3 ∷ 4 ∷ []))) (lines text) e)
   where
     done : (h : Split header 1 (replicate a 1 ++ (replicate b 2 ++ (3 ∷ 4 ∷ []))) (lines text))
         (es : Split entry a (replicate b 2 ++ (3 ∷ 4 ∷ [])) (h .rest)) (bs : Split element b (3 ∷ 4 ∷ []) (es .rest))
-        (x : Split ending 1 (4 ∷ []) (bs .rest)) (y : Split nothing 1 [] (x .rest)) → Says text
+        (x : Split ending 1 (4 ∷ []) (bs .rest)) (y : Split nothing 1 [] (x .rest)) → Described text
     done h es bs x y =
         says-groups text (getD (h .group) 0 []) (es .group) (bs .group) (getD (x .group) 0 []) (getD (y .group) 0 [])
         (h .parted
@@ -288,21 +288,21 @@ says-ranks text a b e = headed (split-form header 1 (replicate a 1 ++ (replicate
 
     ended : (h : Split header 1 (replicate a 1 ++ (replicate b 2 ++ (3 ∷ 4 ∷ []))) (lines text))
         (es : Split entry a (replicate b 2 ++ (3 ∷ 4 ∷ [])) (h .rest)) (bs : Split element b (3 ∷ 4 ∷ []) (es .rest))
-        → Split ending 1 (4 ∷ []) (bs .rest) → Says text
+        → Split ending 1 (4 ∷ []) (bs .rest) → Described text
     ended h es bs x = done h es bs x (split-form nothing 1 [] (x .rest) (x .ranks))
 
     elemented : (h : Split header 1 (replicate a 1 ++ (replicate b 2 ++ (3 ∷ 4 ∷ []))) (lines text))
-        (es : Split entry a (replicate b 2 ++ (3 ∷ 4 ∷ [])) (h .rest)) → Split element b (3 ∷ 4 ∷ []) (es .rest) → Says text
+        (es : Split entry a (replicate b 2 ++ (3 ∷ 4 ∷ [])) (h .rest)) → Split element b (3 ∷ 4 ∷ []) (es .rest) → Described text
     elemented h es bs = ended h es bs (split-form ending 1 (4 ∷ []) (bs .rest) (bs .ranks))
 
     entered : (h : Split header 1 (replicate a 1 ++ (replicate b 2 ++ (3 ∷ 4 ∷ []))) (lines text))
-        → Split entry a (replicate b 2 ++ (3 ∷ 4 ∷ [])) (h .rest) → Says text
+        → Split entry a (replicate b 2 ++ (3 ∷ 4 ∷ [])) (h .rest) → Described text
     entered h es = elemented h es (split-form element b (3 ∷ 4 ∷ []) (es .rest) (es .ranks))
 
-    headed : Split header 1 (replicate a 1 ++ (replicate b 2 ++ (3 ∷ 4 ∷ []))) (lines text) → Says text
+    headed : Split header 1 (replicate a 1 ++ (replicate b 2 ++ (3 ∷ 4 ∷ []))) (lines text) → Described text
     headed h = entered h (split-form entry a (replicate b 2 ++ (3 ∷ 4 ∷ [])) (h .rest) (h .ranks))
 
-says : (text : List ℕ) → inForm text ≡ true → Says text
+says : (text : List ℕ) → inForm text ≡ true → Described text
 unfolding inForm
 says text e =
     let a = length (saying entry (lines text)) in
@@ -311,7 +311,7 @@ says text e =
     (equal→≡ (map rankOf (lines text)) (0 ∷ replicate a 1 ++ replicate b 2 ++ (3 ∷ 4 ∷ [])) e
     ∙ ap (λ r. 0 ∷ r) (append-assoc (replicate a 1) (replicate b 2) (3 ∷ 4 ∷ [])))
 
-says-document : {text : List ℕ} (s : Says text) → document text ≡ s .said
+says-document : {text : List ℕ} (s : Described text) → document text ≡ s .said
 says-document {text} s = document-lines (s .said) text (s .asLines)
 
 known-lines : (d : Document) → every known (linesOf d) ≡ true
