@@ -358,7 +358,6 @@ module _ (p : ℕ) (h : Prime p) (A : Matrix) (b : List ℕ) (size-b : length b 
 
 pub record Accepted (p : ℕ) (A : Matrix) (b : List ℕ) : Type 0 where
   pub prime : Prime p
-  pub size-positive : 1 ≤ size A
   pub size-b : length b ≡ size A
   pub reduced-b : Reduced p b
 
@@ -366,7 +365,6 @@ pub accepted-of : {p : ℕ} {A : Matrix} {b : List ℕ} → AcceptedSystem p A b
 accepted-of {p} {A} {b} a =
     record {
       prime = isModulus-Prime p (a .prime);
-      size-positive = a .size-low;
       size-b = a .right-length;
       reduced-b = every-reduced p b (a .right-below);
     }
