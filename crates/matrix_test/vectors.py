@@ -95,21 +95,21 @@ def add(p, starts, columns, values, g, v, b, out=None, work=None, made=None):
     rows = None if matrix_refusal(*system) else dense(n, starts, columns, values)
     line, left = [], [FREE] * out
 
-    def written(number, answer):
+    def written(number, answer, products):
         nonlocal left
         left = left if number else answer()
-        line.append(printed(number) + shown(left))
+        line.append((printed(number) if number else printed(0, products)) + shown(left))
         seen[number or 'done'] += 1
 
     def verdict(number, answer):
         yes = not number and answer()
         line.append(printed(number) if number else printed(0, yes))
         seen[number or ('yes' if yes else 'no')] += 1
-    written(refusal(*system, [len(v) == n], [v], [out == n]), lambda: product(p, rows, v))
+    written(refusal(*system, [len(v) == n], [v], [out == n]), lambda: product(p, rows, v), 1)
     verdict(refusal(*system, [len(v) == n, len(left) == n], [v, left], []), lambda: product(p, rows, v) == left)
-    written(refusal(*system, [len(v) == n], [v], [out == n]), lambda: transposed(p, rows, v))
+    written(refusal(*system, [len(v) == n], [v], [out == n]), lambda: transposed(p, rows, v), 1)
     number = refusal(*system, [1 <= len(g) <= n + 1, len(v) == n], [g, v], [out == n, work >= 2 * n])
-    written(number, lambda: apply(p, rows, g, v))
+    written(number, lambda: apply(p, rows, g, v), len(g) - 1)
     line.append(shown([FREE] * work if number else []))
     verdict(refusal(*system, [len(v) == n, len(b) == n], [v, b], []), lambda: product(p, rows, v) == b)
     verdict(refusal(*system, [len(v) == n], [v], []), lambda: any(v) and not any(product(p, rows, v)))

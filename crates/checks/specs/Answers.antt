@@ -1,5 +1,5 @@
 -- What each case of an answer of a call that writes a slice says, by document 01's number of the refusal, 0 for none.
---     Writes r number              of products and polynomials of a matrix
+--     Writes r number products     of products and polynomials of a matrix; `products` is how many products with the matrix are made
 --     writes-refused, writes-done      what a call says of its number and leaves, where check k refused and where none did
 use mathlib.Core.Path.{_≡_, sym, _∙_}
 use mathlib.Core.Logic.{_≢_}
@@ -10,12 +10,13 @@ use Rattle.laws.specs.Refusal.{unlessRefused-none, unlessRefused-some}
 use Rattle.checks.specs.declared.Writing.{Writing}
 use Rattle.checks.specs.declared.Writing.the-variants.{Done, Refused}
 
-abbrev pub Writes : Writing → ℕ → Type 0
-Writes Done number = number ≡ 0
-Writes (Refused k) number = (number ≡ k) × (k ≢ 0)
+abbrev pub Writes : Writing → ℕ → ℕ → Type 0
+Writes (Done made) number products = (number ≡ 0) × (made ≡ products)
+Writes (Refused k) number products = (number ≡ k) × (k ≢ 0)
 
 pub writes-refused : (k number : ℕ) (x found : List ℕ) → k ≡ number → k ≢ 0 → ((number ≡ k) × (k ≢ 0)) × (found ≡ unlessRefused number x found)
 writes-refused k number x found e n = ((sym e, n), sym (unlessRefused-some number x found (λ z. n (e ∙ z))))
 
-pub writes-done : (number : ℕ) (x found left : List ℕ) → number ≡ 0 → left ≡ x → (number ≡ 0) × (left ≡ unlessRefused number x found)
-writes-done number x found left z e = (z, e ∙ sym (unlessRefused-none number x found z))
+pub writes-done : {made products : ℕ} (number : ℕ) (x found left : List ℕ) → number ≡ 0 → made ≡ products → left ≡ x
+    → ((number ≡ 0) × (made ≡ products)) × (left ≡ unlessRefused number x found)
+writes-done number x found left z m e = ((z, m), e ∙ sym (unlessRefused-none number x found z))

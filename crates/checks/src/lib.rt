@@ -18,7 +18,8 @@ ghost use Rattle.checks.specs.Matrix.{columnTaken, rises, Ordered};
 
 // What a call that writes a slice answers.
 pub enum Writing {
-    Done,
+    // How many products with the matrix were made.
+    Done(u64),
     // The number of the first check that turned the input down.
     Refused(u32),
 }

@@ -13,10 +13,10 @@ ghost use Rattle.meaning.specs.Calls.{productRefusal, productAfter, applyRefusa
 ghost use Rattle.checks.specs.Answers.{Writes};
 
 fn number_of(writing: Writing) -> u32
-    ensures { λ r. ⌜ ((number : ℕ) → Writes writing number → r ≡ number) ⌝ }
+    ensures { λ r. ⌜ ((number products : ℕ) → Writes writing number products → r ≡ number) ⌝ }
 {
     match writing {
-        Writing::Done => 0,
+        Writing::Done(_) => 0,
         Writing::Refused(number) => number,
     }
 }

@@ -11,16 +11,18 @@
 --     written-take, written-drop      what a write leaves before it and after it
 --     take-padded            a list out of zeros after it
 --     written-lent           a part that was lent and written whole
+--     written-inner          a part that was lent, of which a part was written
 use mathlib.Core.Path.{_≡_, sym, ap, ap₂, _∙_}
 use mathlib.Core.List.{List, _∷_, _++_}
 use Prim.Native.Nat.{ℕ, suc, _+_, _-_, _≤_, _<_}
+use native.Mathlib.Decide.{decLt}
 use native.Mathlib.Omega.{arith}
 use lib.ListN.{length, take, drop, length-append, length-drop}
 use lib.Seq.{ext-getD, getD-take, getD-drop, length-take-le, drop-drop, take-at, drop-at, drop-cons}
 use Rattle.meaning.specs.List.{at, table, padded}
 use Rattle.laws.specs.List.{length-table, getD-table}
 use Rattle.laws.specs.Written.{Written}
-use Rattle.laws.specs.Part.{part, part-ext, at-part}
+use Rattle.laws.specs.Part.{part, part-ext, at-part, length-part}
 
 abbrev pub lent : List ℕ → ℕ → ℕ → List ℕ → List ℕ
 lent W a n Y = take a W ++ (Y ++ drop n (drop a W))
@@ -122,3 +124,35 @@ written-lent W a n f Y fits e =
   where
     same : length Y ≡ n
     same = ap length e ∙ length-table n f
+
+-- a part that was lent, of which a part was written
+pub written-inner : (W : List ℕ) (a m : ℕ) {b n : ℕ} {f : ℕ → ℕ} {Y : List ℕ} → a + m ≤ length W → b + n ≤ m → Written (part a m W) b n f Y
+    → Written W (a + b) n f (lent W a m Y)
+written-inner W a m {b} {n} {f} {Y} fits low w =
+    record {
+      same-length = length-lent W a m Y fits same;
+      inside = λ i l. ap (at (lent W a m Y)) (omega arith) ∙ at-lent (b + i) (omega (arith, l, low)) ∙ w .inside i l;
+      before = λ k l. before k l (decLt k a);
+      after = λ k l. after k l (decLt k (a + m));
+    }
+  where
+    same : length Y ≡ m
+    same = w .same-length ∙ length-part a m W fits
+
+    at-lent : (i : ℕ) → i < m → at (lent W a m Y) (a + i) ≡ at Y i
+    at-lent i l = sym (at-part a m (lent W a m Y) i l) ∙ ap (λ y. at y i) (part-lent W a m Y fits same)
+
+    -- a place of the part that was not written
+    kept : (k : ℕ) → a ≤ k → k < a + m → at Y (k - a) ≡ at (part a m W) (k - a) → at (lent W a m Y) k ≡ at W k
+    kept k l h e =
+        let place : k ≡ a + (k - a) = omega (arith, l) in
+        ap (at (lent W a m Y)) place ∙ at-lent (k - a) (omega (arith, l, h)) ∙ e ∙ at-part a m W (k - a) (omega (arith, l, h)) ∙ ap (at W) (sym place)
+
+    before : (k : ℕ) → k < a + b → Dec (k < a) → at (lent W a m Y) k ≡ at W k
+    before k l (yes h) =
+        sym (getD-take a (lent W a m Y) k 0 h) ∙ ap (λ y. at y k) (take-lent W a m Y fits same) ∙ getD-take a W k 0 h
+    before k l (no h) = kept k (omega (arith, h)) (omega (arith, l, low)) (w .before (k - a) (omega (arith, l, h)))
+
+    after : (k : ℕ) → a + b + n ≤ k → Dec (k < a + m) → at (lent W a m Y) k ≡ at W k
+    after k l (yes h) = kept k (omega (arith, l)) h (w .after (k - a) (omega (arith, l)))
+    after k l (no h) = same-after (a + m) k W (lent W a m Y) (drop-lent W a m Y fits same) (omega (arith, h))

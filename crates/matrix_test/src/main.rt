@@ -1,9 +1,9 @@
 // Makes the five calls on each of the matrices that standard input lists, after their number. A case is seven lists: its modulus and the places of out
 // and work; starts, columns, values, g, v and b. A line of the output is what product, transposed and apply answer and leave (the refusal's number,
-// or 0; out and two places behind it; of work, after apply, what it may not change: two places behind it and, where it refuses, all) and
-// what the two checks say (the refusal's number, or 0 and 1 for yes, 0 for no): after the product whether A takes v to what it left, at the
-// end whether A takes v to b and whether v is a null vector. A large case is its first list alone, with the numbers that make the others.
-// vectors.py makes cases and output.
+// or 0 and how many products were made; out and two places behind it; of work, after apply, what it may not change: two places behind it and,
+// where it refuses, all) and what the two checks say (the refusal's number, or 0 and 1 for yes, 0 for no): after the product whether A takes v to
+// what it left, at the end whether A takes v to b and whether v is a null vector. A large case is its first list alone, with the numbers that
+// make the others. vectors.py makes cases and output.
 ghost use Prim.Native.Nat.{_≤_};
 use checks::Writing;
 use field::Field;
@@ -19,8 +19,9 @@ use wiedemann::offered::Offered;
 // The answer; the places of work that the call was free to change.
 fn print_writing(writing: Writing, work: usize) -> usize {
     match writing {
-        Writing::Done => {
+        Writing::Done(products) => {
             print(0);
+            print(products);
             work
         }
         Writing::Refused(number) => {

@@ -1,8 +1,8 @@
-// Places of slices of 32-bit numbers: read, cleared, copied, and whether all are zero. Every function answers for all inputs.
+// Places of slices of 32-bit numbers: read, written, cleared, copied, and whether all are zero. Every function answers for all inputs.
 //
 // The contracts cite the crates meaning (List) and laws (Written), and specs/Copy.antt (what a copy within one slice leaves).
 ghost use mathlib.Core.Path.{_≡_};
-ghost use lib.ListN.{length};
+ghost use lib.ListN.{length, set};
 ghost use Rattle.meaning.specs.List.{at, zeros, padded, isZero};
 ghost use Rattle.slices.specs.Copy.{Copies};
 
@@ -25,6 +25,15 @@ pub fn is_zero(v: &[u32]) -> bool
         i += 1;
     }
     true
+}
+
+// x into place i; past the end nothing is written.
+pub fn put(out: &mut [u32], i: usize, x: u32)
+    ensures { λ _. ⌜ now (out .exit) ≡ set (now (out .entry)) i x ⌝ }
+{
+    if i < out.len() {
+        out[i] = x;
+    }
 }
 
 // Zeros in every place.

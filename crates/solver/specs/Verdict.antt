@@ -3,9 +3,9 @@
 --     Says               "kind, D, the passes and the applications", or the refusal's number
 --     Solves             the answer, each lent slice afterwards, and the third condition of what was found
 --     kindOf, SameRun, same-run      two runs on one system, whatever their words and slices, agree in kind, vector and f
---     closing            the counts at the end, with the applications of G(A)b
+--     closing            the counts at the end, with the products that it took
 --     Ends, Closed       what is made of F when r is zero
---     constant, divisor, coefficients, image      F[0], its inverse and G in the polynomial slice, and G(A)b in the vector slice
+--     constant, divisor, coefficients, taken-in      F[0], its inverse and G in the polynomial slice; G(A)b is not refused
 --     closed             so it is the meaning's `solve`
 --     refused, taken     a call that was refused, and one that was not
 use mathlib.Core.Path.{_≡_, refl, sym, ap, _∙_, subst}
@@ -24,7 +24,7 @@ use Rattle.meaning.specs.Matrix.{Matrix, size, apply}
 use Rattle.meaning.specs.Solver.{Run, Kind, solved, singular, Outcome, passCount, applications, verdict, close, solve}
 use Rattle.meaning.specs.ThirdCondition.{ThirdCondition, SameAnswer}
 use Rattle.meaning.specs.Refusal.{check, first, matrixChecks}
-use Rattle.meaning.specs.Calls.{applyRefusal, applyAfter, runChecks, solverRefusal, vectorAfter, polynomialAfter}
+use Rattle.meaning.specs.Calls.{applyRefusal, runChecks, solverRefusal, vectorAfter, polynomialAfter}
 use Rattle.residue.specs.Inverse.{inverse-lt}
 use Rattle.bridge.specs.ThirdCondition.{everyRun, everyTwoRuns}
 use Rattle.solver.specs.declared.Counts.{Counts}
@@ -118,8 +118,8 @@ module _ (p : ℕ) (A : Matrix) (b words v f w words₁ v₁ f₁ w₁ : List �
 
 -- ---- the end
 
-abbrev pub closing : Counts → Counts
-closing c = record { degree = c .degree; passes = c .passes; applications = c .applications + (c .degree - 1) }
+abbrev pub closing : Counts → ℕ → Counts
+closing c products = record { degree = c .degree; passes = c .passes; applications = c .applications + products }
 
 abbrev pub Ends : Verdict → Kind → Counts → Type 0
 Ends (Solved c) k d = (k ≡ solved) × (c ≡ d)
@@ -127,7 +127,8 @@ Ends (Singular c) k d = (k ≡ singular) × (c ≡ d)
 Ends (Refused n) k d = ⊥
 
 pub record Closed (p : ℕ) (A : Matrix) (b W : List ℕ) (c : Counts) (r : Verdict) (vector polynomial : List ℕ) : Type 0 where
-  pub ends : Ends r (verdict p A b (part 0 (c .degree + 1) W) (c .degree) .0) (closing c)
+  -- "D − 1 for G(A)b where D is at least 1"
+  pub ends : Ends r (verdict p A b (part 0 (c .degree + 1) W) (c .degree) .0) (closing c (c .degree - 1))
   pub vector-is : vector ≡ verdict p A b (part 0 (c .degree + 1) W) (c .degree) .1
   pub polynomial-is : polynomial ≡ padded (size A + 1) (part 0 (c .degree + 1) W)
 
@@ -171,9 +172,9 @@ module _ {p : ℕ} {A : Matrix} {b W : List ℕ} {c : Counts} (s : CheckedSystem
     long : length (part 1 (c .degree) P) ≡ c .degree
     long = ap length coefficients ∙ length-drop 1 (part 0 (c .degree + 1) W) ∙ omega (arith, sized)
 
-    not-refused : applyRefusal p A (part 1 (c .degree) P) b out work ≡ 0
+    pub taken-in : applyRefusal p A (part 1 (c .degree) P) b out work ≡ 0
     unfolding applyRefusal
-    not-refused =
+    taken-in =
         first-append-none (matrixChecks p A) _ (numbered-matrix p A) (s .checked)
         ∙ first-pass 8 _ _
         (and-both
@@ -184,13 +185,6 @@ module _ {p : ℕ} {A : Matrix} {b W : List ℕ} {c : Counts} (s : CheckedSystem
         (vector-elements (record { places = long; below = below }))
         (vector-elements (record { places = refl; below = s .accepted .reduced-b })))
         (first-pass 11 _ [] (and-both (eq-eqb (length out) (size A) places) (le-leb (2 * size A) (length work) (omega (arith, room, q .room)))) first-nil))
-
-    -- what g(A)b leaves in the vector slice
-    pub image : (m : ℕ) → m ≡ c .degree → applyAfter p A (part 1 m P) b out work ≡ apply p A (drop 1 (part 0 (c .degree + 1) W)) b
-    image m h =
-        ap (λ k. applyAfter p A (part 1 k P) b out work) h
-        ∙ unlessRefused-none (applyRefusal p A (part 1 (c .degree) P) b out work) _ _ not-refused
-        ∙ ap (λ g. apply p A g b) coefficients
 
 -- what the whole run found
 pub record Found (p : ℕ) (A : Matrix) (b words : List ℕ) (r : Verdict) (vector polynomial : List ℕ) : Type 0 where
@@ -214,10 +208,10 @@ closed {p} {A} {b} {words} {W} {c} {r} {vector} {polynomial} f q =
     outcome : close p A b here ≡ solve p A b words
     outcome = ap (close p A b) (f .state)
 
-    counted : (d : Counts) → d ≡ closing c → Counted d (close p A b here)
+    counted : (d : Counts) → d ≡ closing c (c .degree - 1) → Counted d (close p A b here)
     counted d e = subst (λ k. Counted k (close p A b here)) (sym e) (record { degree = refl; passes = f .passes; applications = ap (λ k. k + (c .degree - 1)) (f .applications) })
 
-    go : (r : Verdict) → Ends r (verdict p A b (part 0 (c .degree + 1) W) (c .degree) .0) (closing c) → Says r 0 (close p A b here)
+    go : (r : Verdict) → Ends r (verdict p A b (part 0 (c .degree + 1) W) (c .degree) .0) (closing c (c .degree - 1)) → Says r 0 (close p A b here)
     go (Solved d) e = (refl, e .0, counted d (e .1))
     go (Singular d) e = (refl, e .0, counted d (e .1))
     go (Refused n) e = absurd e

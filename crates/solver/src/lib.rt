@@ -10,8 +10,9 @@ ghost use Prim.Native.Nat.{_+_, _-_, _*_, _≤_, _<_};
 ghost use lib.ListN.{length};
 ghost use Rattle.meaning.specs.List.{at, table, padded, isZero};
 ghost use Rattle.meaning.specs.Field.{minus, times};
-ghost use Rattle.meaning.specs.Matrix.{matrix};
+ghost use Rattle.meaning.specs.Matrix.{matrix, apply};
 ghost use Rattle.meaning.specs.Refusal.{wordsTaken};
+ghost use Rattle.meaning.specs.Calls.{applyRefusal};
 ghost use Rattle.meaning.specs.Solver.{begin};
 ghost use Rattle.checks.specs.Valid.{Vector};
 ghost use Rattle.modular.specs.Modulus.{Multiplies};
@@ -20,6 +21,7 @@ ghost use Rattle.checks.specs.Pass.{residualAt};
 ghost use Rattle.wiedemann.specs.Pass.{held};
 ghost use Rattle.solver.specs.Run.{CheckedSystem, none, counted, Finished, Closable};
 ghost use Rattle.solver.specs.Verdict.{closing, Closed, Solves};
+use checks::Writing;
 use checks::residual_at;
 use checks::solver_refusal;
 use field::Field;
@@ -144,17 +146,36 @@ fn run(
 
 // ---- the end
 
-// The counts at the end: D − 1 applications more for G(A)b, where D is at least 1.
-fn closed(c: Counts) -> Counts
-    requires { ⌜ (c .degree ≤ 4096) × (c .applications ≤ 134217728) ⌝ }
-    ensures { λ r. ⌜ r ≡ closing c ⌝ }
+// The counts at the end, with the products that it took.
+fn closed(c: Counts, products: u64) -> Counts
+    requires { ⌜ (c .applications ≤ 134217728) × (products ≤ 4096) ⌝ }
+    ensures { λ r. ⌜ r ≡ closing c products ⌝ }
 {
-    let d = c.degree;
-    let more = if d == 0 { 0 } else { d - 1 };
     Counts {
-        degree: d,
+        degree: c.degree,
         passes: c.passes,
-        applications: c.applications + more as u64,
+        applications: c.applications + products,
+    }
+}
+
+// G(A)b into the vector slice; the answer is how many products it took. A run's own G is never refused.
+fn apply_to_b(
+    field: Field,
+    starts: &[u32],
+    columns: &[u32],
+    values: &[u32],
+    g: &[u32],
+    b: &[u32],
+    vector: &mut [u32],
+    work: &mut [u32],
+) -> u64
+    requires { ⌜ applyRefusal (field .p) (matrix (now starts) (now columns) (now values)) (now g) (now b) (now vector) (now work) ≡ 0 ⌝ }
+    ensures { λ made. ⌜ (made ≡ length (now (g .entry)) - 1) × (now (vector .exit)
+        ≡ apply (field .p) (matrix (now (starts .entry)) (now (columns .entry)) (now (values .entry))) (now (g .entry)) (now (b .entry))) ⌝ }
+{
+    match apply(field, starts, columns, values, g, b, vector, work) {
+        Writing::Done(made) => made,
+        Writing::Refused(_) => 0,
     }
 }
 
@@ -184,9 +205,9 @@ fn finish(
     if d == 0 {
         let n = b.len();
         write_padded(&b[n..], vector);
-        return Verdict::Solved(closed(c));
+        return Verdict::Solved(closed(c, 0));
     }
-    apply(
+    let made = apply_to_b(
         field,
         starts,
         columns,
@@ -198,10 +219,10 @@ fn finish(
     );
     let constant = polynomial[front];
     if constant == 0 {
-        return Verdict::Singular(closed(c));
+        return Verdict::Singular(closed(c, made));
     }
     divide(field.p, inverse_modulo(field.p, constant), vector);
-    Verdict::Solved(closed(c))
+    Verdict::Solved(closed(c, made))
 }
 
 // Solves Ax = b, or finds a vector that is not zero and that A takes to zero, by passes with the random words and then the unit vectors. Whatever

@@ -75,7 +75,7 @@ pub fn transposed(
     out: &mut [u32],
 ) -> Writing
     ensures { λ r. ⌜ Writes r
-        (productRefusal (field .p) (matrix (now (starts .entry)) (now (columns .entry)) (now (values .entry))) (now (v .entry)) (now (out .entry))) ⌝ }
+        (productRefusal (field .p) (matrix (now (starts .entry)) (now (columns .entry)) (now (values .entry))) (now (v .entry)) (now (out .entry))) 1 ⌝ }
     ensures { λ r. ⌜ now (out .exit)
         ≡ productAfter transposed (field .p) (matrix (now (starts .entry)) (now (columns .entry)) (now (values .entry))) (now (v .entry)) (now (out .entry)) ⌝ }
 {
@@ -86,5 +86,5 @@ pub fn transposed(
     }
     let m = Modulus::of(p);
     transposed_into(m, starts, columns, values, v, out);
-    Writing::Done
+    Writing::Done(1)
 }

@@ -2,12 +2,13 @@
 -- that no run led to finds a degree of up to 2 × left.
 --     generatorAt          where f stands after the recurrence of 2 × left terms
 --     held                 the run that a work slice holds, its degree D and its passes being known
---     passOf, Makes, Answers      the meaning's record of a pass; what a pass leaves; what each case of an answer says
+--     passOf, passed       the meaning's record of a pass; the code's, by left and t: 2 × left − 1 products and t
+--     Makes, Answers       what a pass leaves; what each case of an answer says
 --     Passes               what a call answers and leaves: the meaning's `pass` of what was held
 --     Narrowed, narrowed, narrowed-from      terms, recurrence and f(A)r in the slice's part from r on; F stays
 --     narrowed-factors     F and f are what the product asks
 --     made                 with F × f: a pass
---     makes-modulus        .. the modulus by its other name
+--     makes-passed, makes-modulus      .. its record counted together; the modulus by its other name
 use mathlib.Core.Path.{_≡_, refl, sym, ap, ap₂, _∙_, subst}
 use mathlib.Core.Logic.{_≢_}
 use mathlib.Core.List.{List, [], _∷_, _++_}
@@ -39,6 +40,9 @@ held n W D qs = record { residual = part (residualAt n) n W; factor = part 0 (D 
 
 abbrev pub passOf : CodePass → Pass
 passOf q = record { left = q .left; degree = q .degree; applications = q .applications }
+
+abbrev pub passed : ℕ → ℕ → CodePass
+passed left t = record { left = left; degree = t; applications = 2 * left - 1 + t }
 
 -- the meaning's `pass` of what was held
 pub record Makes (p : ℕ) (A : Matrix) (u : List ℕ) (D : ℕ) (W : List ℕ) (q : CodePass) (W′ : List ℕ) : Type 0 where
@@ -149,7 +153,7 @@ narrowed-factors {p} {A} {u} {W} {W₁} D t prime sized below F a f m e inside f
 
 pub made : {p : ℕ} {A : Matrix} {u W W₁ W₂ : List ℕ} (D t : ℕ) → D < size A → 16 * size A + 16 ≤ length W → Narrowed p A (size A - D) u W W₁ t
     → (f : ℕ) → f ≡ generatorAt (size A) (size A - D) → Multiplied p W₁ D f t W₂ → (qs : List Pass)
-    → held (size A) W₂ (D + t) (qs ++ (record { left = size A - D; degree = t; applications = 2 * (size A - D) - 1 + t } ∷ [])) ≡ pass p A u (held (size A) W D qs)
+    → held (size A) W₂ (D + t) (qs ++ (passOf (passed (size A - D) t) ∷ [])) ≡ pass p A u (held (size A) W D qs)
 unfolding pass passTerms
 made {p} {A} {u} {W} {W₁} {W₂} D t below room a f e m qs =
     same-held residual factor (ap (λ k. D + k) (a .answer))
@@ -174,6 +178,16 @@ made {p} {A} {u} {W} {W₁} {W₂} D t below room a f e m qs =
         m .product
         ∙ ap₂ (multiply p) (same-take 0 (D + 1) (residualAt n) W W₁ (omega (arith, below)) (omega (arith, room)) (a .same-length) (a .front))
         (part-at W₁ f (t + 1) (generatorAt n (n - D)) (t + 1) e refl ∙ a .f)
+
+-- the record that was counted together
+pub makes-passed : {p : ℕ} {A : Matrix} {u W W′ : List ℕ} {D left : ℕ} {q : CodePass} → q ≡ passed left (q .degree) → length W′ ≡ length W
+    → ((qs : List Pass) → held (size A) W′ (D + q .degree) (qs ++ (passOf (passed left (q .degree)) ∷ [])) ≡ pass p A u (held (size A) W D qs))
+    → Makes p A u D W q W′
+makes-passed {p} {A} {u} {W} {W′} {D} {left} {q} e long run =
+    record {
+      same-length = long;
+      run = λ qs. ap {B = Run} (λ k. held (size A) W′ (D + q .degree) (qs ++ (passOf k ∷ []))) e ∙ run qs;
+    }
 
 -- the modulus by its other name
 pub makes-modulus : {m p : ℕ} {A : Matrix} (words : List ℕ) (j : ℕ) {D : ℕ} {W : List ℕ} {q : CodePass} {W′ : List ℕ} → m ≡ p

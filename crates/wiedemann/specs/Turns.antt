@@ -3,7 +3,7 @@
 --     Other n from to        the region to write next: neither the first nor that at `from`
 --     Turning                what a product from one region into another asks
 --     Advanced               what it leaves: Horner's step with r
---     regions, advanced      the step within one slice is that
+--     regions, advanced      the step within the part that r and its iterates have is that
 --     Iterated               the terms of a sequence up to i, and Aⁱr in a region: iterated-none, iterated-more, iterated-from; Sequenced: all of
 --                            them, iterated-all
 --     Applying               Horner's rule down to coefficient i: applying-none, applying-more; Applied: all of it, r replaced, applied-all
@@ -11,12 +11,12 @@
 --     Shortened              terms, recurrence, and r replaced by f(A)r: shortened
 --     monic-leading          the leading coefficient of a monic polynomial
 --     vector-power, vector-terms, apply-unit      Aⁱv and the terms have elements below p; 1(A)v is v
-use mathlib.Core.Path.{_≡_, refl, sym, ap, ap₂, _∙_}
+use mathlib.Core.Path.{_≡_, refl, sym, ap, ap₂, _∙_, subst}
 use mathlib.Core.Logic.{_⊎_, inl, inr}
 use mathlib.Core.Bool.{true, _&&_}
 use mathlib.Core.List.{List, [], _∷_}
 use Prim.Native.Nat.{ℕ, zero, suc, _+_, _-_, _*_, _%_, _≤_, _<_}
-use native.Mathlib.Nat.{add-zero, one-mul, mod-eq-of-lt, eq-or-lt-of-le}
+use native.Mathlib.Nat.{zero-add, add-zero, one-mul, mod-eq-of-lt, eq-or-lt-of-le}
 use native.Mathlib.Numerals.{add-one}
 use native.Mathlib.Omega.{arith}
 use lib.ListN.{length, take, drop, set, length-set}
@@ -41,7 +41,7 @@ use Rattle.laws.specs.Part as region
 use Rattle.wiedemann.specs.Horner.{step, stepAt, table-step, step-product, power-zero, power-suc, apply-one, apply-cons, vector-product}
 use Rattle.checks.specs.Valid.{vector-table}
 use Rattle.recurrence.specs.Recurrence.{HoldsGenerator}
-use Rattle.laws.specs.Lent.{part-at, part-cons, lent, length-lent, take-lent, inner-lent, same-take, same-drop, written-take, written-drop, take-padded}
+use Rattle.laws.specs.Lent.{part-at, part-cons, part-of-part, lent, length-lent, take-lent, inner-lent, same-take, same-drop, written-take, written-drop, written-inner, take-padded}
 
 pub data Seat (n a : ℕ) : Type 0 where
   origin : a ≡ 0 → Seat n a
@@ -71,29 +71,55 @@ pub record Advanced (p : ℕ) (A : Matrix) (c : ℕ) (W : List ℕ) (from : ℕ)
   pub rest : drop (3 * size A) W′ ≡ drop (3 * size A) W
   pub holds : part to (size A) W′ ≡ step p A c (part 0 (size A) W) (part from (size A) W)
 
-pub regions : {p n from to : ℕ} {W : List ℕ} → Turning p n from W → Other n from to → Regions p n 0 from to W
-regions {p} {n} {from} {to} {W} t o =
+-- r and its iterates are lent, as a part of m = 3n places
+pub regions : {p n from to : ℕ} {W : List ℕ} (m : ℕ) → m ≡ 3 * n → Turning p n from W → Other n from to → Regions p n 0 from to (part 0 m W)
+regions {p} {n} {from} {to} {W} m e t o =
     record {
-      origin-fits = omega (arith, t .room);
-      source-fits = omega (arith, t .room, seat-low (t .seat));
-      target-fits = omega (arith, t .room, o .low);
+      origin-fits = omega (arith, long, e);
+      source-fits = omega (arith, long, e, seat-low (t .seat));
+      target-fits = omega (arith, long, e, o .low);
       origin-apart = region.after (omega (arith, o .high));
       source-apart = o .apart;
-      elements = λ i l. rw at-part at (t .elements .below i l);
+      elements =
+          λ i l.
+          subst (λ x. x < p)
+          (at-part from n W i l ∙ sym (at-part 0 m W (from + i) (omega (arith, l, e, seat-low (t .seat))) ∙ ap (at W) (zero-add (from + i))))
+          (t .elements .below i l);
     }
+  where
+    long : length (part 0 m W) ≡ m
+    long = length-part 0 m W (omega (arith, t .room, e))
 
-pub advanced : {p : ℕ} {A : Matrix} {c from to : ℕ} {W W′ : List ℕ} → Turning p (size A) from W → Other (size A) from to
-    → Written W to (size A) (stepAt p A c (part 0 (size A) W) (part from (size A) W)) W′ → Advanced p A c W from W′ to
-advanced {p} {A} {c} {from} {to} {W} {W′} t o w =
+pub advanced : {p : ℕ} {A : Matrix} {c from to : ℕ} {W : List ℕ} (m : ℕ) {Y : List ℕ} → m ≡ 3 * size A → Turning p (size A) from W
+    → Other (size A) from to → Written (part 0 m W) to (size A) (stepAt p A c (part 0 (size A) (part 0 m W)) (part from (size A) (part 0 m W))) Y
+    → Advanced p A c W from (lent W 0 m Y) to
+advanced {p} {A} {c} {from} {to} {W} m {Y} e t o w =
     record {
       seat = o .seat;
-      same-length = w .same-length;
-      front = written-take (size A) (o .high) (omega (arith, t .room)) w;
-      rest = written-drop (3 * size A) (omega (arith, o .low)) w;
+      same-length = whole .same-length;
+      front = written-take (size A) (o .high) (omega (arith, t .room)) whole;
+      rest = written-drop (3 * size A) (omega (arith, o .low)) whole;
       holds =
-          written-part W to (size A) (stepAt p A c (part 0 (size A) W) (part from (size A) W)) W′ (omega (arith, t .room, o .low)) w
+          written-part W to (size A) (stepAt p A c (part 0 (size A) W) (part from (size A) W)) (lent W 0 m Y) (omega (arith, t .room, o .low)) whole
           ∙ sym (table-step p A c (part 0 (size A) W) (part from (size A) W));
     }
+  where
+    fits : 0 + m ≤ length W
+    fits = omega (arith, t .room, e)
+
+    origin-of : part 0 (size A) (part 0 m W) ≡ part 0 (size A) W
+    origin-of = part-of-part 0 (size A) 0 m W (omega (arith, e)) fits
+
+    source-of : part from (size A) (part 0 m W) ≡ part from (size A) W
+    source-of =
+        part-of-part from (size A) 0 m W (omega (arith, e, seat-low (t .seat))) fits ∙ part-at W (0 + from) (size A) from (size A) (zero-add from) refl
+
+    whole : Written W to (size A) (stepAt p A c (part 0 (size A) W) (part from (size A) W)) (lent W 0 m Y)
+    whole =
+        subst (λ a. Written W a (size A) (stepAt p A c (part 0 (size A) W) (part from (size A) W)) (lent W 0 m Y)) (zero-add to)
+        (written-inner W 0 m fits (omega (arith, e, o .low))
+        (subst (λ v. Written (part 0 m W) to (size A) (stepAt p A c (part 0 (size A) W) v) Y) source-of
+        (subst (λ x. Written (part 0 m W) to (size A) (stepAt p A c x (part from (size A) (part 0 m W))) Y) origin-of w)))
 
 pub vector-power : (p : ℕ) (A : Matrix) (i : ℕ) (v : List ℕ) → 0 < p → Vector p (size A) v → Vector p (size A) (power p A i v)
 vector-power p A zero v l h = rw (power-zero p A v) h
@@ -118,36 +144,39 @@ part-set a n W i v l k =
     part-ext a n (set W i v) W (omega (arith, length-set W i v, k)) k (λ j h. getD-set-other W i (a + j) v 0 (λ q. omega (arith, q, l, h)))
 
 pub iterated-none : (p : ℕ) (A : Matrix) (u W : List ℕ) (v : ℕ) → 3 * size A < length W → v ≡ dot p u (part 0 (size A) W)
-    → Iterated p A u W 0 0 (set W (3 * size A) v)
+    → Iterated p A u W 0 0 (set W (3 * size A + 0) v)
 iterated-none p A u W v l e =
     record {
       seat = origin refl;
-      same-length = length-set W (3 * size A) v;
-      front = take-set-le (size A) W (3 * size A) v (omega arith);
-      holds = part-set 0 (size A) W (3 * size A) v (omega arith) (omega (arith, l)) ∙ sym (power-zero p A (part 0 (size A) W));
+      same-length = length-set W (3 * size A + 0) v;
+      front = take-set-le (size A) W (3 * size A + 0) v (omega arith);
+      holds = part-set 0 (size A) W (3 * size A + 0) v (omega arith) (omega (arith, l)) ∙ sym (power-zero p A (part 0 (size A) W));
       terms = λ k h. go k (omega (arith, h));
     }
   where
-    go : (k : ℕ) → k ≡ 0 → at (set W (3 * size A) v) (3 * size A + k) ≡ dot p u (power p A k (part 0 (size A) W))
+    go : (k : ℕ) → k ≡ 0 → at (set W (3 * size A + 0) v) (3 * size A + k) ≡ dot p u (power p A k (part 0 (size A) W))
     go k q =
-        ap (at (set W (3 * size A) v)) (ap (λ m. 3 * size A + m) q ∙ add-zero (3 * size A)) ∙ getD-set-same W (3 * size A) v 0 l ∙ e
+        ap (λ m. at (set W (3 * size A + 0) v) (3 * size A + m)) q ∙ getD-set-same W (3 * size A + 0) v 0 (omega (arith, l)) ∙ e
         ∙ ap (dot p u) (sym (power-zero p A (part 0 (size A) W)) ∙ ap (λ m. power p A m (part 0 (size A) W)) (sym q))
 
 at-rest : (m k : ℕ) (W W′ : List ℕ) → drop m W′ ≡ drop m W → at W′ (m + k) ≡ at W (m + k)
 at-rest m k W W′ e = sym (getD-drop m W′ k 0) ∙ ap (λ l. at l k) e ∙ getD-drop m W k 0
 
-pub iterated-more : {p : ℕ} {A : Matrix} {u W : List ℕ} {i from to : ℕ} {W₁ W₂ : List ℕ} (v : ℕ) → Iterated p A u W i from W₁
-    → Advanced p A 0 W₁ from W₂ to → 3 * size A + (i + 1) < length W → v ≡ dot p u (part to (size A) W₂)
-    → Iterated p A u W (i + 1) to (set W₂ (3 * size A + (i + 1)) v)
-iterated-more {p} {A} {u} {W} {i} {from} {to} {W₁} {W₂} v w a l e =
-    record {
+pub iterated-more : {p : ℕ} {A : Matrix} {u W : List ℕ} {i from to : ℕ} {W₁ W₂ : List ℕ} (j v : ℕ) → j ≡ i + 1 → Iterated p A u W i from W₁
+    → Advanced p A 0 W₁ from W₂ to → 3 * size A + j < length W → v ≡ dot p u (part to (size A) W₂) → Iterated p A u W j to (set W₂ (3 * size A + j) v)
+iterated-more {p} {A} {u} {W} {i} {from} {to} {W₁} {W₂} j v following w a below e =
+    subst (λ k. Iterated p A u W k to (set W₂ (3 * size A + k) v)) (sym following)
+    (record {
       seat = a .seat;
       same-length = length-set W₂ (n3 + (i + 1)) v ∙ long;
       front = take-set-le n W₂ (n3 + (i + 1)) v (omega arith) ∙ a .front ∙ w .front;
       holds = part-set to n W₂ (n3 + (i + 1)) v (omega (arith, seat-low (a .seat))) (omega (arith, seat-low (a .seat), long, l)) ∙ next;
       terms = λ k h. go k (eq-or-lt-of-le h);
-    }
+    })
   where
+    l : 3 * size A + (i + 1) < length W
+    l = omega (arith, below, following)
+
     n : ℕ
     n = size A
 
@@ -269,17 +298,27 @@ applying-more {p} {A} {W} {f} {t} {i} {from} {to} {W₁} {W₂} c valid h w l e 
         part-at W (f + i) (t + 1 - i) (f + i) (suc (t + 1 - (i + 1))) refl (omega (arith, l)) ∙ part-cons (f + i) (t + 1 - (i + 1)) W (omega (arith, l, h .room))
         ∙ ap (λ g. at W (f + i) ∷ g) (part-at W (suc (f + i)) (t + 1 - (i + 1)) (f + (i + 1)) (t + 1 - (i + 1)) (omega arith) refl)
 
-pub applied-all : {p : ℕ} {A : Matrix} {W : List ℕ} {f t from : ℕ} {W₁ W₂ : List ℕ} → 3 * size A ≤ length W → Applying p A W f t 0 from W₁
-    → Written W₁ 0 (size A) (λ i. at W₁ (from + i)) W₂ → Applied p A W f t W₂
-applied-all {p} {A} {W} {f} {t} {from} {W₁} {W₂} l w c =
+-- the result copied to r's place, in the part that was lent
+pub applied-all : {p : ℕ} {A : Matrix} {W : List ℕ} {f t from : ℕ} {W₁ : List ℕ} (m : ℕ) {Y : List ℕ} → m ≡ 3 * size A → 3 * size A ≤ length W
+    → Applying p A W f t 0 from W₁ → Written (part 0 m W₁) 0 (size A) (λ i. at (part 0 m W₁) (from + i)) Y → Applied p A W f t (lent W₁ 0 m Y)
+applied-all {p} {A} {W} {f} {t} {from} {W₁} m {Y} e l w c =
     record {
-      same-length = c .same-length ∙ w .same-length;
-      rest = written-drop (3 * size A) (omega arith) c ∙ w .rest;
+      same-length = whole .same-length ∙ w .same-length;
+      rest = written-drop (3 * size A) (omega arith) whole ∙ w .rest;
       holds =
-          written-part W₁ 0 (size A) (λ i. at W₁ (from + i)) W₂ (omega (arith, l, w .same-length)) c
-          ∙ sym (table-of 0 (part from (size A) W₁) (size A) (λ i. at W₁ (from + i)) (length-part from (size A) W₁ (omega (arith, l, w .same-length, seat-low (w .seat)))) (λ i k. at-part from (size A) W₁ i k))
+          written-part W₁ 0 (size A) (λ i. at (part 0 m W₁) (from + i)) (lent W₁ 0 m Y) (omega (arith, l, w .same-length)) whole
+          ∙ sym (table-of 0 (part from (size A) W₁) (size A) (λ i. at (part 0 m W₁) (from + i)) (length-part from (size A) W₁ (omega (arith, l, w .same-length, low))) same)
           ∙ w .holds ∙ ap (λ g. apply p A g (part 0 (size A) W)) (part-at W (f + 0) (t + 1 - 0) f (t + 1) (add-zero f) (omega arith));
     }
+  where
+    low : from ≤ 2 * size A
+    low = seat-low (w .seat)
+
+    whole : Written W₁ 0 (size A) (λ i. at (part 0 m W₁) (from + i)) (lent W₁ 0 m Y)
+    whole = written-inner W₁ 0 m (omega (arith, l, e, w .same-length)) (omega (arith, e)) c
+
+    same : (i : ℕ) → i < size A → at (part from (size A) W₁) i ≡ at (part 0 m W₁) (from + i)
+    same i k = at-part from (size A) W₁ i k ∙ sym (at-part 0 m W₁ (from + i) (omega (arith, e, k, low)) ∙ ap (at W₁) (zero-add (from + i)))
 
 -- ---- terms, recurrence and f(A)r
 

@@ -100,7 +100,8 @@ pub(crate) fn row(
     ones(most, middle, to, columns, values, v)
 }
 
-// Horner's step: c × x plus the product with v, into out. It is the product if c is 0. A row's end is the next row's start.
+// Horner's step: c × x plus the product with v, into out. It is the product if c is 0. A row's end is the next row's start. The answer is how
+// many products with A it made: one.
 pub(crate) fn step(
     m: Modulus,
     c: u32,
@@ -110,12 +111,12 @@ pub(crate) fn step(
     values: &[u32],
     v: &[u32],
     out: &mut [u32],
-)
+) -> usize
     requires { ⌜ Valid (m .p) (matrix (now starts) (now columns) (now values)) ⌝ }
     requires { ⌜ Modular m × (length (now out) ≡ length (now starts) - 1) × (length (now x) ≡ length (now starts) - 1)
         × Vector (m .p) (length (now starts) - 1) (now v) ⌝ }
-    ensures { λ r. ⌜ now (out .exit)
-        ≡ step (m .p) (matrix (now (starts .entry)) (now (columns .entry)) (now (values .entry))) c (now (x .entry)) (now (v .entry)) ⌝ }
+    ensures { λ made. ⌜ (made ≡ 1) × (now (out .exit)
+        ≡ step (m .p) (matrix (now (starts .entry)) (now (columns .entry)) (now (values .entry))) c (now (x .entry)) (now (v .entry))) ⌝ }
 {
     let rows = starts.len() - 1;
     let mut from = wide(starts[0]);
@@ -126,9 +127,11 @@ pub(crate) fn step(
         from = to;
         i += 1;
     }
+    1
 }
 
 // Horner's step within one slice: c × the part from `origin` on plus the product with the part from `source` on, into the part from `target` on.
+// The answer is how many products it made.
 pub(crate) fn step_within(
     m: Modulus,
     c: u32,
@@ -139,10 +142,10 @@ pub(crate) fn step_within(
     origin: usize,
     source: usize,
     target: usize,
-)
+) -> usize
     requires { ⌜ Valid (m .p) (matrix (now starts) (now columns) (now values)) ⌝ }
     requires { ⌜ Modular m × Regions (m .p) (length (now starts) - 1) origin source target (now work) ⌝ }
-    ensures { λ r. ⌜ Written (now (work .entry)) target (length (now (starts .entry)) - 1)
+    ensures { λ made. ⌜ (made ≡ 1) × Written (now (work .entry)) target (length (now (starts .entry)) - 1)
         (stepAt (m .p) (matrix (now (starts .entry)) (now (columns .entry)) (now (values .entry))) c
         (part origin (length (now (starts .entry)) - 1) (now (work .entry))) (part source (length (now (starts .entry)) - 1) (now (work .entry))))
         (now (work .exit)) ⌝ }
@@ -158,6 +161,7 @@ pub(crate) fn step_within(
         from = to;
         i += 1;
     }
+    1
 }
 
 // c × v into out.
@@ -173,8 +177,8 @@ fn multiple(m: Modulus, c: u32, v: &[u32], out: &mut [u32])
     }
 }
 
-// g(A)v into out by Horner's rule: k − 1 products for k coefficients, by turns into work and into out, which has what is made of the even
-// coefficients. Nothing is copied.
+// g(A)v into out by Horner's rule, by turns into work and into out, which has what is made of the even coefficients. Nothing is copied. The
+// answer is how many products it made: one for each coefficient after the first.
 pub(crate) fn horner(
     m: Modulus,
     starts: &[u32],
@@ -184,13 +188,14 @@ pub(crate) fn horner(
     v: &[u32],
     out: &mut [u32],
     work: &mut [u32],
-)
+) -> usize
     requires { ⌜ Valid (m .p) (matrix (now starts) (now columns) (now values)) ⌝ }
     requires { ⌜ Modular m × (length (now out) ≡ length (now starts) - 1) × (length (now work) ≡ length (now starts) - 1)
         × Vector (m .p) (length (now starts) - 1) (now v) × (0 < length (now g)) × Vector (m .p) (length (now g)) (now g) ⌝ }
-    ensures { λ r. ⌜ now (out .exit)
-        ≡ apply (m .p) (matrix (now (starts .entry)) (now (columns .entry)) (now (values .entry))) (now (g .entry)) (now (v .entry)) ⌝ }
+    ensures { λ made. ⌜ (made ≡ length (now (g .entry)) - 1) × (now (out .exit)
+        ≡ apply (m .p) (matrix (now (starts .entry)) (now (columns .entry)) (now (values .entry))) (now (g .entry)) (now (v .entry))) ⌝ }
 {
+    let mut made = 0;
     let mut i = g.len() - 1;
     if i % 2 == 0 {
         multiple(m, g[i], v, out);
@@ -200,11 +205,12 @@ pub(crate) fn horner(
     while 0 < i {
         i -= 1;
         if i % 2 == 0 {
-            step(m, g[i], v, starts, columns, values, work, out);
+            made += step(m, g[i], v, starts, columns, values, work, out);
         } else {
-            step(m, g[i], v, starts, columns, values, out, work);
+            made += step(m, g[i], v, starts, columns, values, out, work);
         }
     }
+    made
 }
 
 // Av into out.
@@ -217,7 +223,7 @@ pub fn product(
     out: &mut [u32],
 ) -> Writing
     ensures { λ r. ⌜ Writes r
-        (productRefusal (field .p) (matrix (now (starts .entry)) (now (columns .entry)) (now (values .entry))) (now (v .entry)) (now (out .entry))) ⌝ }
+        (productRefusal (field .p) (matrix (now (starts .entry)) (now (columns .entry)) (now (values .entry))) (now (v .entry)) (now (out .entry))) 1 ⌝ }
     ensures { λ r. ⌜ now (out .exit)
         ≡ productAfter product (field .p) (matrix (now (starts .entry)) (now (columns .entry)) (now (values .entry))) (now (v .entry)) (now (out .entry)) ⌝ }
 {
@@ -226,8 +232,8 @@ pub fn product(
     if number != 0 {
         return Writing::Refused(number);
     }
-    step(Modulus::of(p), 0, v, starts, columns, values, v, out);
-    Writing::Done
+    let made = step(Modulus::of(p), 0, v, starts, columns, values, v, out);
+    Writing::Done(made as u64)
 }
 
 // g(A)v into out.
@@ -242,7 +248,7 @@ pub fn apply(
     work: &mut [u32],
 ) -> Writing
     ensures { λ r. ⌜ Writes r (applyRefusal (field .p) (matrix (now (starts .entry)) (now (columns .entry)) (now (values .entry)))
-        (now (g .entry)) (now (v .entry)) (now (out .entry)) (now (work .entry))) ⌝ }
+        (now (g .entry)) (now (v .entry)) (now (out .entry)) (now (work .entry))) (length (now (g .entry)) - 1) ⌝ }
     ensures { λ r. ⌜ now (out .exit) ≡ applyAfter (field .p) (matrix (now (starts .entry)) (now (columns .entry)) (now (values .entry)))
         (now (g .entry)) (now (v .entry)) (now (out .entry)) (now (work .entry)) ⌝ }
     ensures { λ r. ⌜ (applyRefusal (field .p) (matrix (now (starts .entry)) (now (columns .entry)) (now (values .entry)))
@@ -255,7 +261,7 @@ pub fn apply(
     }
     let front: usize = 0;
     let n = v.len();
-    horner(
+    let made = horner(
         Modulus::of(p),
         starts,
         columns,
@@ -265,5 +271,5 @@ pub fn apply(
         out,
         &mut work[front..n],
     );
-    Writing::Done
+    Writing::Done(made as u64)
 }

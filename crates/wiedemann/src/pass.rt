@@ -13,7 +13,7 @@ ghost use Rattle.checks.specs.Valid.{Valid, Vector};
 ghost use Rattle.laws.specs.Part.{part};
 ghost use Rattle.wiedemann.specs.Projection.{Words};
 ghost use Rattle.wiedemann.specs.Turns.{Seat, Other, Turning, Advanced, Sequenced, Leading, Applied, Generated, Shortened};
-ghost use Rattle.wiedemann.specs.Pass.{generatorAt, Makes, Passes};
+ghost use Rattle.wiedemann.specs.Pass.{generatorAt, passed, Makes, Passes};
 ghost use Rattle.checks.specs.Pass.{State};
 use crate::matrix::step_within;
 use crate::projection::Projection;
@@ -26,6 +26,13 @@ use recurrence::Answer;
 use recurrence::factor::multiply;
 use recurrence::generate;
 use slices::copy_within;
+use slices::put;
+
+// What products with A have made of r: where its region begins, and how many products led there.
+struct Iterate {
+    at: usize,
+    products: usize,
+}
 
 // The region of the next iterate: the second after the first and the third, the third after the second.
 fn other(n: usize, from: usize) -> usize
@@ -35,7 +42,7 @@ fn other(n: usize, from: usize) -> usize
     if from == n { 2 * n } else { n }
 }
 
-// Horner's step: c × r plus A times the iterate at `from`, into the next region; the answer is where that begins.
+// Horner's step: c × r plus A times the iterate, into the next region. r and the iterates are lent to it.
 fn advance(
     m: Modulus,
     c: u32,
@@ -43,41 +50,60 @@ fn advance(
     columns: &[u32],
     values: &[u32],
     area: &mut [u32],
-    from: usize,
-) -> usize
+    x: Iterate,
+) -> Iterate
     requires { ⌜ Valid (m .p) (matrix (now starts) (now columns) (now values)) ⌝ }
-    requires { ⌜ Modular m × Turning (m .p) (length (now starts) - 1) from (now area) ⌝ }
-    ensures { λ to. ⌜ Advanced (m .p) (matrix (now (starts .entry)) (now (columns .entry)) (now (values .entry))) c
-        (now (area .entry)) from (now (area .exit)) to ⌝ }
+    requires { ⌜ Modular m × Turning (m .p) (length (now starts) - 1) (x .at) (now area) × (x .products ≤ 16384) ⌝ }
+    ensures { λ y. ⌜ (y .products ≡ x .products + 1)
+        × Advanced (m .p) (matrix (now (starts .entry)) (now (columns .entry)) (now (values .entry))) c
+        (now (area .entry)) (x .at) (now (area .exit)) (y .at) ⌝ }
 {
     let n = starts.len() - 1;
-    let to = other(n, from);
+    let to = other(n, x.at);
     let r: usize = 0;
-    step_within(m, c, starts, columns, values, area, r, from, to);
-    to
+    let end = 3 * n;
+    let made = step_within(
+        m,
+        c,
+        starts,
+        columns,
+        values,
+        &mut area[r..end],
+        r,
+        x.at,
+        to,
+    );
+    Iterate {
+        at: to,
+        products: x.products + made,
+    }
 }
 
-// A term of the sequence: the projection's dot product with the iterate at `from`, into `place`.
+// The term of an iterate Aⁱr, which has the place i among the 2 × left terms: its dot product with the projection.
 fn term(
     m: Modulus,
     words: &[u32],
     u: Projection,
     n: usize,
     area: &mut [u32],
-    from: usize,
-    place: usize,
+    x: Iterate,
+    left: usize,
 )
-    requires { ⌜ Modular m × (n ≤ 4096) ⌝ }
-    requires { ⌜ Words n (u .vectors) (now words) × (from + n ≤ length (now area)) × (place < length (now area))
-        × Vector (m .p) n (part from n (now area)) ⌝ }
-    ensures { λ _. ⌜ now (area .exit) ≡ set (now (area .entry)) place
-        (dot (m .p) (getD (projections (m .p) n (now (words .entry))) (u .index) []) (part from n (now (area .entry)))) ⌝ }
+    requires { ⌜ Modular m × (n ≤ 4096) × (left ≤ 4096) × Words n (u .vectors) (now words) ⌝ }
+    requires { ⌜ (x .at + n ≤ length (now area)) × (3 * n + 2 * left ≤ length (now area)) × (x .products < 2 * left)
+        × Vector (m .p) n (part (x .at) n (now area)) ⌝ }
+    ensures { λ _. ⌜ now (area .exit) ≡ set (now (area .entry)) (3 * n + x .products)
+        (dot (m .p) (getD (projections (m .p) n (now (words .entry))) (u .index) []) (part (x .at) n (now (area .entry)))) ⌝ }
 {
-    let end = from + n;
-    area[place] = projected(m, words, u, &area[from..end]);
+    let from = x.at;
+    let to = from + n;
+    let value = projected(m, words, u, &area[from..to]);
+    let first = 3 * n;
+    let end = first + 2 * left;
+    put(&mut area[first..end], x.products, value);
 }
 
-// The 2 × left terms u·r, u·Ar, u·A²r, .. where the recurrence begins: 2 × left − 1 products.
+// The 2 × left terms u·r, u·Ar, u·A²r, .. where the recurrence begins; the answer is how many products they took.
 fn terms(
     m: Modulus,
     starts: &[u32],
@@ -87,24 +113,23 @@ fn terms(
     u: Projection,
     area: &mut [u32],
     left: usize,
-)
+) -> usize
     requires { ⌜ Valid (m .p) (matrix (now starts) (now columns) (now values)) ⌝ }
     requires { ⌜ Modular m × (0 < left) × (left ≤ 4096) × Words (length (now starts) - 1) (u .vectors) (now words) ⌝ }
     requires { ⌜ (3 * (length (now starts) - 1) + 2 * left ≤ length (now area))
         × Vector (m .p) (length (now starts) - 1) (part 0 (length (now starts) - 1) (now area)) ⌝ }
-    ensures { λ _. ⌜ Sequenced (m .p) (matrix (now (starts .entry)) (now (columns .entry)) (now (values .entry))) left
+    ensures { λ made. ⌜ (made ≡ 2 * left - 1) × Sequenced (m .p) (matrix (now (starts .entry)) (now (columns .entry)) (now (values .entry))) left
         (getD (projections (m .p) (length (now (starts .entry)) - 1) (now (words .entry))) (u .index) [])
         (now (area .entry)) (now (area .exit)) ⌝ }
 {
     let n = starts.len() - 1;
-    let mut from = 0;
-    let mut i = 0;
-    term(m, words, u, n, area, from, 3 * n);
-    while i + 1 < 2 * left {
-        from = advance(m, 0, starts, columns, values, area, from);
-        i += 1;
-        term(m, words, u, n, area, from, 3 * n + i);
+    let mut x = Iterate { at: 0, products: 0 };
+    term(m, words, u, n, area, x, left);
+    while x.products + 1 < 2 * left {
+        x = advance(m, 0, starts, columns, values, area, x);
+        term(m, words, u, n, area, x, left);
     }
+    x.products
 }
 
 // The degree of the shortest recurrence of the `count` terms from `from` on; its generator stands behind them.
@@ -121,7 +146,7 @@ fn recurrence_of_terms(m: Modulus, area: &mut [u32], from: usize, count: usize) 
     }
 }
 
-// r becomes f(A)r by Horner's rule, for the monic f of degree t at `f`: t products.
+// r becomes f(A)r by Horner's rule, for the monic f of degree t at `f`; the answer is how many products that took.
 fn apply_within(
     m: Modulus,
     starts: &[u32],
@@ -130,24 +155,34 @@ fn apply_within(
     area: &mut [u32],
     f: usize,
     t: usize,
-)
+) -> usize
     requires { ⌜ Valid (m .p) (matrix (now starts) (now columns) (now values)) ⌝ }
-    requires { ⌜ Modular m × Leading (m .p) (length (now starts) - 1) (now area) f t ⌝ }
-    ensures { λ _. ⌜ Applied (m .p) (matrix (now (starts .entry)) (now (columns .entry)) (now (values .entry)))
+    requires { ⌜ Modular m × (t ≤ 8192) × Leading (m .p) (length (now starts) - 1) (now area) f t ⌝ }
+    ensures { λ made. ⌜ (made ≡ t) × Applied (m .p) (matrix (now (starts .entry)) (now (columns .entry)) (now (values .entry)))
         (now (area .entry)) f t (now (area .exit)) ⌝ }
 {
-    let mut from = 0;
+    let mut x = Iterate { at: 0, products: 0 };
     let mut i = t;
     while 0 < i {
         i -= 1;
         let c = area[f + i];
-        from = advance(m, c, starts, columns, values, area, from);
+        x = advance(m, c, starts, columns, values, area, x);
     }
+    let n = starts.len() - 1;
     let r: usize = 0;
-    copy_within(area, from, r, starts.len() - 1);
+    let end = 3 * n;
+    copy_within(&mut area[r..end], x.at, r, n);
+    x.products
 }
 
-// The terms with the projection, their generator f, and f(A)r in r's place; the answer is f's degree, and f stands behind the terms.
+// A pass: left, its degree t, its applications.
+pub struct Pass {
+    pub left: usize,
+    pub degree: usize,
+    pub applications: u64,
+}
+
+// The terms with the projection, their generator f, which stands behind them, and f(A)r in r's place. Every product that was made is counted.
 fn take_factor(
     m: Modulus,
     starts: &[u32],
@@ -157,30 +192,28 @@ fn take_factor(
     u: Projection,
     area: &mut [u32],
     left: usize,
-) -> usize
+) -> Pass
     requires { ⌜ Valid (m .p) (matrix (now starts) (now columns) (now values)) × (isModulus (m .p) ≡ true) ⌝ }
     requires { ⌜ Modular m × (0 < left) × (left ≤ 4096) × Words (length (now starts) - 1) (u .vectors) (now words) ⌝ }
     requires { ⌜ (3 * (length (now starts) - 1) + (8 * left + 8) ≤ length (now area))
         × Vector (m .p) (length (now starts) - 1) (part 0 (length (now starts) - 1) (now area)) ⌝ }
-    ensures { λ t. ⌜ Shortened (m .p) (matrix (now (starts .entry)) (now (columns .entry)) (now (values .entry))) left
+    ensures { λ q. ⌜ (q ≡ passed left (q .degree))
+        × Shortened (m .p) (matrix (now (starts .entry)) (now (columns .entry)) (now (values .entry))) left
         (getD (projections (m .p) (length (now (starts .entry)) - 1) (now (words .entry))) (u .index) [])
-        (now (area .entry)) (now (area .exit)) t ⌝ }
+        (now (area .entry)) (now (area .exit)) (q .degree) ⌝ }
 {
     let n = starts.len() - 1;
-    terms(m, starts, columns, values, words, u, area, left);
+    let made = terms(m, starts, columns, values, words, u, area, left);
     let t = recurrence_of_terms(m, area, 3 * n, 2 * left);
-    apply_within(m, starts, columns, values, area, 3 * n + (2 * left + 2), t);
-    t
+    let more = apply_within(m, starts, columns, values, area, 3 * n + (2 * left + 2), t);
+    Pass {
+        left,
+        degree: t,
+        applications: (made + more) as u64,
+    }
 }
 
 // ---- the call
-
-// A pass: left, its degree t, its applications.
-pub struct Pass {
-    pub left: usize,
-    pub degree: usize,
-    pub applications: u64,
-}
 
 // What a pass answers.
 pub enum Passed {
@@ -220,7 +253,7 @@ fn pass_of_state(
         vectors: words.len() / n,
         index: j,
     };
-    let t = take_factor(
+    let q = take_factor(
         m,
         starts,
         columns,
@@ -232,13 +265,9 @@ fn pass_of_state(
     );
     let front: usize = 0;
     let f = generator_at(n, left);
-    let end = f + t + 1;
-    multiply(m.p, &mut work[front..end], d, f, t);
-    Pass {
-        left,
-        degree: t,
-        applications: (2 * left - 1 + t) as u64,
-    }
+    let end = f + q.degree + 1;
+    multiply(m.p, &mut work[front..end], d, f, q.degree);
+    q
 }
 
 // A pass with projection j of the run whose r and F, of degree d, stand in the work slice. It asks nothing of how the run came there, and refuses

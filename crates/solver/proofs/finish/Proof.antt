@@ -1,15 +1,17 @@
-use Rattle.solver.specs.Verdict.{divisor, constant, image}
+use Rattle.solver.specs.declared.Counts.{Counts}
+use Rattle.solver.specs.Verdict.{closing, divisor, constant, coefficients, taken-in}
 use Rattle.wiedemann.specs.Horner.{vector-apply}
 use Rattle.laws.specs.Lent.{part-at}
-use Rattle.laws.specs.Part.{part}
+use Rattle.laws.specs.Part.{part, length-part}
 use Rattle.bridge.specs.ThirdCondition.{verdict-zero, verdict-singular, verdict-solved}
 use Rattle.checks.specs.Valid.{Vector}
 use Rattle.meaning.specs.Field.{minus, times, inverse}
 use Rattle.meaning.specs.List.{at, table, padded}
 use Rattle.meaning.specs.Matrix.{matrix, apply}
 use Rattle.meaning.specs.Solver.{Kind}
+use Rattle.meaning.specs.Calls.{applyRefusal}
 use denote.Ref.{now}
-use lib.ListN.{length, take, drop}
+use lib.ListN.{length, take, drop, length-drop}
 use native.Mathlib.Nat.{sub-self}
 use native.Mathlib.Omega.{arith}
 use Prim.Native.Nat.{ℕ, _+_, _-_}
@@ -22,6 +24,34 @@ use Rattle.solver.proofs.finish.Tie as tie
 -- a vector by its own length
 whole : {p n : ℕ} {v : List ℕ} → Vector p n v → Vector p (length v) v
 whole h = record { places = refl; below = λ i l. h .below i (omega (arith, l, h .places)) }
+
+-- F in the polynomial slice
+factor : (c : tie.After-write-padded)
+    → let a = c .before .before .before .before .before .before .before .before .before .before .before .args in
+    c .write-padded .last .1 .0 ≡ padded (length (now (a .starts)) - 1 + 1) (part 0 (a .c .degree + 1) (now (a .work)))
+factor c =
+    let a = c .before .before .before .before .before .before .before .before .before .before .before .args in
+    let d = a .c .degree in
+    c .write-padded .ensures ∙ ap₂ padded (c .before .before .before .before .before .before .before .before .before .before .before .pre .1 .1 .1) (part-at (now (a .work)) 0 (d + 1 - 0) 0 (d + 1) refl (omega arith))
+
+-- G(A)b in the vector slice, and the products that it took
+image : (c : tie.After-apply-to-b)
+    → let a = c .before .before .before .before .before .before .before .before .before .before .before .before .before .before .before .before .before .before .before .args in
+    let A = matrix (now (a .starts)) (now (a .columns)) (now (a .values)) in
+    (c .apply-to-b .result ≡ a .c .degree - 1)
+    × (c .apply-to-b .last .1 .1 .1 .1 .1 .1 .0 ≡ apply (a .field .p) A (drop 1 (part 0 (a .c .degree + 1) (now (a .work)))) (now (a .b)))
+image c =
+    let a = c .before .before .before .before .before .before .before .before .before .before .before .before .before .before .before .before .before .before .before .args in
+    let pre = c .before .before .before .before .before .before .before .before .before .before .before .before .before .before .before .before .before .before .before .pre in
+    let A = matrix (now (a .starts)) (now (a .columns)) (now (a .values)) in
+    let d = a .c .degree in
+    let P = c .before .before .before .before .before .before .before .before .write-padded .last .1 .0 in
+    let written = factor (c .before .before .before .before .before .before .before .before) in
+    let G = coefficients (pre .0) (pre .1 .0) P written in
+    let same : part 1 (d + 1 - 1) P ≡ drop 1 (part 0 (d + 1) (now (a .work))) = part-at P 1 (d + 1 - 1) 1 d refl (omega arith) ∙ G in (
+      c .apply-to-b .ensures .0 ∙ ap (λ g. length g - 1) same ∙ omega (arith, length-drop 1 (part 0 (d + 1) (now (a .work))), length-part 0 (d + 1) (now (a .work)) (omega (arith, pre .1 .0 .found, pre .1 .0 .room))),
+      c .apply-to-b .ensures .1 ∙ ap (λ g. apply (a .field .p) A g (now (a .b))) same,
+    )
 
 add-end : tie.Need-add-end
 add-end c = search needs
@@ -57,7 +87,7 @@ write-padded-requires-2 : tie.Need-write-padded-requires-2
 write-padded-requires-2 c κs = search needs
 
 closed-requires : tie.Need-closed-requires
-closed-requires c κs = (omega (arith, c .before .before .before .before .before .before .before .before .before .before .before .before .before .before .before .before .before .before .before .pre .1 .0 .found, c .before .before .before .before .before .before .before .before .before .before .before .before .before .before .before .before .before .before .before .pre .0 .valid .sized), c .before .before .before .before .before .before .before .before .before .before .before .before .before .before .before .before .before .before .before .pre .1 .0 .few)
+closed-requires c κs = (c .before .before .before .before .before .before .before .before .before .before .before .before .before .before .before .before .before .before .before .pre .1 .0 .few, omega arith)
 
 same-length : tie.Need-same-length
 same-length c = search needs
@@ -73,35 +103,41 @@ returns c =
     let a = c .before .before .before .before .before .before .before .before .before .before .before .before .before .before .before .before .before .before .before .before .args in
     let pre = c .before .before .before .before .before .before .before .before .before .before .before .before .before .before .before .before .before .before .before .before .pre in
     let A = matrix (now (a .starts)) (now (a .columns)) (now (a .values)) in
-    let n = length (now (a .starts)) - 1 in
-    let W = now (a .work) in
     let d = a .c .degree in
-    let F = part 0 (d + 1) W in
-    let P = c .before .before .before .before .before .before .before .before .before .write-padded .last .1 .0 in
-    let written : P ≡ padded (n + 1) F = c .before .before .before .before .before .before .before .before .before .write-padded .ensures ∙ ap₂ padded (pre .1 .1 .1) (part-at W 0 (d + 1 - 0) 0 (d + 1) refl (omega arith)) in
-    let said = verdict-zero (a .field .p) A (now (a .b)) F d (c .before .before .before .before .before .before .if1 .taken) in
+    let F = part 0 (d + 1) (now (a .work)) in
+    let zero = c .before .before .before .before .before .before .if1 .taken in
+    let said = verdict-zero (a .field .p) A (now (a .b)) F d zero in
     let none : take (length (now (a .b)) - length (now (a .b))) (drop (length (now (a .b))) (now (a .b))) ≡ [] =
     ap (λ k. take k (drop (length (now (a .b))) (now (a .b)))) (sub-self (length (now (a .b)))) in
     record {
-      ends = (ap (λ (y : Kind × List ℕ). y .0) said, c .closed .ensures);
+      ends = (ap (λ (y : Kind × List ℕ). y .0) said, c .closed .ensures ∙ ap {B = Counts} (closing (a .c)) (omega (arith, zero)));
       vector-is = c .before .before .before .write-padded2 .ensures ∙ ap₂ padded (pre .1 .1 .0) none ∙ sym (ap (λ (y : Kind × List ℕ). y .1) said);
-      polynomial-is = written;
+      polynomial-is = factor (c .before .before .before .before .before .before .before .before .before);
     }
 
-mul-apply : tie.Need-mul-apply
-mul-apply c = search needs
+mul-apply-to-b : tie.Need-mul-apply-to-b
+mul-apply-to-b c = search needs
 
-sub-apply : tie.Need-sub-apply
-sub-apply c = search needs
+sub-apply-to-b : tie.Need-sub-apply-to-b
+sub-apply-to-b c = search needs
 
-part-apply-start : tie.Need-part-apply-start
-part-apply-start c = search needs
+part-apply-to-b-start : tie.Need-part-apply-to-b-start
+part-apply-to-b-start c = search needs
 
-part-apply-end : tie.Need-part-apply-end
-part-apply-end c = search needs
+part-apply-to-b-end : tie.Need-part-apply-to-b-end
+part-apply-to-b-end c = search needs
 
-apply-requires : tie.Need-apply-requires
-apply-requires c κs = search needs
+apply-to-b-requires : tie.Need-apply-to-b-requires
+apply-to-b-requires c κs =
+    let a = c .before .before .before .before .before .before .before .before .before .before .before .before .before .before .before .before .before .before .args in
+    let pre = c .before .before .before .before .before .before .before .before .before .before .before .before .before .before .before .before .before .before .pre in
+    let A = matrix (now (a .starts)) (now (a .columns)) (now (a .values)) in
+    let P = c .before .before .before .before .before .before .before .write-padded .last .1 .0 in
+    let written = factor (c .before .before .before .before .before .before .before) in
+    let d = a .c .degree in
+    let same : d ≡ d + 1 - 1 = omega arith in
+    subst (λ m. applyRefusal (a .field .p) A (part 1 m P) (now (a .b)) (now (a .vector)) (now (a .work)) ≡ 0) same
+    (taken-in (pre .0) (pre .1 .0) P written (c .before .before .before .before .if1 .left) (now (a .vector)) (now (a .work)) (pre .1 .1 .0) refl)
 
 mul-constant : tie.Need-mul-constant
 mul-constant c = search needs
@@ -110,7 +146,9 @@ slice-read-constant : tie.Need-slice-read-constant
 slice-read-constant c = search needs
 
 closed-requires-2 : tie.Need-closed-requires-2
-closed-requires-2 c κs = (omega (arith, c .before .before .before .before .before .before .before .before .before .before .before .before .before .before .before .before .before .before .before .before .before .before .before .before .before .pre .1 .0 .found, c .before .before .before .before .before .before .before .before .before .before .before .before .before .before .before .before .before .before .before .before .before .before .before .before .before .pre .0 .valid .sized), c .before .before .before .before .before .before .before .before .before .before .before .before .before .before .before .before .before .before .before .before .before .before .before .before .before .pre .1 .0 .few)
+closed-requires-2 c κs =
+    let pre = c .before .before .before .before .before .before .before .before .before .before .before .before .before .before .before .before .before .before .before .before .before .before .before .before .before .pre in
+    (pre .1 .0 .few, omega (arith, image (c .before .before .before .before .before .before) .0, pre .1 .0 .found, pre .0 .valid .sized))
 
 same-length-4 : tie.Need-same-length-4
 same-length-4 c = search needs
@@ -126,17 +164,14 @@ returns-2 c =
     let a = c .before .before .before .before .before .before .before .before .before .before .before .before .before .before .before .before .before .before .before .before .before .before .before .before .before .before .args in
     let pre = c .before .before .before .before .before .before .before .before .before .before .before .before .before .before .before .before .before .before .before .before .before .before .before .before .before .before .pre in
     let A = matrix (now (a .starts)) (now (a .columns)) (now (a .values)) in
-    let n = length (now (a .starts)) - 1 in
-    let W = now (a .work) in
-    let d = a .c .degree in
-    let F = part 0 (d + 1) W in
+    let F = part 0 (a .c .degree + 1) (now (a .work)) in
     let P = c .before .before .before .before .before .before .before .before .before .before .before .before .before .before .before .write-padded .last .1 .0 in
-    let written : P ≡ padded (n + 1) F = c .before .before .before .before .before .before .before .before .before .before .before .before .before .before .before .write-padded .ensures ∙ ap₂ padded (pre .1 .1 .1) (part-at W 0 (d + 1 - 0) 0 (d + 1) refl (omega arith)) in
-    let done = c .before .before .before .before .before .before .before .apply .ensures .1 .0 ∙ image (pre .0) (pre .1 .0) P written (c .before .before .before .before .before .before .before .before .before .before .before .before .if1 .left) (now (a .vector)) W (pre .1 .1 .0) refl (d + 1 - 1) (omega arith) in
-    let said = verdict-singular (a .field .p) A (now (a .b)) F d (c .before .before .before .before .before .before .before .before .before .before .before .before .if1 .left) (sym (constant (pre .0) (pre .1 .0) P written) ∙ c .before .if2 .taken) in
+    let written = factor (c .before .before .before .before .before .before .before .before .before .before .before .before .before .before .before) in
+    let done = image (c .before .before .before .before .before .before .before) in
+    let said = verdict-singular (a .field .p) A (now (a .b)) F (a .c .degree) (c .before .before .before .before .before .before .before .before .before .before .before .before .if1 .left) (sym (constant (pre .0) (pre .1 .0) P written) ∙ c .before .if2 .taken) in
     record {
-      ends = (ap (λ (y : Kind × List ℕ). y .0) said, c .closed2 .ensures);
-      vector-is = done ∙ sym (ap (λ (y : Kind × List ℕ). y .1) said);
+      ends = (ap (λ (y : Kind × List ℕ). y .0) said, c .closed2 .ensures ∙ ap {B = Counts} (closing (a .c)) (done .0));
+      vector-is = done .1 ∙ sym (ap (λ (y : Kind × List ℕ). y .1) said);
       polynomial-is = written;
     }
 
@@ -148,17 +183,18 @@ divide-requires c κs =
     let a = c .before .before .before .before .before .before .before .before .before .before .before .before .before .before .before .before .before .before .before .before .before .before .before .before .before .before .before .args in
     let pre = c .before .before .before .before .before .before .before .before .before .before .before .before .before .before .before .before .before .before .before .before .before .before .before .before .before .before .before .pre in
     let A = matrix (now (a .starts)) (now (a .columns)) (now (a .values)) in
-    let n = length (now (a .starts)) - 1 in
-    let W = now (a .work) in
-    let d = a .c .degree in
-    let F = part 0 (d + 1) W in
+    let F = part 0 (a .c .degree + 1) (now (a .work)) in
     let P = c .before .before .before .before .before .before .before .before .before .before .before .before .before .before .before .before .write-padded .last .1 .0 in
-    let written : P ≡ padded (n + 1) F = c .before .before .before .before .before .before .before .before .before .before .before .before .before .before .before .before .write-padded .ensures ∙ ap₂ padded (pre .1 .1 .1) (part-at W 0 (d + 1 - 0) 0 (d + 1) refl (omega arith)) in
-    let done = c .before .before .before .before .before .before .before .before .apply .ensures .1 .0 ∙ image (pre .0) (pre .1 .0) P written (c .before .before .before .before .before .before .before .before .before .before .before .before .before .if1 .left) (now (a .vector)) W (pre .1 .1 .0) refl (d + 1 - 1) (omega arith) in
-    (divisor (pre .0) (pre .1 .0) P written (c .before .inverse-modulo .ensures) (c .before .before .if2 .left), pre .0 .valid .small, subst (λ v. Vector (a .field .p) (length v) v) (sym done) (whole (vector-apply (a .field .p) A (drop 1 F) (now (a .b)) (pre .0 .valid .positive))))
+    let written = factor (c .before .before .before .before .before .before .before .before .before .before .before .before .before .before .before .before) in (
+      divisor (pre .0) (pre .1 .0) P written (c .before .inverse-modulo .ensures) (c .before .before .if2 .left),
+      pre .0 .valid .small,
+      subst (λ v. Vector (a .field .p) (length v) v) (sym (image (c .before .before .before .before .before .before .before .before) .1)) (whole (vector-apply (a .field .p) A (drop 1 F) (now (a .b)) (pre .0 .valid .positive))),
+    )
 
 closed-requires-3 : tie.Need-closed-requires-3
-closed-requires-3 c κs = (omega (arith, c .before .before .before .before .before .before .before .before .before .before .before .before .before .before .before .before .before .before .before .before .before .before .before .before .before .before .before .before .before .before .pre .1 .0 .found, c .before .before .before .before .before .before .before .before .before .before .before .before .before .before .before .before .before .before .before .before .before .before .before .before .before .before .before .before .before .before .pre .0 .valid .sized), c .before .before .before .before .before .before .before .before .before .before .before .before .before .before .before .before .before .before .before .before .before .before .before .before .before .before .before .before .before .before .pre .1 .0 .few)
+closed-requires-3 c κs =
+    let pre = c .before .before .before .before .before .before .before .before .before .before .before .before .before .before .before .before .before .before .before .before .before .before .before .before .before .before .before .before .before .before .pre in
+    (pre .1 .0 .few, omega (arith, image (c .before .before .before .before .before .before .before .before .before .before .before) .0, pre .1 .0 .found, pre .0 .valid .sized))
 
 same-length-7 : tie.Need-same-length-7
 same-length-7 c = search needs
@@ -174,21 +210,18 @@ returns-3 c =
     let a = c .before .before .before .before .before .before .before .before .before .before .before .before .before .before .before .before .before .before .before .before .before .before .before .before .before .before .before .before .before .before .before .args in
     let pre = c .before .before .before .before .before .before .before .before .before .before .before .before .before .before .before .before .before .before .before .before .before .before .before .before .before .before .before .before .before .before .before .pre in
     let A = matrix (now (a .starts)) (now (a .columns)) (now (a .values)) in
-    let n = length (now (a .starts)) - 1 in
-    let W = now (a .work) in
-    let d = a .c .degree in
-    let F = part 0 (d + 1) W in
+    let F = part 0 (a .c .degree + 1) (now (a .work)) in
     let P = c .before .before .before .before .before .before .before .before .before .before .before .before .before .before .before .before .before .before .before .before .write-padded .last .1 .0 in
-    let written : P ≡ padded (n + 1) F = c .before .before .before .before .before .before .before .before .before .before .before .before .before .before .before .before .before .before .before .before .write-padded .ensures ∙ ap₂ padded (pre .1 .1 .1) (part-at W 0 (d + 1 - 0) 0 (d + 1) refl (omega arith)) in
-    let done = c .before .before .before .before .before .before .before .before .before .before .before .before .apply .ensures .1 .0 ∙ image (pre .0) (pre .1 .0) P written (c .before .before .before .before .before .before .before .before .before .before .before .before .before .before .before .before .before .if1 .left) (now (a .vector)) W (pre .1 .1 .0) refl (d + 1 - 1) (omega arith) in
+    let written = factor (c .before .before .before .before .before .before .before .before .before .before .before .before .before .before .before .before .before .before .before .before) in
+    let done = image (c .before .before .before .before .before .before .before .before .before .before .before .before) in
     let first = constant (pre .0) (pre .1 .0) P written in
-    let said = verdict-solved (a .field .p) A (now (a .b)) F d (c .before .before .before .before .before .before .before .before .before .before .before .before .before .before .before .before .before .if1 .left) (λ z. c .before .before .before .before .before .before .if2 .left (first ∙ z)) in
+    let said = verdict-solved (a .field .p) A (now (a .b)) F (a .c .degree) (c .before .before .before .before .before .before .before .before .before .before .before .before .before .before .before .before .before .if1 .left) (λ z. c .before .before .before .before .before .before .if2 .left (first ∙ z)) in
     let w = apply (a .field .p) A (drop 1 F) (now (a .b)) in
     record {
-      ends = (ap (λ (y : Kind × List ℕ). y .0) said, c .closed3 .ensures);
+      ends = (ap (λ (y : Kind × List ℕ). y .0) said, c .closed3 .ensures ∙ ap {B = Counts} (closing (a .c)) (done .0));
       vector-is =
           c .before .before .before .divide .ensures
-          ∙ ap₂ (λ v i. table (length v) (λ k. times (a .field .p) (minus (a .field .p) 0 (at v k)) i)) done (c .before .before .before .before .before .inverse-modulo .ensures ∙ ap (inverse (a .field .p)) first)
+          ∙ ap₂ (λ v i. table (length v) (λ k. times (a .field .p) (minus (a .field .p) 0 (at v k)) i)) (done .1) (c .before .before .before .before .before .inverse-modulo .ensures ∙ ap (inverse (a .field .p)) first)
           ∙ ap (λ m. table m (λ k. times (a .field .p) (minus (a .field .p) 0 (at w k)) (inverse (a .field .p) (at F 0)))) (vector-apply (a .field .p) A (drop 1 F) (now (a .b)) (pre .0 .valid .positive) .places)
           ∙ sym (ap (λ (y : Kind × List ℕ). y .1) said);
       polynomial-is = written;
@@ -214,11 +247,11 @@ finish-spec =
     same-length-2
     same-length-3
     returns
-    mul-apply
-    sub-apply
-    part-apply-start
-    part-apply-end
-    apply-requires
+    mul-apply-to-b
+    sub-apply-to-b
+    part-apply-to-b-start
+    part-apply-to-b-end
+    apply-to-b-requires
     mul-constant
     slice-read-constant
     closed-requires-2

@@ -15,7 +15,7 @@ same-length-2 : tie.Need-same-length-2
 same-length-2 c = search needs
 
 returns : tie.Need-returns
-returns c = (c .number-of .ensures _ (c .before .before .before .before .before .apply .ensures .0), c .before .before .before .before .before .apply .ensures .1)
+returns c = (c .number-of .ensures _ _ (c .before .before .before .before .before .apply .ensures .0), c .before .before .before .before .before .apply .ensures .1)
 
 pub filzeur-apply-spec : {M : Type 1} → statement M
 filzeur-apply-spec =

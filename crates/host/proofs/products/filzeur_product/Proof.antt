@@ -12,7 +12,7 @@ same-length : tie.Need-same-length
 same-length c = search needs
 
 returns : tie.Need-returns
-returns c = (c .number-of .ensures _ (c .before .before .before .product .ensures .0), c .before .before .before .product .ensures .1)
+returns c = (c .number-of .ensures _ _ (c .before .before .before .product .ensures .0), c .before .before .before .product .ensures .1)
 
 pub filzeur-product-spec : {M : Type 1} → statement M
 filzeur-product-spec = tie.close (tie.spec product-requires number-of-requires same-length returns)

@@ -12,7 +12,7 @@ same-length : tie.Need-same-length
 same-length c = search needs
 
 returns : tie.Need-returns
-returns c = (c .number-of .ensures _ (c .before .before .before .transposed .ensures .0), c .before .before .before .transposed .ensures .1)
+returns c = (c .number-of .ensures _ _ (c .before .before .before .transposed .ensures .0), c .before .before .before .transposed .ensures .1)
 
 pub filzeur-transposed-spec : {M : Type 1} → statement M
 filzeur-transposed-spec =

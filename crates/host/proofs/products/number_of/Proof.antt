@@ -11,10 +11,10 @@ enum-known-writing : tie.Need-enum-known-writing
 enum-known-writing c = search needs
 
 returns : tie.Need-returns
-returns c number w = sym (subst (λ x. Writes x number) (c .enum-told .given .1) w)
+returns c number products w = sym (subst (λ x. Writes x number products) (c .enum-told .given .1) w .0)
 
 returns-2 : tie.Need-returns-2
-returns-2 c number w = sym (subst (λ x. Writes x number) (c .before .writing .given .1) w .0)
+returns-2 c number products w = sym (subst (λ x. Writes x number products) (c .before .writing .given .1) w .0)
 
 pub number-of-spec : {M : Type 1} → statement M
 number-of-spec = tie.close (tie.spec enum-told enum-known-writing returns returns-2)

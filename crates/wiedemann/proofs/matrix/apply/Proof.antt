@@ -89,7 +89,7 @@ returns-2 c =
     let made = c .before .before .before .before .horner in
     let said =
     writes-done (applyRefusal (at .field .p) A (now (at .g)) (now (at .v)) (now (at .out)) (now (at .work))) (apply (at .field .p) A (now (at .g)) (now (at .v)))
-    (now (at .out)) (made .last .1 .1 .1 .1 .1 .1 .0) zero (made .ensures ∙ ap (λ p. apply p A (now (at .g)) (now (at .v))) (modulus (c .before .before .before .before .before .before .before) .0)) in
+    (now (at .out)) (made .last .1 .1 .1 .1 .1 .1 .0) zero (made .ensures .0) (made .ensures .1 ∙ ap (λ p. apply p A (now (at .g)) (now (at .v))) (modulus (c .before .before .before .before .before .before .before) .0)) in
     (said .0, (said .1, λ q. absurd (q zero)))
 
 pub apply-spec : {M : Type 1} → statement M

@@ -1,6 +1,6 @@
 use mathlib.Core.Path.{_≡_, sym, ap, _∙_}
 use mathlib.Core.Logic.{⊎-elim}
-use Prim.Native.Nat.{_-_}
+use Prim.Native.Nat.{_+_, _-_}
 use native.Mathlib.Omega.{arith}
 use lib.ListN.{length, drop}
 use denote.Ref.{now}
@@ -11,10 +11,11 @@ use Rattle.wiedemann.proofs.matrix.horner.Statement.{statement}
 use Rattle.wiedemann.proofs.matrix.horner.Tie as tie
 
 abbrev Inv-loop : tie.InvT-loop
-Inv-loop m starts columns values g v out₀ work₀ i₀ out work i = Turn (m .p) (matrix starts columns values) g v i out work
+Inv-loop m starts columns values g v out₀ work₀ made₀ i₀ out work made i =
+    (made + i ≡ length g - 1) × Turn (m .p) (matrix starts columns values) g v i out work
 
 abbrev μ-loop : tie.MeasureT-loop
-μ-loop m starts columns values g v out₀ work₀ i₀ out work i = i
+μ-loop m starts columns values g v out₀ work₀ made₀ i₀ out work made i = i
 
 sub-i : tie.Need-sub-i Inv-loop μ-loop
 sub-i c = omega (arith, c .before .before .before .before .before .before .before .pre .1 .4)
@@ -49,27 +50,32 @@ loop-holds c =
     let a = start .args in
     let pre = start .pre in
     let A = matrix (now (a .starts)) (now (a .columns)) (now (a .values)) in
-    let i = length (now (a .g)) - 1 in
-    ⊎-elim
-    (λ w. turn-even (a .m .p) A (now (a .g)) (now (a .v)) (pre .1 .3 .places) (pre .1 .4) (w .0 .taken) (ap length (w .7) ∙ pre .1 .2) (w .6 ∙ w .3 .ensures))
-    (λ w. turn-odd (a .m .p) A (now (a .g)) (now (a .v)) (pre .1 .3 .places) (pre .1 .4) (w .0 .left) (ap length (w .6) ∙ pre .1 .1) (w .7 ∙ w .3 .ensures))
-    (c .if1 .came)
+    let i = length (now (a .g)) - 1 in (
+      omega arith,
+      ⊎-elim
+          (λ w. turn-even (a .m .p) A (now (a .g)) (now (a .v)) (pre .1 .3 .places) (pre .1 .4) (w .0 .taken) (ap length (w .7) ∙ pre .1 .2) (w .6 ∙ w .3 .ensures))
+          (λ w. turn-odd (a .m .p) A (now (a .g)) (now (a .v)) (pre .1 .3 .places) (pre .1 .4) (w .0 .left) (ap length (w .6) ∙ pre .1 .1) (w .7 ∙ w .3 .ensures))
+          (c .if1 .came),
+    )
 
 sub-i-2 : tie.Need-sub-i-2 Inv-loop μ-loop
 sub-i-2 c = omega (arith, c .loop-test .taken)
 
 mul-step : tie.Need-mul-step Inv-loop μ-loop
 mul-step c =
-    omega (arith, c .before .before .loop .inv .inside, c .before .before .before .before .before .before .before .before .before .before .before .good)
+    omega (arith, c .before .before .loop .inv .1 .inside, c .before .before .before .before .before .before .before .before .before .before .before .good)
 
 shared-slice-read-step : tie.Need-shared-slice-read-step Inv-loop μ-loop
-shared-slice-read-step c = omega (arith, c .before .before .before .loop .inv .inside)
+shared-slice-read-step c = omega (arith, c .before .before .before .loop .inv .1 .inside)
 
 step-requires : tie.Need-step-requires Inv-loop μ-loop
 step-requires c κs =
     let pre = c .before .before .before .before .before .before .before .before .before .before .before .before .before .before .pre in
     let loop = c .before .before .before .before .before .loop in
-    (pre .0, (pre .1 .0, loop .inv .out-places, pre .1 .3 .places, turn-work (pre .0) (loop .inv) (c .before .before .before .before .loop-test .taken) (c .before .before .before .if2 .taken)))
+    (pre .0, (pre .1 .0, loop .inv .1 .out-places, pre .1 .3 .places, turn-work (pre .0) (loop .inv .1) (c .before .before .before .before .loop-test .taken) (c .before .before .before .if2 .taken)))
+
+add-made : tie.Need-add-made Inv-loop μ-loop
+add-made c = omega (arith, c .before .before .before .before .before .before .before .before .loop .inv .0, c .before .before .step .ensures .0, c .before .before .before .before .before .before .before .before .before .before .before .before .before .before .before .before .before .good)
 
 loop-less : tie.Need-loop-less Inv-loop μ-loop
 loop-less c = omega (arith, c .before .before .before .before .before .before .before .loop-test .taken)
@@ -77,20 +83,25 @@ loop-less c = omega (arith, c .before .before .before .before .before .before .b
 loop-again : tie.Need-loop-again Inv-loop μ-loop
 loop-again c =
     let loop = c .before .before .before .before .before .before .before .before .loop in
-    turn-to-even (c .before .before .before .before .before .before .before .before .before .before .before .before .before .before .before .before .before .pre .0) (loop .inv) (c .before .before .before .before .before .before .before .loop-test .taken) (c .before .before .before .before .before .before .if2 .taken) (c .before .before .step .ensures)
+    let test = c .before .before .before .before .before .before .before .loop-test .taken in
+    let made = c .before .before .step .ensures in
+    (omega (arith, loop .inv .0, made .0, test), turn-to-even (c .before .before .before .before .before .before .before .before .before .before .before .before .before .before .before .before .before .pre .0) (loop .inv .1) test (c .before .before .before .before .before .before .if2 .taken) (made .1))
 
 mul-step-2 : tie.Need-mul-step-2 Inv-loop μ-loop
 mul-step-2 c =
-    omega (arith, c .before .before .loop .inv .inside, c .before .before .before .before .before .before .before .before .before .before .before .good)
+    omega (arith, c .before .before .loop .inv .1 .inside, c .before .before .before .before .before .before .before .before .before .before .before .good)
 
 shared-slice-read-step-2 : tie.Need-shared-slice-read-step-2 Inv-loop μ-loop
-shared-slice-read-step-2 c = omega (arith, c .before .before .before .loop .inv .inside)
+shared-slice-read-step-2 c = omega (arith, c .before .before .before .loop .inv .1 .inside)
 
 step-requires-2 : tie.Need-step-requires-2 Inv-loop μ-loop
 step-requires-2 c κs =
     let pre = c .before .before .before .before .before .before .before .before .before .before .before .before .before .before .pre in
     let loop = c .before .before .before .before .before .loop in
-    (pre .0, (pre .1 .0, loop .inv .work-places, pre .1 .3 .places, turn-out (pre .0) (loop .inv) (c .before .before .before .before .loop-test .taken) (c .before .before .before .if2 .left)))
+    (pre .0, (pre .1 .0, loop .inv .1 .work-places, pre .1 .3 .places, turn-out (pre .0) (loop .inv .1) (c .before .before .before .before .loop-test .taken) (c .before .before .before .if2 .left)))
+
+add-made-2 : tie.Need-add-made-2 Inv-loop μ-loop
+add-made-2 c = omega (arith, c .before .before .before .before .before .before .before .before .loop .inv .0, c .before .before .step2 .ensures .0, c .before .before .before .before .before .before .before .before .before .before .before .before .before .before .before .before .before .good)
 
 loop-less-2 : tie.Need-loop-less-2 Inv-loop μ-loop
 loop-less-2 c = omega (arith, c .before .before .before .before .before .before .before .loop-test .taken)
@@ -98,22 +109,26 @@ loop-less-2 c = omega (arith, c .before .before .before .before .before .before 
 loop-again-2 : tie.Need-loop-again-2 Inv-loop μ-loop
 loop-again-2 c =
     let loop = c .before .before .before .before .before .before .before .before .loop in
-    turn-to-odd (c .before .before .before .before .before .before .before .before .before .before .before .before .before .before .before .before .before .pre .0) (loop .inv) (c .before .before .before .before .before .before .before .loop-test .taken) (c .before .before .before .before .before .before .if2 .left) (c .before .before .step2 .ensures)
+    let test = c .before .before .before .before .before .before .before .loop-test .taken in
+    let made = c .before .before .step2 .ensures in
+    (omega (arith, loop .inv .0, made .0, test), turn-to-odd (c .before .before .before .before .before .before .before .before .before .before .before .before .before .before .before .before .before .pre .0) (loop .inv .1) test (c .before .before .before .before .before .before .if2 .left) (made .1))
 
 same-length : tie.Need-same-length Inv-loop μ-loop
 same-length c =
-    c .before .loop .inv .out-places ∙ sym (c .before .before .before .before .before .before .before .before .before .before .pre .1 .1)
+    c .before .loop .inv .1 .out-places ∙ sym (c .before .before .before .before .before .before .before .before .before .before .pre .1 .1)
 
 same-length-2 : tie.Need-same-length-2 Inv-loop μ-loop
 same-length-2 c =
-    c .before .loop .inv .work-places ∙ sym (c .before .before .before .before .before .before .before .before .before .before .pre .1 .2)
+    c .before .loop .inv .1 .work-places ∙ sym (c .before .before .before .before .before .before .before .before .before .before .pre .1 .2)
 
 returns : tie.Need-returns Inv-loop μ-loop
 returns c =
     let a = c .before .before .before .before .before .before .before .before .before .before .args in
     let loop = c .before .loop in
-    let first : loop .i ≡ 0 = omega (arith, c .loop-test .left) in
-    loop .inv .even (omega (arith, first)) ∙ ap (λ k. apply (a .m .p) (matrix (now (a .starts)) (now (a .columns)) (now (a .values))) (drop k (now (a .g))) (now (a .v))) first
+    let first : loop .i ≡ 0 = omega (arith, c .loop-test .left) in (
+      omega (arith, loop .inv .0, first),
+      loop .inv .1 .even (omega (arith, first)) ∙ ap (λ k. apply (a .m .p) (matrix (now (a .starts)) (now (a .columns)) (now (a .values))) (drop k (now (a .g))) (now (a .v))) first,
+    )
 
 pub horner-spec : {M : Type 1} → statement M
 horner-spec =
@@ -133,11 +148,13 @@ horner-spec =
     mul-step
     shared-slice-read-step
     step-requires
+    add-made
     loop-less
     loop-again
     mul-step-2
     shared-slice-read-step-2
     step-requires-2
+    add-made-2
     loop-less-2
     loop-again-2
     same-length

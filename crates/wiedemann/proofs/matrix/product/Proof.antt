@@ -65,7 +65,8 @@ returns-2 c =
     let m = c .before .before .before .before in
     let left = c .before .before .step .last .1 .1 .1 .1 .1 .1 .1 .0 in
     writes-done (productRefusal (at .field .p) A (now (at .v)) (now (at .out))) (product (at .field .p) A (now (at .v))) (now (at .out)) left
-    (none (c .before .before .before .before .before)) (step-made (at .field .p) (m .of .result .p) (modulus m .0) A (now (at .v)) (now (at .v)) left (c .before .before .step .ensures))
+    (none (c .before .before .before .before .before)) (c .before .before .step .ensures .0)
+    (step-made (at .field .p) (m .of .result .p) (modulus m .0) A (now (at .v)) (now (at .v)) left (c .before .before .step .ensures .1))
 
 pub product-spec : {M : Type 1} → statement M
 product-spec =

@@ -111,10 +111,12 @@ returns c =
     let at = start .args in
     let loop = c .before .loop in
     let A = matrix (now (at .starts)) (now (at .columns)) (now (at .values)) in
-    let end : loop .i ≡ length (now (at .starts)) - 1 = omega (arith, loop .inv .0, c .loop-test .left) in
-    written-table (now (at .out)) (length (now (at .starts)) - 1) (stepAt (at .m .p) A (at .c) (now (at .x)) (now (at .v))) (loop .out)
-    (start .pre .1 .1) (written-all end (loop .inv .2))
-    ∙ sym (table-step (at .m .p) A (at .c) (now (at .x)) (now (at .v)))
+    let end : loop .i ≡ length (now (at .starts)) - 1 = omega (arith, loop .inv .0, c .loop-test .left) in (
+      refl,
+      written-table (now (at .out)) (length (now (at .starts)) - 1) (stepAt (at .m .p) A (at .c) (now (at .x)) (now (at .v))) (loop .out)
+          (start .pre .1 .1) (written-all end (loop .inv .2))
+          ∙ sym (table-step (at .m .p) A (at .c) (now (at .x)) (now (at .v))),
+    )
 
 pub step-spec : {M : Type 1} → statement M
 step-spec =

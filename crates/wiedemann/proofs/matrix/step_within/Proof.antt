@@ -1,4 +1,4 @@
-use mathlib.Core.Path.{_≡_, sym, ap, _∙_, subst}
+use mathlib.Core.Path.{_≡_, refl, sym, ap, _∙_, subst}
 use Prim.Native.Nat.{_+_, _-_, _*_, _≤_}
 use native.Mathlib.Nat.{add-sub-cancel-left, le-add-right}
 use native.Mathlib.Omega.{arith}
@@ -162,7 +162,7 @@ same-length : tie.Need-same-length Inv-loop μ-loop
 same-length c = c .before .loop .inv .2 .same-length
 
 returns : tie.Need-returns Inv-loop μ-loop
-returns c = let loop = c .before .loop in written-all (omega (arith, loop .inv .0, c .loop-test .left)) (loop .inv .2)
+returns c = let loop = c .before .loop in (refl, written-all (omega (arith, loop .inv .0, c .loop-test .left)) (loop .inv .2))
 
 pub step-within-spec : {M : Type 1} → statement M
 step-within-spec =

@@ -1,5 +1,5 @@
 use Rattle.checks.specs.Pass.{residualAt}
-use Rattle.wiedemann.specs.Pass.{Narrowed, narrowed-from, narrowed-factors, made}
+use Rattle.wiedemann.specs.Pass.{Narrowed, narrowed-from, narrowed-factors, made, makes-passed}
 use Rattle.wiedemann.specs.Projection.{words-of}
 use Rattle.recurrence.specs.Factor.{multiplied-lent, factors-taken, product-of}
 use Rattle.laws.specs.Lent.{lent, part-at, part-of-part}
@@ -28,8 +28,9 @@ returned c =
 
 -- terms, recurrence and f(A)r, seen from the whole slice
 done : (c : tie.After-slice-known2)
-    → Narrowed (c .before .before .before .before .before .before .before .before .before .before .args .m .p) (matrix (now (c .before .before .before .before .before .before .before .before .before .before .args .starts)) (now (c .before .before .before .before .before .before .before .before .before .before .args .columns)) (now (c .before .before .before .before .before .before .before .before .before .before .args .values))) (length (now (c .before .before .before .before .before .before .before .before .before .before .args .starts)) - 1 - c .before .before .before .before .before .before .before .before .before .before .args .d)
-    (getD (projections (c .before .before .before .before .before .before .before .before .before .before .args .m .p) (length (now (c .before .before .before .before .before .before .before .before .before .before .args .starts)) - 1) (now (c .before .before .before .before .before .before .before .before .before .before .args .words))) (c .before .before .before .before .before .before .before .before .before .before .args .j) []) (now (c .before .before .before .before .before .before .before .before .before .before .args .work)) (returned c) (c .before .before .take-factor .result)
+    → let a = c .before .before .before .before .before .before .before .before .before .before .args in
+    let n = length (now (a .starts)) - 1 in
+    Narrowed (a .m .p) (matrix (now (a .starts)) (now (a .columns)) (now (a .values))) (n - a .d) (getD (projections (a .m .p) n (now (a .words))) (a .j) []) (now (a .work)) (returned c) (c .before .before .take-factor .result .degree)
 done c =
     let W = now (c .before .before .before .before .before .before .before .before .before .before .args .work) in
     let first = c .before .before .before .before .residual-at .result in
@@ -37,7 +38,7 @@ done c =
     let room = c .before .before .before .before .before .before .before .before .before .before .pre .1 .room in
     let m = length W - first in
     let fits : first + m ≤ length W = omega (arith, place, room) in
-    narrowed-from first m place fits (omega (arith, room, place)) (c .before .before .take-factor .kept .1 .1 .1 .1 .1 .1 .0 ∙ length-part first m W fits) (c .before .before .take-factor .ensures)
+    narrowed-from first m place fits (omega (arith, room, place)) (c .before .before .take-factor .kept .1 .1 .1 .1 .1 .1 .0 ∙ length-part first m W fits) (c .before .before .take-factor .ensures .1)
 
 sub-n : tie.Need-sub-n
 sub-n c = omega (arith, c .before .before .before .before .before .pre .0 .0 .one-more)
@@ -96,11 +97,13 @@ generator-at-requires c κs =
 
 add-end : tie.Need-add-end
 add-end c =
-    omega (arith, c .before .before .before .take-factor .ensures .short, c .generator-at .ensures .1, c .before .before .before .before .before .before .before .before .before .before .before .pre .0 .0 .sized, c .before .before .before .before .before .before .before .before .before .before .before .pre .1 .below)
+    let pre = c .before .before .before .before .before .before .before .before .before .before .before .before .pre in
+    omega (arith, c .before .before .before .before .take-factor .ensures .1 .short, c .before .generator-at .ensures .1, pre .0 .0 .sized, pre .1 .below)
 
 add-end-2 : tie.Need-add-end-2
 add-end-2 c =
-    omega (arith, c .before .before .before .take-factor .ensures .short, c .generator-at .ensures .1, c .before .before .before .before .before .before .before .before .before .before .before .pre .0 .0 .sized, c .before .before .before .before .before .before .before .before .before .before .before .pre .1 .below)
+    let pre = c .before .before .before .before .before .before .before .before .before .before .before .before .pre in
+    omega (arith, c .before .before .before .before .take-factor .ensures .1 .short, c .before .generator-at .ensures .1, pre .0 .0 .sized, pre .1 .below)
 
 mul-multiply : tie.Need-mul-multiply
 mul-multiply c = search needs
@@ -113,39 +116,29 @@ part-multiply-start c = search needs
 
 part-multiply-end : tie.Need-part-multiply-end
 part-multiply-end c =
-    let pre = c .before .before .before .before .before .before .before .before .before .before .before .pre in
-    let long = done (c .before) .same-length in
-    omega (arith, c .before .before .before .take-factor .ensures .short, c .generator-at .ensures .0, pre .0 .0 .sized, pre .1 .below, pre .1 .room, long)
+    let pre = c .before .before .before .before .before .before .before .before .before .before .before .before .pre in
+    let long = done (c .before .before) .same-length in
+    omega (arith, c .before .before .before .before .take-factor .ensures .1 .short, c .before .generator-at .ensures .0, pre .0 .0 .sized, pre .1 .below, pre .1 .room, long)
 
 multiply-requires : tie.Need-multiply-requires
 multiply-requires c κs = search needs
-
-mul-t19 : tie.Need-mul-t19
-mul-t19 c = search needs
-
-sub-t17 : tie.Need-sub-t17
-sub-t17 c =
-    omega (arith, c .before .before .before .before .before .before .before .before .before .before .before .before .before .before .before .pre .1 .below)
-
-add-t27 : tie.Need-add-t27
-add-t27 c =
-    omega (arith, c .before .before .before .before .before .before .before .take-factor .ensures .short, c .before .before .before .before .before .before .before .before .before .before .before .before .before .before .before .pre .0 .0 .sized, c .before .before .before .before .before .before .before .before .before .before .before .before .before .before .before .pre .1 .below)
 
 same-length : tie.Need-same-length
 same-length c = search needs
 
 returns : tie.Need-returns
 returns c =
-    let a = c .before .before .before .before .before .before .before .before .before .before .before .before .before .before .before .args in
-    let pre = c .before .before .before .before .before .before .before .before .before .before .before .before .before .before .before .pre in
+    let a = c .before .before .before .before .before .before .before .before .before .before .before .before .before .before .before .before .args in
+    let pre = c .before .before .before .before .before .before .before .before .before .before .before .before .before .before .before .before .pre in
     let s = pre .1 in
     let W = now (a .work) in
     let n = length (now (a .starts)) - 1 in
     let A = matrix (now (a .starts)) (now (a .columns)) (now (a .values)) in
-    let found = done (c .before .before .before .before .before) in
-    let t = c .before .before .before .before .before .before .before .take-factor .result in
-    let f = c .before .before .before .before .generator-at .result in
-    let place = c .before .before .before .before .generator-at .ensures .0 in
+    let found = done (c .before .before .before .before .before .before) in
+    let q = c .before .before .before .before .before .before .before .before .take-factor in
+    let t = q .result .degree in
+    let f = c .before .before .before .before .before .generator-at .result in
+    let place = c .before .before .before .before .before .generator-at .ensures .0 in
     let end = f + t + 1 - 0 in
     let short = found .short in
     let long = found .same-length in
@@ -157,9 +150,9 @@ returns c =
     let factors = narrowed-factors (a .d) t prime sized below (s .factor) found f end place (omega arith) fits in
     let product =
     multiplied-lent end (omega (arith, short, below, place)) (omega arith) (omega (arith, fits, long))
-    (c .before .before .multiply .kept .1 .0 ∙ length-part 0 end (returned (c .before .before .before .before .before)) (omega (arith, fits, long)))
+    (c .before .before .multiply .kept .1 .0 ∙ length-part 0 end (returned (c .before .before .before .before .before .before)) (omega (arith, fits, long)))
     (product-of (c .before .before .multiply .ensures) (factors-taken (prime .two-le) (pre .0 .0 .small) factors)) in
-    record { same-length = product .same-length ∙ long; run = λ qs. made (a .d) t below room found f place product qs }
+    makes-passed (q .ensures .0) (product .same-length ∙ long) (λ qs. made (a .d) t below room found f place product qs)
 
 pub pass-of-state-spec : {M : Type 1} → statement M
 pass-of-state-spec =
@@ -183,8 +176,5 @@ pass-of-state-spec =
     part-multiply-start
     part-multiply-end
     multiply-requires
-    mul-t19
-    sub-t17
-    add-t27
     same-length
     returns)

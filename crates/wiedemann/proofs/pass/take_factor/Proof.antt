@@ -1,4 +1,5 @@
 use Rattle.laws.specs.Lent.{same-take}
+use Rattle.wiedemann.specs.declared.pass.Pass.{Pass}
 use Rattle.wiedemann.specs.Turns.{shortened, vector-terms}
 use Rattle.checks.specs.Valid.{Vector}
 use Rattle.meaning.specs.Matrix.{matrix}
@@ -8,8 +9,8 @@ use denote.Ref.{now}
 use lib.ListN.{length, getD}
 use native.Mathlib.Omega.{arith}
 use mathlib.Core.List.{[]}
-use Prim.Native.Nat.{_-_, _*_}
-use mathlib.Core.Path.{sym, _∙_, subst}
+use Prim.Native.Nat.{_+_, _-_, _*_}
+use mathlib.Core.Path.{sym, ap, ap₂, _∙_, subst}
 use borrow.Author.Needs.{needs}
 use Rattle.wiedemann.proofs.pass.take_factor.Statement.{statement}
 use Rattle.wiedemann.proofs.pass.take_factor.Tie as tie
@@ -36,7 +37,7 @@ recurrence-of-terms-requires c κs =
     let n = length (now (a .starts)) - 1 in
     let u = getD (projections (a .m .p) n (now (a .words))) (a .u .index) [] in
     let r = part 0 n (now (a .area)) in
-    let done = c .before .before .before .terms .ensures in (
+    let done = c .before .before .before .terms .ensures .1 in (
       (pre .0 .1, pre .1 .0 .0, omega (arith, pre .1 .0 .2), omega (arith, pre .0 .0 .sized)),
       (omega (arith, done .same-length, pre .1 .1 .0), rw (done .terms) (vector-terms (a .m .p) A (a .left) u r (pre .0 .0 .positive))),
     )
@@ -58,13 +59,14 @@ apply-within-requires c κs =
     let a = c .before .before .before .before .before .before .before .before .before .before .before .before .before .before .args in
     let pre = c .before .before .before .before .before .before .before .before .before .before .before .before .before .before .pre in
     let n = length (now (a .starts)) - 1 in
-    let done = c .before .before .before .before .before .before .before .terms .ensures in
+    let done = c .before .before .before .before .before .before .before .terms .ensures .1 in
     let found = c .before .before .before .recurrence-of-terms .ensures in
     let room = pre .1 .1 .0 in
     let long = done .same-length in (
       pre .0 .0,
       (
         pre .1 .0 .0,
+        omega (arith, found .short, pre .1 .0 .2),
         record {
           above = omega arith;
           room = omega (arith, found .same-length, long, found .short, room);
@@ -76,13 +78,23 @@ apply-within-requires c κs =
       ),
     )
 
+add-t13 : tie.Need-add-t13
+add-t13 c =
+    omega (arith, c .before .before .before .before .before .before .before .before .before .before .terms .ensures .0, c .before .before .before .before .before .before .recurrence-of-terms .ensures .short, c .before .before .apply-within .ensures .0, c .before .before .before .before .before .before .before .before .before .before .before .before .before .before .before .before .before .pre .1 .0 .2)
+
 same-length : tie.Need-same-length
 same-length c = search needs
 
 returns : tie.Need-returns
 returns c =
+    let a = c .before .before .before .before .before .before .before .before .before .before .before .before .before .before .before .before .before .args in
     let pre = c .before .before .before .before .before .before .before .before .before .before .before .before .before .before .before .before .before .pre in
-    shortened (omega (arith, pre .1 .1 .0)) (c .before .before .before .before .before .before .before .before .before .before .terms .ensures) (c .before .before .before .before .before .before .recurrence-of-terms .ensures) (c .before .before .apply-within .ensures)
+    let made = c .before .before .before .before .before .before .before .before .before .before .terms .ensures in
+    let found = c .before .before .before .before .before .before .recurrence-of-terms in
+    let more = c .before .before .apply-within .ensures in (
+      ap {B = Pass} (λ k. record { left = a .left; degree = found .result; applications = k }) (ap₂ _+_ (made .0) (more .0)),
+      shortened (omega (arith, pre .1 .1 .0)) (made .1) (found .ensures) (more .1),
+    )
 
 pub take-factor-spec : {M : Type 1} → statement M
 take-factor-spec =
@@ -98,5 +110,6 @@ take-factor-spec =
     add-apply-within
     add-apply-within-2
     apply-within-requires
+    add-t13
     same-length
     returns)

@@ -1,0 +1,64 @@
+use mathlib.Core.Path.{_≡_, sym, _∙_, subst}
+use Prim.Native.Nat.{_-_}
+use lib.ListN.{length}
+use denote.Ref.{now}
+use Rattle.meaning.specs.Matrix.{matrix, apply}
+use Rattle.meaning.specs.Calls.{applyRefusal}
+use Rattle.laws.specs.Refusal.{unlessRefused-none}
+use Rattle.checks.specs.Answers.{Writes}
+use borrow.Author.Needs.{needs}
+use Rattle.solver.proofs.apply_to_b.Statement.{statement}
+use Rattle.solver.proofs.apply_to_b.Tie as tie
+
+apply-requires : tie.Need-apply-requires
+apply-requires c κs = search needs
+
+enum-known-made : tie.Need-enum-known-made
+enum-known-made c = search needs
+
+enum-told : tie.Need-enum-told
+enum-told c = search needs
+
+same-length : tie.Need-same-length
+same-length c = search needs
+
+same-length-2 : tie.Need-same-length-2
+same-length-2 c = search needs
+
+returns : tie.Need-returns
+returns c =
+    let a = c .before .before .before .before .before .before .before .before .before .before .before .before .before .before .before .before .before .args in
+    let A = matrix (now (a .starts)) (now (a .columns)) (now (a .values)) in
+    let number = applyRefusal (a .field .p) A (now (a .g)) (now (a .b)) (now (a .vector)) (now (a .work)) in
+    let said = c .before .before .before .before .before .before .before .apply .ensures in (
+      subst (λ x. Writes x number (length (now (a .g)) - 1)) (c .before .made .given .1) (said .0) .1,
+      said .1 .0 ∙ unlessRefused-none number (apply (a .field .p) A (now (a .g)) (now (a .b))) (now (a .vector)) (c .before .before .before .before .before .before .before .before .before .before .before .before .before .before .before .before .before .pre),
+    )
+
+same-length-3 : tie.Need-same-length-3
+same-length-3 c = search needs
+
+same-length-4 : tie.Need-same-length-4
+same-length-4 c = search needs
+
+returns-2 : tie.Need-returns-2
+returns-2 c =
+    let a = c .before .before .before .before .before .before .before .before .before .before .before .before .before .before .before .before .args in
+    let A = matrix (now (a .starts)) (now (a .columns)) (now (a .values)) in
+    let number = applyRefusal (a .field .p) A (now (a .g)) (now (a .b)) (now (a .vector)) (now (a .work)) in
+    let refused = subst (λ x. Writes x number (length (now (a .g)) - 1)) (c .enum-told .given .1) (c .before .before .before .before .before .before .apply .ensures .0) in
+    absurd (refused .1 (sym (refused .0) ∙ c .before .before .before .before .before .before .before .before .before .before .before .before .before .before .before .before .pre))
+
+pub apply-to-b-spec : {M : Type 1} → statement M
+apply-to-b-spec =
+    tie.close
+    (tie.spec
+    apply-requires
+    enum-known-made
+    enum-told
+    same-length
+    same-length-2
+    returns
+    same-length-3
+    same-length-4
+    returns-2)
