@@ -21,14 +21,15 @@ use native.Mathlib.Omega.{arith}
 use lib.ListN.{length, take, drop, getD, set, length-set, length-append, take-append-drop}
 use lib.Seq.{take-suc, take-all, getD-set-same, getD-set-other}
 use Rattle.meaning.specs.List.{at, isZero, padded}
-use Rattle.meaning.specs.Matrix.{Matrix, size}
+use Rattle.meaning.specs.Matrix.{Matrix, size, power}
 use Rattle.meaning.specs.Refusal.{check, first, elements, matrixChecks, wordsTaken}
 use Rattle.meaning.specs.Calls.{systemChecks, runChecks}
 use Rattle.meaning.specs.Recurrence.{degree}
-use Rattle.meaning.specs.Solver.{Pass, Run, projections, begin, spent, passTerms, pass, run}
+use Rattle.meaning.specs.Solver.{Pass, Run, projections, dot, terms, begin, spent, passTerms, pass, run}
 use Rattle.laws.specs.Accepted.{run-accepted}
 use Rattle.laws.specs.Bool.{and-both, test-cases, never}
 use Rattle.laws.specs.List.{length-table, table-of}
+use Rattle.laws.specs.Recurrence.{degree-within}
 use Rattle.laws.specs.Refusal.{first-append-zero, numbered-matrix, numbered-system}
 use Rattle.laws.specs.Solver.{spent-nil, spent-snoc}
 use Rattle.algebra.specs.Ring.{Field}
@@ -42,6 +43,7 @@ use Rattle.bridge.specs.ThirdCondition.{Accepted, accepted, projections-zero, e
 use Rattle.checks.specs.Valid.{Valid, Vector, valid-of, vector-elements}
 use Rattle.checks.specs.Matrix.{vectorChecks}
 use Rattle.wiedemann.specs.declared.pass.Pass.{Pass as CodePass}
+use Rattle.wiedemann.specs.declared.pass.Passed.{Passed}
 use Rattle.wiedemann.specs.declared.pass.Passed.the-variants.{Made, Refused}
 use Rattle.laws.specs.Part.{part, at-part, part-ext}
 use Rattle.laws.specs.Lent.{lent, length-lent, part-lent, part-at, part-cons}
@@ -188,6 +190,18 @@ pass-cost p A u c r q e g =
     last : Pass
     last = record { left = size A - c .found; degree = t; applications = 2 * (size A - c .found) - 1 + t }
 
+-- what it finds: at most as much as it takes terms
+pass-short : (p : ℕ) (A : Matrix) (u : List ℕ) (c r : Run) → 2 ≤ p → r ≡ pass p A u c → r .found ≤ c .found + 2 * (size A - c .found)
+unfolding pass passTerms terms
+pass-short p A u c r l g =
+    let s = passTerms p A u c in
+    omega (
+      arith,
+      ap (λ (x : Run). x .found) g,
+      degree-within p l s,
+      length-table (2 * (size A - c .found)) (λ i. dot p u (power p A i (c .residual))),
+    )
+
 module _ {p : ℕ} {A : Matrix} {b words W : List ℕ} {j : ℕ} {c : Counts} (s : CheckedSystem p A b) (most : length (projections p (size A) words) ≤ 8192)
     (m : Midway p A b words W j c) where
   h : Prime p
@@ -253,34 +267,43 @@ module _ {p : ℕ} {A : Matrix} {b words W : List ℕ} {j : ℕ} {c : Counts} (s
       ∙ state-0 p (size A) (c .degree) words W (below z) t (m .room)
       (and-both (vector-elements factor) (vector-elements residual))
 
-  pub midway-made : isZero (part (residualAt (size A)) (size A) W) ≡ false → wordsTaken (size A) words ≡ true → (W′ : List ℕ) (k : ℕ)
-      → Passes p A words j (c .degree) W (Refused k) W′ → ⊥
-  midway-made z t W′ k q = q .1 (sym (q .0) ∙ midway-state z t)
+  -- whatever its projection
+  pub midway-made : isZero (part (residualAt (size A)) (size A) W) ≡ false → wordsTaken (size A) words ≡ true → (i : ℕ) (W′ : List ℕ) (r : Passed) (k : ℕ)
+      → r ≡ Refused k → Passes p A words i (c .degree) W r W′ → ⊥
+  midway-made z t i W′ r k e said =
+      let q = subst (λ x. Passes p A words i (c .degree) W x W′) e said in q .1 (sym (q .0) ∙ midway-state z t)
 
-  -- the counts that a pass adds
-  pub midway-fits : isZero (part (residualAt (size A)) (size A) W) ≡ false → (W′ : List ℕ) (q : CodePass) → Passes p A words j (c .degree) W (Made q) W′
+  -- the counts that a pass adds, whatever its projection
+  pub midway-fits : isZero (part (residualAt (size A)) (size A) W) ≡ false → (i : ℕ) (W′ : List ℕ) (r : Passed) (q : CodePass) → r ≡ Made q
+      → Passes p A words i (c .degree) W r W′
       → (c .degree ≤ 4096) × (c .passes < 65536) × (c .applications < 4294967296) × (q .degree ≤ 8192) × (q .applications ≤ 16384)
-  midway-fits z W′ q made =
+  midway-fits z i W′ r q e said =
+      let made = subst (λ x. Passes p A words i (c .degree) W x W′) e said in
       let sized = s .valid .sized in
-      let now : held (size A) W′ (c .degree + q .degree) (m .made ++ (passOf q ∷ [])) ≡ run p A (take (j + 1) (projections p (size A) words)) (begin b) = made .1 .run (m .made) ∙ sym (next z) in
-      let found : c .degree + q .degree ≤ size A = subst (λ (r : Run). r .found ≤ size A) (sym now) (run-found p (s .accepted .prime) A b (s .accepted .size-b) (s .accepted .reduced-b) (take (j + 1) (projections p (size A) words))) in
-      let cost : q .applications ≡ 2 * (size A - c .degree) - 1 + (c .degree + q .degree - c .degree) = pass-cost p A (getD (projections p (size A) words) j []) (held (size A) W (c .degree) (m .made)) (held (size A) W′ (c .degree + q .degree) (m .made ++ (passOf q ∷ []))) (passOf q) refl (made .1 .run (m .made)) in
-      (omega (arith, found, sized), omega (arith, m .passes, m .used, m .within, most), omega (arith, m .few, m .within, most), omega (arith, found, sized), omega (arith, cost, found, sized))
+      let u = getD (projections p (size A) words) i [] in
+      let here = held (size A) W (c .degree) (m .made) in
+      let there = held (size A) W′ (c .degree + q .degree) (m .made ++ (passOf q ∷ [])) in
+      let found : c .degree + q .degree ≤ c .degree + 2 * (size A - c .degree) = pass-short p A u here there (s .accepted .prime .two-le) (made .1 .run (m .made)) in
+      let cost : q .applications ≡ 2 * (size A - c .degree) - 1 + (c .degree + q .degree - c .degree) = pass-cost p A u here there (passOf q) refl (made .1 .run (m .made)) in
+      (omega (arith, below z, sized), omega (arith, m .passes, m .used, m .within, most), omega (arith, m .few, m .within, most), omega (arith, found, sized), omega (arith, cost, found, sized))
 
-  pub midway-next : isZero (part (residualAt (size A)) (size A) W) ≡ false → (W′ : List ℕ) (q : CodePass) → Passes p A words j (c .degree) W (Made q) W′
-      → Midway p A b words W′ (j + 1) (counted c q)
-  midway-next z W′ q made =
-      let fits = midway-fits z W′ q made in
-      record {
-        made = m .made ++ (passOf q ∷ []);
-        passes = ap (λ k. k + 1) (m .passes) ∙ sym (length-append (m .made) (passOf q ∷ []));
-        used = length-append (m .made) (passOf q ∷ []) ∙ ap (λ k. k + 1) (m .used);
-        applications = ap (λ k. k + q .applications) (m .applications) ∙ sym (spent-snoc (m .made) (passOf q));
-        few = omega (arith, m .few, fits .4);
-        room = omega (arith, made .1 .same-length, m .room);
-        within = omega (arith, midway-less z);
-        state = made .1 .run (m .made) ∙ sym (next z);
-      }
+  pub midway-next : isZero (part (residualAt (size A)) (size A) W) ≡ false → (W′ : List ℕ) (r : Passed) (q : CodePass) → r ≡ Made q
+      → Passes p A words j (c .degree) W r W′ → (length W′ ≡ length W) × Midway p A b words W′ (j + 1) (counted c q)
+  midway-next z W′ r q e said =
+      let made = subst (λ x. Passes p A words j (c .degree) W x W′) e said in
+      let fits = midway-fits z j W′ r q e said in (
+        made .1 .same-length,
+        record {
+          made = m .made ++ (passOf q ∷ []);
+          passes = ap (λ k. k + 1) (m .passes) ∙ sym (length-append (m .made) (passOf q ∷ []));
+          used = length-append (m .made) (passOf q ∷ []) ∙ ap (λ k. k + 1) (m .used);
+          applications = ap (λ k. k + q .applications) (m .applications) ∙ sym (spent-snoc (m .made) (passOf q));
+          few = omega (arith, m .few, fits .4);
+          room = omega (arith, made .1 .same-length, m .room);
+          within = omega (arith, midway-less z);
+          state = made .1 .run (m .made) ∙ sym (next z);
+        },
+      )
 
   pub midway-end : isZero (part (residualAt (size A)) (size A) W) ≡ true → Finished p A b words W c
   unfolding h us

@@ -148,7 +148,7 @@ slice-read-constant c = search needs
 closed-requires-2 : tie.Need-closed-requires-2
 closed-requires-2 c κs =
     let pre = c .before .before .before .before .before .before .before .before .before .before .before .before .before .before .before .before .before .before .before .before .before .before .before .before .before .pre in
-    (pre .1 .0 .few, omega (arith, image (c .before .before .before .before .before .before) .0, pre .1 .0 .found, pre .0 .valid .sized))
+    (omega (arith, pre .1 .0 .few, pre .0 .accepted .size-b, pre .0 .valid .sized), omega (arith, image (c .before .before .before .before .before .before) .0, pre .1 .0 .found, pre .0 .valid .sized))
 
 same-length-4 : tie.Need-same-length-4
 same-length-4 c = search needs

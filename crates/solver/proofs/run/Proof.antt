@@ -65,10 +65,8 @@ never c =
     let few = most (a .field .p) (length (now (a .starts)) - 1) (now (a .words)) (pre .1 .0) (pre .0 .valid .sized) in
     let m = c .before .before .before .before .before .before .before .before .before .loop .inv .0 in
     let z = sym (c .before .before .before .before .before .before .before .is-settled .ensures) ∙ not-true _ (c .before .before .before .before .before .before .if1 .taken) in
-    let said =
-    subst (λ r. Passes (a .field .p) (matrix (now (a .starts)) (now (a .columns)) (now (a .values))) (now (a .words)) (c .before .before .before .before .before .before .before .before .before .loop .j) (c .before .before .before .before .before .before .before .before .before .loop .c .degree) (c .before .before .before .before .before .before .before .before .before .loop .work) r (c .before .before .before .before .make-pass .last .1 .1 .1 .1 .1 .1 .1 .0)) (c .enum-told .given .1)
-    (c .before .before .before .before .make-pass .ensures) in
-    midway-made (pre .0) few m z (pre .1 .0) (c .before .before .before .before .make-pass .last .1 .1 .1 .1 .1 .1 .1 .0) _ said
+    let answer = c .before .before .before .before .make-pass in
+    midway-made (pre .0) few m z (pre .1 .0) _ (answer .last .1 .1 .1 .1 .1 .1 .1 .0) (answer .result) _ (c .enum-told .given .1) (answer .ensures)
 
 same-length : tie.Need-same-length Inv-loop μ-loop
 same-length c = absurd (never c)
@@ -83,10 +81,8 @@ count-requires c κs =
     let few = most (a .field .p) (length (now (a .starts)) - 1) (now (a .words)) (pre .1 .0) (pre .0 .valid .sized) in
     let m = c .before .before .before .before .before .before .before .before .before .before .loop .inv .0 in
     let z = sym (c .before .before .before .before .before .before .before .before .is-settled .ensures) ∙ not-true _ (c .before .before .before .before .before .before .before .if1 .taken) in
-    let said =
-    subst (λ r. Passes (a .field .p) (matrix (now (a .starts)) (now (a .columns)) (now (a .values))) (now (a .words)) (c .before .before .before .before .before .before .before .before .before .before .loop .j) (c .before .before .before .before .before .before .before .before .before .before .loop .c .degree) (c .before .before .before .before .before .before .before .before .before .before .loop .work) r (c .before .before .before .before .before .make-pass .last .1 .1 .1 .1 .1 .1 .1 .0)) (c .before .answer .given .1)
-    (c .before .before .before .before .before .make-pass .ensures) in
-    midway-fits (pre .0) few m z (c .before .before .before .before .before .make-pass .last .1 .1 .1 .1 .1 .1 .1 .0) _ said
+    let answer = c .before .before .before .before .before .make-pass in
+    midway-fits (pre .0) few m z _ (answer .last .1 .1 .1 .1 .1 .1 .1 .0) (answer .result) _ (c .before .answer .given .1) (answer .ensures)
 
 add-j : tie.Need-add-j Inv-loop μ-loop
 add-j c =
@@ -113,12 +109,11 @@ loop-again c =
     let a = c .before .before .before .before .before .before .before .before .before .before .before .before .before .before .before .before .before .before .before .before .before .before .args in
     let pre = c .before .before .before .before .before .before .before .before .before .before .before .before .before .before .before .before .before .before .before .before .before .before .pre in
     let few = most (a .field .p) (length (now (a .starts)) - 1) (now (a .words)) (pre .1 .0) (pre .0 .valid .sized) in
-    let m = c .before .before .before .before .before .before .before .before .before .before .before .loop .inv .0 in
+    let loop = c .before .before .before .before .before .before .before .before .before .before .before .loop in
     let z = sym (c .before .before .before .before .before .before .before .before .before .is-settled .ensures) ∙ not-true _ (c .before .before .before .before .before .before .before .before .if1 .taken) in
-    let said =
-    subst (λ r. Passes (a .field .p) (matrix (now (a .starts)) (now (a .columns)) (now (a .values))) (now (a .words)) (c .before .before .before .before .before .before .before .before .before .before .before .loop .j) (c .before .before .before .before .before .before .before .before .before .before .before .loop .c .degree) (c .before .before .before .before .before .before .before .before .before .before .before .loop .work) r (c .before .before .before .before .before .before .make-pass .last .1 .1 .1 .1 .1 .1 .1 .0)) (c .before .before .answer .given .1)
-    (c .before .before .before .before .before .before .make-pass .ensures) in
-    (rw (c .count .ensures) (midway-next (pre .0) few m z (c .before .before .before .before .before .before .make-pass .last .1 .1 .1 .1 .1 .1 .1 .0) _ said), said .1 .same-length ∙ c .before .before .before .before .before .before .before .before .before .before .before .loop .inv .1)
+    let answer = c .before .before .before .before .before .before .make-pass in
+    let next = midway-next (pre .0) few (loop .inv .0) z (answer .last .1 .1 .1 .1 .1 .1 .1 .0) (answer .result) _ (c .before .before .answer .given .1) (answer .ensures) in
+    (rw (c .count .ensures) (next .1), next .0 ∙ loop .inv .1)
 
 same-length-2 : tie.Need-same-length-2 Inv-loop μ-loop
 same-length-2 c = c .before .before .before .loop .inv .1 ∙ c .before .before .before .before .before .before .begin .ensures .1

@@ -30,8 +30,11 @@ vector c =
 inside : (c : tie.After-wide Inv-loop μ-loop) → c .wide .result < length (c .before .before .before .loop .out)
 inside c =
     let start = c .before .before .before .before .before .before .before .before in
-    omega
-    (arith, c .wide .ensures .0, start .pre .1 (c .before .before .before .loop .k) (omega (arith, c .before .before .loop-test .taken, start .pre .0 .3)), vector (c .before .before .before) .places)
+    let test = c .before .before .loop-test .taken in
+    let below =
+    subst (λ j. j < length (now (start .args .out))) (sym (c .wide .ensures .0))
+    (start .pre .1 _ (omega (arith, test, c .before .before .before .loop .inv .0, start .pre .0 .3))) in
+    omega (arith, below, vector (c .before .before .before) .places)
 
 made : (c : tie.After-of Inv-loop μ-loop)
     → let at = c .before .before .before .before .args in

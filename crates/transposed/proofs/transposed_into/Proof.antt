@@ -66,7 +66,7 @@ mul-scatter : tie.Need-mul-scatter Inv-loop μ-loop
 mul-scatter c = omega (arith, inside (c .before .before), c .before .before .before .before .before .before .before .before .before .before .before .before .before .before .before .pre .0 .0 .sized)
 
 shared-slice-read-scatter : tie.Need-shared-slice-read-scatter Inv-loop μ-loop
-shared-slice-read-scatter c = c .before .before .before .loop-test .taken
+shared-slice-read-scatter c = omega (arith, c .before .before .before .loop-test .taken)
 
 scatter-requires : tie.Need-scatter-requires Inv-loop μ-loop
 scatter-requires c κs =
@@ -79,7 +79,7 @@ scatter-requires c κs =
     let bounds = row-bounds (matrix (now (at .starts)) (now (at .columns)) (now (at .values))) (loop .i) (loop .from) (to .result) (loop .inv .1) (to .ensures .0) known within in
     let before = vector (c .before .before .before .before .before) in (
       (
-        start .pre .1 .1 .below (loop .i) within,
+        start .pre .1 .1 .below _ (omega (arith, within)),
         start .pre .0 .1,
         bounds .0,
         bounds .1,

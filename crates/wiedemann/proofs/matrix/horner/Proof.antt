@@ -72,7 +72,7 @@ step-requires : tie.Need-step-requires Inv-loop μ-loop
 step-requires c κs =
     let pre = c .before .before .before .before .before .before .before .before .before .before .before .before .before .before .pre in
     let loop = c .before .before .before .before .before .loop in
-    (pre .0, (pre .1 .0, loop .inv .1 .out-places, pre .1 .3 .places, turn-work (pre .0) (loop .inv .1) (c .before .before .before .before .loop-test .taken) (c .before .before .before .if2 .taken)))
+    (pre .0, (pre .1 .0, loop .inv .1 .out-places, pre .1 .3 .places, turn-work (pre .0) (loop .inv .1) (omega (arith, c .before .before .before .before .loop-test .taken)) (c .before .before .before .if2 .taken)))
 
 add-made : tie.Need-add-made Inv-loop μ-loop
 add-made c = omega (arith, c .before .before .before .before .before .before .before .before .loop .inv .0, c .before .before .step .ensures .0, c .before .before .before .before .before .before .before .before .before .before .before .before .before .before .before .before .before .good)
@@ -85,7 +85,7 @@ loop-again c =
     let loop = c .before .before .before .before .before .before .before .before .loop in
     let test = c .before .before .before .before .before .before .before .loop-test .taken in
     let made = c .before .before .step .ensures in
-    (omega (arith, loop .inv .0, made .0, test), turn-to-even (c .before .before .before .before .before .before .before .before .before .before .before .before .before .before .before .before .before .pre .0) (loop .inv .1) test (c .before .before .before .before .before .before .if2 .taken) (made .1))
+    (omega (arith, loop .inv .0, made .0, test), turn-to-even (c .before .before .before .before .before .before .before .before .before .before .before .before .before .before .before .before .before .pre .0) (loop .inv .1) (omega (arith, test)) (c .before .before .before .before .before .before .if2 .taken) (made .1))
 
 mul-step-2 : tie.Need-mul-step-2 Inv-loop μ-loop
 mul-step-2 c =
@@ -98,7 +98,7 @@ step-requires-2 : tie.Need-step-requires-2 Inv-loop μ-loop
 step-requires-2 c κs =
     let pre = c .before .before .before .before .before .before .before .before .before .before .before .before .before .before .pre in
     let loop = c .before .before .before .before .before .loop in
-    (pre .0, (pre .1 .0, loop .inv .1 .work-places, pre .1 .3 .places, turn-out (pre .0) (loop .inv .1) (c .before .before .before .before .loop-test .taken) (c .before .before .before .if2 .left)))
+    (pre .0, (pre .1 .0, loop .inv .1 .work-places, pre .1 .3 .places, turn-out (pre .0) (loop .inv .1) (omega (arith, c .before .before .before .before .loop-test .taken)) (c .before .before .before .if2 .left)))
 
 add-made-2 : tie.Need-add-made-2 Inv-loop μ-loop
 add-made-2 c = omega (arith, c .before .before .before .before .before .before .before .before .loop .inv .0, c .before .before .step2 .ensures .0, c .before .before .before .before .before .before .before .before .before .before .before .before .before .before .before .before .before .good)
@@ -111,7 +111,7 @@ loop-again-2 c =
     let loop = c .before .before .before .before .before .before .before .before .loop in
     let test = c .before .before .before .before .before .before .before .loop-test .taken in
     let made = c .before .before .step2 .ensures in
-    (omega (arith, loop .inv .0, made .0, test), turn-to-odd (c .before .before .before .before .before .before .before .before .before .before .before .before .before .before .before .before .before .pre .0) (loop .inv .1) test (c .before .before .before .before .before .before .if2 .left) (made .1))
+    (omega (arith, loop .inv .0, made .0, test), turn-to-odd (c .before .before .before .before .before .before .before .before .before .before .before .before .before .before .before .before .before .pre .0) (loop .inv .1) (omega (arith, test)) (c .before .before .before .before .before .before .if2 .left) (made .1))
 
 same-length : tie.Need-same-length Inv-loop μ-loop
 same-length c =

@@ -22,7 +22,7 @@ fours-requires c κs =
     (pre .0, (omega (arith, pre .1), omega (arith, pre .2), omega arith, omega (arith, pre .1)))
 
 ones-requires : tie.Need-ones-requires
-ones-requires c κs = let pre = c .before .before .before .before .pre in (pre .0, (omega (arith, pre .1), pre .2, c .fours .ensures .carries))
+ones-requires c κs = let pre = c .before .before .before .before .pre in (pre .0, (omega (arith, pre .1), pre .2, omega (arith, pre .1, c .fours .ensures .carries)))
 
 returns : tie.Need-returns
 returns c =

@@ -66,7 +66,7 @@ row-requires c κs =
     let A = matrix (now (at .starts)) (now (at .columns)) (now (at .values)) in
     let loop = c .before .before .before .before .before .loop in
     let to = c .before .before .wide2 in
-    let bounds = row-bounds A (loop .i) (loop .from) (to .result) (loop .inv .1) (to .ensures .0) (start .pre .0) (c .before .before .before .before .loop-test .taken) in
+    let bounds = row-bounds A (loop .i) (loop .from) (to .result) (loop .inv .1) (to .ensures .0) (start .pre .0) (omega (arith, c .before .before .before .before .loop-test .taken)) in
     (valid-entries (at .m .p) A (now (at .v)) (start .pre .0) (start .pre .1 .3), bounds .0, bounds .1)
 
 residue-requires : tie.Need-residue-requires Inv-loop μ-loop

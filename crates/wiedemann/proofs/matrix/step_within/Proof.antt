@@ -105,7 +105,7 @@ row-requires c κs =
     let known = start .pre .1 .1 in
     let loop = c .before .before .before .before .before .before .before .loop in
     let to = c .before .before .before .before .wide2 in
-    let bounds = row-bounds A (loop .i) (loop .from) (to .result) (loop .inv .1) (to .ensures .0) (start .pre .0) (c .before .before .before .before .before .before .loop-test .taken) in (
+    let bounds = row-bounds A (loop .i) (loop .from) (to .result) (loop .inv .1) (to .ensures .0) (start .pre .0) (omega (arith, c .before .before .before .before .before .before .loop-test .taken)) in (
       subst (λ l. Entries (now (at .columns)) (now (at .values)) l) (sym (source-kept (c .before .before .before .before .before .before .before)))
           (valid-entries (at .m .p) A (part (at .source) n (now (at .work))) (start .pre .0)
           (vector-part (at .m .p) (at .source) n (now (at .work)) (known .source-fits) (known .elements))),

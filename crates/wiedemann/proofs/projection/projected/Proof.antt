@@ -1,6 +1,6 @@
 use mathlib.Core.Path.{_≡_, sym, ap, _∙_}
 use mathlib.Core.List.{List}
-use Prim.Native.Nat.{ℕ, suc, _+_, _-_, _*_, _%_, _≤_}
+use Prim.Native.Nat.{ℕ, suc, _+_, _-_, _*_, _%_, _≤_, _<_}
 use native.Mathlib.Nat.{mul-le-mul, suc-mul}
 use native.Mathlib.Omega.{arith}
 use lib.ListN.{length, getD, take, drop, length-drop}
@@ -10,7 +10,7 @@ use Rattle.meaning.specs.List.{at}
 use Rattle.meaning.specs.Solver.{dot}
 use Rattle.laws.specs.List.{table-ext}
 use Rattle.laws.specs.Solver.{vectorCount-div, projection-words}
-use Rattle.wiedemann.specs.Projection.{projection-past}
+use Rattle.wiedemann.specs.Projection.{Raw, projection-past}
 use borrow.Author.Needs.{needs}
 use Rattle.wiedemann.proofs.projection.projected.Statement.{statement}
 use Rattle.wiedemann.proofs.projection.projected.Tie as tie
@@ -28,6 +28,11 @@ within c =
 -- the words' part from j × n on
 tail : (words : List ℕ) (from : ℕ) → take (length words - from) (drop from words) ≡ drop from words
 tail words from = take-all (length words - from) (drop from words) (omega (arith, length-drop from words))
+
+raw-tail : (words v : List ℕ) (from : ℕ) → from + length v ≤ length words → length v ≤ 4096 → ((i : ℕ) → i < length v → at v i < 2147483647)
+    → Raw (take (length words - from) (drop from words)) v
+raw-tail words v from enough few element =
+    rw (tail words from) (record { few = few; enough = omega (arith, enough, length-drop from words); element = element })
 
 mul-from : tie.Need-mul-from
 mul-from c = record { fits = omega (arith, within c, c .before .before .before .good) }
@@ -49,15 +54,7 @@ dot-requires c κs =
     let a = c .before .before .before .before .args in
     let pre = c .before .before .before .before .pre in
     let words = now (a .words) in
-    let from = a .u .index * length (now (a .v)) in (
-      rw (tail words from)
-          (record {
-            few = pre .3;
-            enough = omega (arith, within (c .before), length-drop from words);
-            element = λ i l. omega (arith, pre .2 .below i l, pre .0 .small);
-          }),
-      pre .0,
-    )
+    (raw-tail words (now (a .v)) _ (omega (arith, within (c .before))) (pre .3) (λ i l. omega (arith, pre .2 .below i l, pre .0 .small)), pre .0)
 
 element-requires : tie.Need-element-requires
 element-requires c κs = search needs
