@@ -3,15 +3,12 @@ use field::Field;
 use solver::Counts;
 use solver::solve;
 ghost use mathlib.Core.Path.{_≡_};
-ghost use mathlib.Core.Logic.{_≢_};
 ghost use Prim.Native.Nat.{ℕ};
 ghost use Rattle.meaning.specs.Matrix.{matrix};
 ghost use Rattle.meaning.specs.Solver.{Outcome};
-ghost use Rattle.meaning.specs.Solver as meaning;
-ghost use Rattle.meaning.specs.ThirdCondition.{ThirdCondition};
-ghost use Rattle.meaning.specs.Calls.{solverRefusal, vectorAfter, polynomialAfter};
 ghost use Rattle.solver.specs.Verdict.{Says};
 ghost use Rattle.host.specs.Answers.{verdictOf};
+ghost use Rattle.host.specs.Runs.{Answered};
 
 #[repr(C)]
 pub struct Verdict {
@@ -52,6 +49,7 @@ fn numbers_of(verdict: solver::Verdict) -> Verdict
     }
 }
 
+// Two calls on one system answer the same kind and leave the same vector and polynomial, whatever their words (specs/Runs.antt, same-numbers).
 #[no_mangle]
 pub extern "C" fn filzeur_solve(
     p: u32,
@@ -64,16 +62,9 @@ pub extern "C" fn filzeur_solve(
     polynomial: &mut [u32],
     work: &mut [u32],
 ) -> Verdict
-    ensures { λ r. ⌜ r ≡ verdictOf (solverRefusal p (matrix (now (starts .entry)) (now (columns .entry)) (now (values .entry))) (now (b .entry))
-        (now (words .entry)) (now (vector .entry)) (now (polynomial .entry)) (now (work .entry))) (meaning.solve p (matrix (now (starts .entry))
-        (now (columns .entry)) (now (values .entry))) (now (b .entry)) (now (words .entry))) ⌝ }
-    ensures { λ _. ⌜ now (vector .exit) ≡ vectorAfter p (matrix (now (starts .entry)) (now (columns .entry)) (now (values .entry))) (now (b .entry))
-        (now (words .entry)) (now (vector .entry)) (now (polynomial .entry)) (now (work .entry)) ⌝ }
-    ensures { λ _. ⌜ now (polynomial .exit) ≡ polynomialAfter p (matrix (now (starts .entry)) (now (columns .entry)) (now (values .entry))) (now (b .entry))
-        (now (words .entry)) (now (vector .entry)) (now (polynomial .entry)) (now (work .entry)) ⌝ }
-    ensures { λ r. ⌜ (r .refusal ≢ 0 → now (work .exit) ≡ now (work .entry)) ⌝ }
-    ensures { λ r. ⌜ (r .refusal ≡ 0 → ThirdCondition p (matrix (now (starts .entry)) (now (columns .entry)) (now (values .entry))) (now (b .entry))
-        (now (words .entry)) (meaning.solve p (matrix (now (starts .entry)) (now (columns .entry)) (now (values .entry))) (now (b .entry)) (now (words .entry)))) ⌝ }
+    ensures { λ r. ⌜ Answered p (matrix (now (starts .entry)) (now (columns .entry)) (now (values .entry))) (now (b .entry))
+        (now (words .entry)) (now (vector .entry)) (now (polynomial .entry)) (now (work .entry)) r
+        (now (vector .exit)) (now (polynomial .exit)) (now (work .exit)) ⌝ }
 {
     numbers_of(solve(
         Field { p },

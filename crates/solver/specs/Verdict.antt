@@ -2,7 +2,8 @@
 --     Counted            D, the passes and the applications of an outcome
 --     Says               "kind, D, the passes and the applications", or the refusal's number
 --     Solves             the answer, each lent slice afterwards, and the third condition of what was found
---     kindOf, SameRun, same-run      two runs on one system, whatever their words and slices, agree in kind, vector and f
+--     same-answer        two runs on one system, whatever their words and slices, agree in kind, vector and f
+--     kindOf, SameRun, same-run      .. in what two calls answer and leave
 --     closing            the counts at the end, with the products that it took
 --     Ends, Closed       what is made of F when r is zero
 --     constant, divisor, coefficients, taken-in      F[0], its inverse and G in the polynomial slice; G(A)b is not refused
@@ -76,6 +77,12 @@ condition p A b words vector polynomial work e = everyRun p A b words (run-passe
 
 -- ---- two runs
 
+-- two calls on one system of which none is refused
+pub same-answer : (p : ℕ) (A : Matrix) (b words v f w words₁ v₁ f₁ w₁ : List ℕ) → solverRefusal p A b words v f w ≡ 0
+    → solverRefusal p A b words₁ v₁ f₁ w₁ ≡ 0 → SameAnswer (solve p A b words) (solve p A b words₁)
+same-answer p A b words v f w words₁ v₁ f₁ w₁ e e₁ =
+    everyTwoRuns p A b words words₁ (run-passed p A b words v f w e) (run-passed p A b words₁ v₁ f₁ w₁ e₁)
+
 -- the kind of an answer that is no refusal
 abbrev pub kindOf : Verdict → Kind → Type 0
 kindOf (Solved c) k = k ≡ solved
@@ -114,7 +121,7 @@ module _ (p : ℕ) (A : Matrix) (b words v f w words₁ v₁ f₁ w₁ : List �
       }
     where
       same : SameAnswer (solve p A b words) (solve p A b words₁)
-      same = everyTwoRuns p A b words words₁ (run-passed p A b words v f w e) (run-passed p A b words₁ v₁ f₁ w₁ e₁)
+      same = same-answer p A b words v f w words₁ v₁ f₁ w₁ e e₁
 
 -- ---- the end
 

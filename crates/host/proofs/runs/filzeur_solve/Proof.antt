@@ -31,7 +31,13 @@ returns c =
     let done = c .before .before .before .before .before .before .before .solve .ensures in
     let e = c .numbers-of .ensures number (solve (at .p) A (now (at .b)) (now (at .words))) (done .says) in
     let refusal : c .numbers-of .result .refusal ≡ number = ap (λ (v : Verdict). v .refusal) e in
-    (e, (done .vector-after, (done .polynomial-after, (λ q. done .kept (λ z. q (refusal ∙ z)), λ q. done .condition (sym refusal ∙ q)))))
+    record {
+      verdict = e;
+      vector-after = done .vector-after;
+      polynomial-after = done .polynomial-after;
+      kept = λ q. done .kept (λ z. q (refusal ∙ z));
+      condition = λ q. done .condition (sym refusal ∙ q);
+    }
 
 pub filzeur-solve-spec : {M : Type 1} → statement M
 filzeur-solve-spec =
