@@ -158,7 +158,10 @@ proved-cases =
     ∷ solver-gives 7 diag23 (0 ∷ 1 ∷ []) [] solved (0 ∷ 5 ∷ []) (4 ∷ 1 ∷ []) 2 7
     ∷ solver-gives 7 U (0 ∷ 1 ∷ []) [] singular (1 ∷ 0 ∷ []) (0 ∷ 0 ∷ 1 ∷ []) 1 6
     ∷ solver-gives 7 U (1 ∷ 0 ∷ []) [] singular (1 ∷ 0 ∷ []) (0 ∷ 1 ∷ []) 1 4
+    -- b = (0,0), which names no matrix: diag(2,3), U, and a matrix without entries
     ∷ solver-gives 7 diag23 (0 ∷ 0 ∷ []) [] solved (0 ∷ 0 ∷ []) (1 ∷ []) 0 0
+    ∷ solver-gives 7 U (0 ∷ 0 ∷ []) [] solved (0 ∷ 0 ∷ []) (1 ∷ []) 0 0
+    ∷ solver-gives 7 (matrix (0 ∷ 0 ∷ 0 ∷ []) [] []) (0 ∷ 0 ∷ []) [] solved (0 ∷ 0 ∷ []) (1 ∷ []) 0 0
     ∷ solver-gives 2 (matrix (0 ∷ 1 ∷ []) (0 ∷ []) (1 ∷ [])) (1 ∷ []) [] solved (1 ∷ []) (1 ∷ 1 ∷ []) 1 2
     ∷ recurrence-gives 7 (1 ∷ 2 ∷ 4 ∷ 1 ∷ []) 1 (5 ∷ 1 ∷ 0 ∷ 0 ∷ 0 ∷ [])
     ∷ recurrence-gives 7 (0 ∷ 1 ∷ []) 2 (0 ∷ 0 ∷ 1 ∷ [])
@@ -166,7 +169,7 @@ proved-cases =
 
 pub proved-rows : AllHold proved-cases
 unfolding compute
-proved-rows = (refl, (refl, (refl, (refl, (refl, (refl, (refl, (refl, (refl, (refl, (refl, tt)))))))))))
+proved-rows = (refl, (refl, (refl, (refl, (refl, (refl, (refl, (refl, (refl, (refl, (refl, (refl, (refl, tt)))))))))))))
 
 -- document 01's other cases, and cases of evidence/reference.py
 abbrev pub more-cases : List Case
