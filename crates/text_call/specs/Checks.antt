@@ -11,6 +11,7 @@
 --     solved-fits, solved-long      the text of a system that is taken: at most 4,608 bytes, more than 18
 --     LengthOrNumber text room r      r is above 18 exactly where nothing is refused, and otherwise the refusal's number, 1 to 11
 --     answer-or-number         so is the number that the call returns
+--     called                   what the call ensures, by its number and its slice
 use mathlib.Core.Path.{_≡_, refl, sym, ap, subst, _∙_}
 use mathlib.Core.Logic.{_⊎_, inl, inr}
 use mathlib.Core.Bool.{Bool, true, false, not, cond, _&&_}
@@ -235,3 +236,8 @@ answer-or-number text room = go (textRefusal text room) (text-high text room)
         → ((r ≡ 0) × (18 < unlessRefused r (length (solvedText text)) r)) ⊎ ((1 ≤ r) × (r ≤ 11) × (unlessRefused r (length (solvedText text)) r ≡ r))
     go zero h = inl (refl, solved-long text)
     go (suc r) h = inr (omega arith, h, ap (λ t. cond t (length (solvedText text)) (suc r)) (ne-eqb (suc r) 0 (λ z. omega arith)))
+
+pub called : (text answer : List ℕ) (r : ℕ) (after : List ℕ) → (r ≡ textAnswer text (length answer)) × (after ≡ textAfter text answer)
+    → (r ≡ textAnswer text (length answer)) × ((after ≡ textAfter text answer) × LengthOrNumber text (length answer) r)
+called text answer r after e =
+    (e .0, (e .1, subst (LengthOrNumber text (length answer)) (sym (e .0)) (answer-or-number text (length answer))))
