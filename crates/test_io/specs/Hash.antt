@@ -3,12 +3,12 @@
 --     hashFrom-none, hashFrom-next      none is left, and the element at a place and those after it
 use mathlib.Core.Path.{_≡_, sym, ap, _∙_}
 use mathlib.Core.List.{List, [], _∷_}
-use Prim.Native.Nat.{ℕ, suc, _+_, _*_, _%_, _≤_, _<_}
+use Prim.Native.Nat.{ℕ, _+_, _*_, _%_, _≤_, _<_}
 use native.Mathlib.Numerals.{add-one}
 use lib.ListN.{length, getD, drop, drop-of-length-le}
 use lib.Seq.{drop-cons}
 
-pub hashFrom : ℕ → List ℕ → ℕ
+unfoldable pub hashFrom : ℕ → List ℕ → ℕ
 hashFrom h [] = h
 hashFrom h (x ∷ xs) = hashFrom ((h * 65599 + x + 1) % 4294967291) xs
 

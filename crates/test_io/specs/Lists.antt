@@ -15,7 +15,7 @@ use lib.ListN.{length, getD, take, drop, length-take, length-drop}
 abbrev pub nextPlace : List ℕ → ℕ → ℕ
 nextPlace s from = min (from + 1 + getD s from 0) (length s)
 
-pub placeAfter : List ℕ → ℕ → ℕ → ℕ
+unfoldable pub placeAfter : List ℕ → ℕ → ℕ → ℕ
 placeAfter s from zero = min from (length s)
 placeAfter s from (suc k) = nextPlace s (placeAfter s from k)
 

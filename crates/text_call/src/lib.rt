@@ -1,16 +1,17 @@
 // The text call: system text in, answer text out.
 //
 // The contracts cite the crate meaning (Answer: the answer's text; Calls: what the call refuses, answers and leaves), specs/AnswerText.antt
-// (the answer's lines) and specs/Loaded.antt (a system in the arrays).
+// (the answer's lines), specs/Loaded.antt (a system in the arrays), specs/Checks.antt (what the number says) and specs/Program.antt (what
+// the program prints).
 mod answer;
 mod call;
 
 use call::answer_text;
 use line_writer::put_line;
 ghost use mathlib.Core.Path.{_≡_};
+ghost use Prim.Native.Nat.{_≤_};
 ghost use lib.ListN.{length};
 ghost use Rattle.meaning.specs.Calls.{textAnswer, textAfter};
-ghost use Prim.Native.Nat.{_≤_};
 ghost use Rattle.text_call.specs.Checks.{LengthOrNumber};
 ghost use Rattle.text_call.specs.Program.{Shown, Printed};
 

@@ -1,5 +1,5 @@
 -- `test_io::list` meets its contract: the part between the place after k lists and that after one more.
-use mathlib.Core.Path.{_≡_, ap, subst, sym}
+use mathlib.Core.Path.{_≡_, sym, subst}
 use Prim.Native.Nat.{_≤_}
 use lib.ListN.{length}
 use Rattle.test_io.specs.Lists.{listAt, placeAfter-more, listAt-short}
