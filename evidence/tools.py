@@ -1,4 +1,4 @@
-"""What compare.py and calls.py share: building the programs, talking to them, and where the library is."""
+"""What compare.py, calls.py and program.py share: building the programs, talking to them, and where the library is."""
 
 import os
 import subprocess

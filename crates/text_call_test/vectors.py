@@ -10,18 +10,20 @@ sys.dont_write_bytecode = True
 crates = pathlib.Path(__file__).resolve().parent.parent
 sys.path[:0] = [str(crates / 'test_io'), str(crates.parent / 'evidence')]
 import reference  # noqa: E402
-from generator import FREE_BYTE, Texts, printed, run, shown_bytes  # noqa: E402
+from generator import FREE_BYTE, Place, Texts, printed, run, shown_bytes  # noqa: E402
 
-LEAST = 4608
+LEAST, BUFFER = 4608, 24577
 dice = random.Random(20261116)
 calls, answers, numbers, texts = [], [], {}, Texts()
 
 
-def add(text, room=LEAST, letter='c'):
-    calls.append([['co'.index(letter), room, *texts.place(text)]])
+def add(text, room=LEAST, letter='c', buffer=BUFFER):
+    """The call `c`, or the program's output `o` where the text is what was read into a buffer of so many bytes."""
+    begin, end = texts.place(text)
+    calls.append([['co'.index(letter), room, begin, end] + [Place(texts, begin.at + buffer)] * (letter == 'o')])
     lent = bytes([FREE_BYTE]) * room
     if letter == 'o':
-        shown = reference.program(text) if room >= LEAST else b''
+        shown = reference.program(text) if room >= LEAST and len(text) <= buffer >= BUFFER else b''
         answers.append((printed(len(shown)) + shown_bytes(lent[len(shown):]) + '\n').encode() + shown)
         return
     answer = reference.text_call(text, lent)
@@ -109,10 +111,18 @@ for size in (24576, 24577):
     assert len(text_of(high, 128, a, b)) == size
     add(text_of(high, 128, a, b))
     assert answers[-1].startswith(b' 11 ' if size == 24576 else b' 1 ')
+    add(text_of(high, 128, a, b), letter='o')
+    assert answers[-1].endswith(b'refused\t11\n' if size == 24576 else b'refused\t1\n')
 add(first * 463 + first[:37])
 add(first * 463 + first[:38])
 add(first * 463 + first[:38], 0)
 add(first * 463 + first[:38], letter='o')
+
+# the output: a buffer of at least 24,577 bytes, with no more read than it has
+assert len(first * 463 + first[:38]) == BUFFER
+for buffer in (0, len(first), 24576, 24577, 24578, 30000):
+    for text in (b'', first, first * 463 + first[:38], first * 464):
+        add(text, letter='o', buffer=buffer)
 
 # the answer slice: at least 4,608 bytes, 11 after all other checks
 for room in (0, 1, 18, 48, 4607, 4608, 4609, 4700):

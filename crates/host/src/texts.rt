@@ -10,6 +10,7 @@ ghost use Rattle.meaning.specs.Calls.{readerRefusal, readerAnswer, readerAfter,
 ghost use Rattle.system_reader.specs.Answers.{refusalOfRead, modulusOfRead, sizeOfRead, countOfRead, startsOfSystem, columnsOfSystem};
 ghost use Rattle.system_reader.specs.Answers.{valuesOfSystem, rightOfSystem, modulusOfDocument, sizeOfDocument, countOfDocument};
 ghost use Rattle.system_writer.specs.Answers.{refusalOfWritten, lengthOfWritten};
+ghost use Rattle.text_call.specs.Checks.{LengthOrNumber};
 ghost use Rattle.host.specs.Answers.{systemOf, lengthOf};
 ghost use lib.ListN.{length};
 
@@ -106,6 +107,7 @@ pub extern "C" fn filzeur_write(
 pub extern "C" fn filzeur_text(text: &[u8], answer: &mut [u8]) -> u64
     ensures { λ r. ⌜ r ≡ textAnswer (now (text .entry)) (length (now (answer .entry))) ⌝ }
     ensures { λ _. ⌜ now (answer .exit) ≡ textAfter (now (text .entry)) (now (answer .entry)) ⌝ }
+    ensures { λ r. ⌜ LengthOrNumber (now (text .entry)) (length (now (answer .entry))) r ⌝ }
 {
     text_call::filzeur_text(text, answer)
 }

@@ -1,7 +1,7 @@
 // What the test programs share. A program reads all of its input into one slice, its memory. There a call under test finds its slices, each as a list:
 // the number of its elements, then the elements. What it answers is printed as numbers, and so is what it leaves in a slice: the elements of a
 // few places, the hash of more. No contract speaks of what is read from standard input and written to standard output: a program's output is held to
-// its file. generator.py says the same to the generators.
+// its file. generator.py says the same to the generators. The contracts cite specs/Lists (what stands in the memory) and specs/Hash.
 //
 //     memory, lent, ..         room for the input, and for slices that a call writes
 //     read_numbers             the numbers of the input
@@ -13,6 +13,8 @@ use libc::STDOUT_FILENO;
 ghost use mathlib.Core.Path.{_≡_};
 ghost use Prim.Native.Nat.{_+_, _*_, _-_, _%_, _≤_, _<_, min};
 ghost use lib.ListN.{length, getD, take, drop};
+ghost use Rattle.test_io.specs.Lists.{nextPlace, placeAfter, listAt};
+ghost use Rattle.test_io.specs.Hash.{hashFrom};
 
 // ---- room; that there is so much is a fact of the call, and no list has to be counted for it
 
@@ -145,7 +147,7 @@ pub fn place(s: &[u32], i: usize) -> usize
 
 // The place after the list at `from`, at most the slice's end.
 fn next(s: &[u32], from: usize) -> usize
-    ensures { λ r. ⌜ r ≤ length (now (s .entry)) ⌝ }
+    ensures { λ r. ⌜ (r ≡ nextPlace (now (s .entry)) from) × (r ≤ length (now (s .entry))) ⌝ }
 {
     let count = place(s, from);
     if from < s.len() {
@@ -156,7 +158,7 @@ fn next(s: &[u32], from: usize) -> usize
 
 // The place after `count` lists from `from` on, at most the slice's end.
 pub fn after(s: &[u32], from: usize, count: usize) -> usize
-    ensures { λ r. ⌜ r ≤ length (now (s .entry)) ⌝ }
+    ensures { λ r. ⌜ (r ≡ placeAfter (now (s .entry)) from count) × (r ≤ length (now (s .entry))) ⌝ }
 {
     let mut at = least(from, s.len());
     let mut k = 0;
@@ -169,11 +171,11 @@ pub fn after(s: &[u32], from: usize, count: usize) -> usize
 
 // List `k` of those from `from` on.
 pub fn list(s: &[u32], from: usize, k: usize) -> &[u32]
-    ensures { λ r. ⌜ length (now r) ≤ length (now (s .entry)) ⌝ }
+    ensures { λ r. ⌜ (now r ≡ listAt (now (s .entry)) from k) × (length (now r) ≤ length (now (s .entry))) ⌝ }
 {
     let start = after(s, from, k);
     let end = next(s, start);
-    part(s, least(start + 1, end), end)
+    part(s, start + 1, end)
 }
 
 // ---- output
@@ -191,7 +193,9 @@ fn hashed_byte(hash: u32, x: u8) -> u32
     hashed(hash, x as u32)
 }
 
-fn hash(s: &[u32]) -> u32 {
+fn hash(s: &[u32]) -> u32
+    ensures { λ r. ⌜ r ≡ hashFrom 0 (now (s .entry)) ⌝ }
+{
     let mut h = 0;
     let mut i = 0;
     while i < s.len() {
@@ -201,7 +205,9 @@ fn hash(s: &[u32]) -> u32 {
     h
 }
 
-fn text_hash(s: &[u8]) -> u32 {
+fn text_hash(s: &[u8]) -> u32
+    ensures { λ r. ⌜ r ≡ hashFrom 0 (now (s .entry)) ⌝ }
+{
     let mut h = 0;
     let mut i = 0;
     while i < s.len() {
@@ -237,9 +243,11 @@ fn print_all(s: &[u32]) {
     }
 }
 
-// Two places behind those of a slice that was lent.
-fn behind(size: usize) -> usize {
-    if size < 4294967296 { size + 2 } else { size }
+// Two places behind those of a slice that was lent, which has at most 2^32 - 1.
+fn behind(size: usize) -> usize
+    ensures { λ r. ⌜ r ≡ min size 4294967295 + 2 ⌝ }
+{
+    least(size, 4294967295) + 2
 }
 
 // Of a slice whose first `size` places were lent, the elements from `from` on, and of two places behind them; of more than 12 their hash.

@@ -9,7 +9,9 @@
 --     size-system              the matrix of a document has its size
 --     system-checked, solved-small      the system of a text that is taken, and the bounds of its run
 --     solved-fits, solved-long      the text of a system that is taken: at most 4,608 bytes, more than 18
---     answer-or-number         the number returned is above 18, or at most 11 and the refusal's
+--     LengthOrNumber text room r      r is above 18 exactly where nothing is refused, and otherwise the refusal's number, 1 to 11
+--     answer-or-number         so is the number that the call returns
+--     called                   what the call ensures, by its number and its slice
 use mathlib.Core.Path.{_≡_, refl, sym, ap, subst, _∙_}
 use mathlib.Core.Logic.{_⊎_, inl, inr}
 use mathlib.Core.Bool.{Bool, true, false, not, cond, _&&_}
@@ -223,12 +225,19 @@ text-high text room =
     (check 1 (not (leb (length text) 24576)) ∷ textChecks text ++ (check 11 (not (leb (d .size) 128 && leb (d .count) 1024 && leb 4608 room)) ∷ []))
     refl
 
-pub answer-or-number : (text : List ℕ) (room : ℕ)
-    → ((textRefusal text room ≡ 0) × (18 < textAnswer text room))
-    ⊎ ((1 ≤ textRefusal text room) × (textRefusal text room ≤ 11) × (textAnswer text room ≡ textRefusal text room))
+abbrev pub LengthOrNumber : List ℕ → ℕ → ℕ → Type 0
+LengthOrNumber text room r =
+    ((textRefusal text room ≡ 0) × (18 < r)) ⊎ ((1 ≤ textRefusal text room) × (textRefusal text room ≤ 11) × (r ≡ textRefusal text room))
+
+pub answer-or-number : (text : List ℕ) (room : ℕ) → LengthOrNumber text room (textAnswer text room)
 answer-or-number text room = go (textRefusal text room) (text-high text room)
   where
     go : (r : ℕ) → r ≤ 11
         → ((r ≡ 0) × (18 < unlessRefused r (length (solvedText text)) r)) ⊎ ((1 ≤ r) × (r ≤ 11) × (unlessRefused r (length (solvedText text)) r ≡ r))
     go zero h = inl (refl, solved-long text)
     go (suc r) h = inr (omega arith, h, ap (λ t. cond t (length (solvedText text)) (suc r)) (ne-eqb (suc r) 0 (λ z. omega arith)))
+
+pub called : (text answer : List ℕ) (r : ℕ) (after : List ℕ) → (r ≡ textAnswer text (length answer)) × (after ≡ textAfter text answer)
+    → (r ≡ textAnswer text (length answer)) × ((after ≡ textAfter text answer) × LengthOrNumber text (length answer) r)
+called text answer r after e =
+    (e .0, (e .1, subst (LengthOrNumber text (length answer)) (sym (e .0)) (answer-or-number text (length answer))))

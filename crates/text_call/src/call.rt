@@ -11,6 +11,7 @@ ghost use Prim.Native.Nat.{_+_, _≤_, _<_};
 ghost use lib.ListN.{length};
 ghost use Rattle.meaning.specs.Calls.{textAnswer, textAfter};
 ghost use Rattle.line_writer.specs.Written.{Wrote};
+ghost use Rattle.text_call.specs.Checks.{LengthOrNumber};
 ghost use Rattle.text_call.specs.Loaded.{Loaded, loadedText, Ran, verdictText, degreeOf};
 
 // Solves the system in the leading parts of the arrays.
@@ -126,6 +127,7 @@ pub fn answer_text(
     requires { ⌜ (length (now vector) ≡ 128) × (length (now polynomial) ≡ 129) × (length (now work) ≡ 2064) ⌝ }
     ensures { λ r. ⌜ r ≡ textAnswer (now (text .entry)) (length (now (answer .entry))) ⌝ }
     ensures { λ _. ⌜ now (answer .exit) ≡ textAfter (now (text .entry)) (now (answer .entry)) ⌝ }
+    ensures { λ r. ⌜ LengthOrNumber (now (text .entry)) (length (now (answer .entry))) r ⌝ }
 {
     if text.len() > 24576 {
         return 1;

@@ -1,22 +1,26 @@
 // The text call: system text in, answer text out.
 //
 // The contracts cite the crate meaning (Answer: the answer's text; Calls: what the call refuses, answers and leaves), specs/AnswerText.antt
-// (the answer's lines) and specs/Loaded.antt (a system in the arrays).
+// (the answer's lines), specs/Loaded.antt (a system in the arrays), specs/Checks.antt (what the number says) and specs/Program.antt (what
+// the program prints).
 mod answer;
 mod call;
 
 use call::answer_text;
 use line_writer::put_line;
 ghost use mathlib.Core.Path.{_≡_};
+ghost use Prim.Native.Nat.{_≤_};
 ghost use lib.ListN.{length};
 ghost use Rattle.meaning.specs.Calls.{textAnswer, textAfter};
-ghost use Rattle.text_call.specs.Program.{Printed};
+ghost use Rattle.text_call.specs.Checks.{LengthOrNumber};
+ghost use Rattle.text_call.specs.Program.{Shown, Printed};
 
 // The number is the answer's length, which is always above 18, or the refusal's. The arrays take 128 rows and 1,024 entries.
 #[no_mangle]
 pub extern "C" fn filzeur_text(text: &[u8], answer: &mut [u8]) -> u64
     ensures { λ r. ⌜ r ≡ textAnswer (now (text .entry)) (length (now (answer .entry))) ⌝ }
     ensures { λ _. ⌜ now (answer .exit) ≡ textAfter (now (text .entry)) (now (answer .entry)) ⌝ }
+    ensures { λ r. ⌜ LengthOrNumber (now (text .entry)) (length (now (answer .entry))) r ⌝ }
 {
     let mut starts = [0u32; 129];
     let mut columns = [0u32; 1024];
@@ -38,18 +42,34 @@ pub extern "C" fn filzeur_text(text: &[u8], answer: &mut [u8]) -> u64
     )
 }
 
-// What the program prints for a text, at the front of a slice of at least 4,608 bytes: the answer's text, or `refused` and the number. A
-// shorter slice stays as it is, and the answer is 0.
-pub fn output(text: &[u8], out: &mut [u8]) -> usize
-    ensures { λ r. ⌜ Printed (now (text .entry)) (now (out .entry)) r (now (out .exit)) ⌝ }
+// What the program prints for a text, at the front of the slice: the answer's text, or `refused` and the number.
+fn show(text: &[u8], out: &mut [u8]) -> usize
+    requires { ⌜ 4608 ≤ length (now out) ⌝ }
+    ensures { λ r. ⌜ Shown (now (text .entry)) (now (out .entry)) r (now (out .exit)) ⌝ }
 {
-    if out.len() < 4608 {
-        return 0;
-    }
     let number = filzeur_text(text, out);
     if number > 18 {
         number as usize
     } else {
         put_line(out, 0, b"refused", &[number])
     }
+}
+
+// What the program prints where the first `read` bytes of the buffer were read, at the front of a slice of at least 4,608 bytes. The buffer
+// has at least 24,577, one more than a text may have, so that a text that was cut is refused as the whole would be. Where one of these
+// is shorter, or more was read than the buffer has, the slice stays as it is, and the answer is 0.
+pub fn output(buffer: &[u8], read: usize, out: &mut [u8]) -> usize
+    ensures { λ r. ⌜ Printed (now (buffer .entry)) read (now (out .entry)) r (now (out .exit)) ⌝ }
+{
+    if buffer.len() < 24577 {
+        return 0;
+    }
+    if buffer.len() < read {
+        return 0;
+    }
+    if out.len() < 4608 {
+        return 0;
+    }
+    let z: usize = 0;
+    show(&buffer[z..read], out)
 }

@@ -1,6 +1,7 @@
 // Makes the calls that standard input lists, after their number. A call is a list: 0 for the text call or 1 for the program's output, the places of its
-// answer slice, and where its text begins and ends in the input; the texts stand behind the lists. Of a call is printed a line, what it returns and
-// the hash of what stands behind its answer, up to two places behind the slice; and the answer. vectors.py makes calls and output.
+// answer slice, where its text begins and ends in the input, and for the output where the buffer ends that begins with the text; the texts stand
+// behind the lists. Of a call is printed a line, what it returns and the hash of what stands behind its answer, up to two places behind the slice;
+// and the answer. vectors.py makes calls and output.
 use libc::STDIN_FILENO;
 use libc::STDOUT_FILENO;
 use test_io::at;
@@ -9,9 +10,9 @@ use test_io::print;
 use test_io::text_part;
 
 // Makes the call; the answer's length.
-fn answered(which: u32, text: &[u8], answer: &mut [u8]) -> usize {
+fn answered(which: u32, text: &[u8], buffer: &[u8], answer: &mut [u8]) -> usize {
     if which == 1 {
-        let length = text_call::output(text, answer);
+        let length = text_call::output(buffer, text.len(), answer);
         print(length as u64);
         return length;
     }
@@ -22,9 +23,15 @@ fn answered(which: u32, text: &[u8], answer: &mut [u8]) -> usize {
 
 fn call(memory: &[u8], head: &[u32]) {
     let text = text_part(memory, place(head, 2), place(head, 3));
+    let buffer = text_part(memory, place(head, 2), place(head, 4));
     let room = place(head, 1);
     let mut answer = test_io::lent_text();
-    let length = answered(at(head, 0), text, test_io::text_front(&mut answer, room));
+    let length = answered(
+        at(head, 0),
+        text,
+        buffer,
+        test_io::text_front(&mut answer, room),
+    );
     test_io::show_text(&answer, length, room);
     test_io::end_line();
     io::write_all(STDOUT_FILENO, text_part(&answer, 0, length));

@@ -10,9 +10,6 @@ slice-aggregate-read-full c = search needs
 read-full-requires : tie.Need-read-full-requires
 read-full-requires c κs = search needs
 
-array-share-prefix-text : tie.Need-array-share-prefix-text
-array-share-prefix-text c = search needs
-
 slice-aggregate-output : tie.Need-slice-aggregate-output
 slice-aggregate-output c = search needs
 
@@ -26,7 +23,7 @@ array-share-prefix-out : tie.Need-array-share-prefix-out
 array-share-prefix-out c = search needs
 
 slice-aggregate-write-all : tie.Need-slice-aggregate-write-all
-slice-aggregate-write-all c = sym (length-take-le (c .before .before .output .result) (c .before .before .output .last .1 .0) (c .before .before .output .ensures .within))
+slice-aggregate-write-all c = sym (length-take-le (c .before .before .output .result) (c .before .before .output .last .1 .1 .0) (c .before .before .output .ensures .within))
 
 write-all-requires : tie.Need-write-all-requires
 write-all-requires c κs = search needs
@@ -40,7 +37,6 @@ main-spec =
     (tie.spec
     slice-aggregate-read-full
     read-full-requires
-    array-share-prefix-text
     slice-aggregate-output
     slice-aggregate-output-2
     output-requires

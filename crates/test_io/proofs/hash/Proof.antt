@@ -1,18 +1,21 @@
--- `test_io::hash` is safe and ends.
-use Prim.Native.Nat.{_-_, _≤_}
-use lib.ListN.{length}
+-- `test_io::hash` meets its contract: what is left of the slice turns the hash so far into that of the whole.
+use mathlib.Core.Path.{_≡_, refl, sym, ap, _∙_}
+use Prim.Native.Nat.{_+_, _-_, _≤_, _<_}
+use native.Mathlib.Omega.{arith}
+use lib.ListN.{length, drop}
+use Rattle.test_io.specs.Hash.{hashFrom, hashFrom-none, hashFrom-next}
 use borrow.Author.Needs.{needs}
 use Rattle.test_io.proofs.hash.Statement.{statement}
 use Rattle.test_io.proofs.hash.Tie as tie
 
 abbrev Inv-loop : tie.InvT-loop
-Inv-loop s h₀ i₀ h i = i ≤ length s
+Inv-loop s h₀ i₀ h i = (i ≤ length s) × (hashFrom h (drop i s) ≡ hashFrom 0 s)
 
 abbrev μ-loop : tie.MeasureT-loop
 μ-loop s h₀ i₀ h i = length s - i
 
 loop-holds : tie.Need-loop-holds Inv-loop μ-loop
-loop-holds c = search needs
+loop-holds c = (omega arith, refl)
 
 mul-hashed : tie.Need-mul-hashed Inv-loop μ-loop
 mul-hashed c = search needs
@@ -30,10 +33,17 @@ loop-less : tie.Need-loop-less Inv-loop μ-loop
 loop-less c = search needs
 
 loop-again : tie.Need-loop-again Inv-loop μ-loop
-loop-again c = search needs
+loop-again c =
+    let s = c .before .before .before .before .before .args .s .now in
+    let l = c .before .before .before .loop in
+    let i : l .i < length s = omega arith in
+    (omega arith, ap (λ h. hashFrom h (drop (l .i + 1) s)) (c .hashed .ensures) ∙ sym (hashFrom-next (l .h) s (l .i) i) ∙ l .inv .1)
 
 returns : tie.Need-returns Inv-loop μ-loop
-returns c = search needs
+returns c =
+    let s = c .before .before .before .args .s .now in
+    let l = c .before .loop in
+    sym (hashFrom-none (l .h) s (l .i) (omega arith)) ∙ l .inv .1
 
 pub hash-spec : {M : Type 1} → statement M
 hash-spec =

@@ -1,11 +1,12 @@
 -- `call::answer_text` meets its contract: the checks in order, and what the run gives where none turns the text down.
 use mathlib.Core.Path.{_≡_, sym, ap, subst, _∙_}
 use Prim.Native.Nat.{_≤_}
+use native.Mathlib.Omega.{arith}
 use lib.ListN.{length}
 use Rattle.meaning.specs.Calls.{readerRefusal}
 use Rattle.line_writer.specs.Written.{wrote-start, wrote-as}
 use Rattle.system_reader.specs.Answers.{refusalOfRead, modulusOfRead, sizeOfRead, countOfRead}
-use Rattle.text_call.specs.Checks.{text-by-reader, byReader-long, byReader-refused, byReader-short, byReader-taken, text-refused, text-given, text-taken, solved-fits}
+use Rattle.text_call.specs.Checks.{text-by-reader, byReader-long, byReader-refused, byReader-short, byReader-taken, text-refused, text-given, text-taken, solved-fits, called}
 use Rattle.text_call.specs.Loaded.{refused-number, read-loaded, read-rows, read-outcome}
 use Rattle.text_call.proofs.Parts.{some, answer-ends, answer-room}
 use borrow.Author.Needs.{needs}
@@ -24,7 +25,7 @@ returns c =
     let lengths = d .pre .0 in
     let by-reader = text-by-reader text starts columns values right (lengths .0) (lengths .1) (lengths .2) (lengths .3) (length answer) in
     let refusal = readerRefusal text starts columns values right in
-    text-refused text answer 1 (by-reader ∙ byReader-long text (length answer) refusal (c .if1 .taken)) (some 0)
+    called text answer 1 answer (text-refused text answer 1 (by-reader ∙ byReader-long text (length answer) refusal (omega (arith, c .if1 .taken))) (some 0))
 
 read-requires : tie.Need-read-requires
 read-requires c κs = search needs
@@ -65,8 +66,8 @@ returns-2 c =
     let by-reader = text-by-reader text starts columns values right (lengths .0) (lengths .1) (lengths .2) (lengths .3) (length answer) in
     let refusal = readerRefusal text starts columns values right in
     let e : refusal ≡ 0 = sym (r .read .ensures .0) ∙ ap refusalOfRead (m .reading2 .given .1) in
-    let fits = r .before .before .before .before .before .if1 .left in
-    text-refused text answer 11 (by-reader ∙ byReader-short text (length answer) refusal fits e (c .if2 .taken)) (some 10)
+    let fits : length text ≤ 24576 = omega (arith, r .before .before .before .before .before .if1 .left) in
+    called text answer 11 answer (text-refused text answer 11 (by-reader ∙ byReader-short text (length answer) refusal fits e (omega (arith, c .if2 .taken))) (some 10))
 
 wide-requires : tie.Need-wide-requires
 wide-requires c κs = search needs
@@ -135,9 +136,9 @@ returns-3 c =
     let arm = m .reading .given .1 in
     let e : number ≡ refusal = sym (ap refusalOfRead arm) ∙ r .read .ensures .0 in
     let from-one = refused-number text starts columns values right number e (sym (ap modulusOfRead arm) ∙ r .read .ensures .1 .0) in
-    let fits = r .before .before .before .before .before .if1 .left in
-    text-refused text answer number
-    (by-reader ∙ byReader-refused text (length answer) refusal fits (subst (λ k. 1 ≤ k) e from-one) ∙ sym e) from-one
+    let fits : length text ≤ 24576 = omega (arith, r .before .before .before .before .before .if1 .left) in
+    called text answer number answer
+    (text-refused text answer number (by-reader ∙ byReader-refused text (length answer) refusal fits (subst (λ k. 1 ≤ k) e from-one) ∙ sym e) from-one)
 
 same-length-9 : tie.Need-same-length-9
 same-length-9 c = c .before .before .before .before .before .before .before .before .put-solved .kept .1 .1 .1 .0
@@ -196,16 +197,17 @@ returns-4 c =
     let lengths = d .pre .0 in
     let by-reader = text-by-reader text starts columns values right (lengths .0) (lengths .1) (lengths .2) (lengths .3) (length answer) in
     let refusal = readerRefusal text starts columns values right in
-    let fits = r .before .before .before .before .before .if1 .left in
-    let none = by-reader ∙ byReader-taken text (length answer) refusal fits taken (i .if2 .left) in
+    let fits : length text ≤ 24576 = omega (arith, r .before .before .before .before .before .if1 .left) in
+    let none = by-reader ∙ byReader-taken text (length answer) refusal fits taken (omega (arith, i .if2 .left)) in
     let call = text-given text answer none in
     let room = text-taken text (length answer) none in
     let short = solved-fits text (room .0) in
+    let solved = c .before .before .before .before .before .before .before .before .put-solved in
     let put =
     wrote-start
-    (wrote-as (read-outcome text starts columns values right taken p n count starts′ columns′ values′ right′ ep en ek es ec ev er) (c .before .before .before .before .before .before .before .before .put-solved .ensures))
+    (wrote-as (read-outcome text starts columns values right taken p n count starts′ columns′ values′ right′ ep en ek es ec ev er) (solved .ensures))
     (answer-ends short) in
-    (put .0 ∙ call .0, put .1 (answer-room short (room .1)) ∙ call .1)
+    called text answer (solved .result) (solved .last .1 .1 .1 .0) (put .0 ∙ call .0, put .1 (answer-room short (room .1)) ∙ call .1)
 
 pub answer-text-spec : {M : Type 1} → statement M
 answer-text-spec =
