@@ -9,7 +9,6 @@ mod survey;
 use crate::fill::fill_elements;
 use crate::fill::fill_entries;
 use crate::survey::Survey;
-use crate::survey::both;
 use crate::survey::first_pass;
 use checks::wide;
 use field::is_modulus;
@@ -19,7 +18,7 @@ ghost use Prim.Native.Nat.{_+_};
 ghost use lib.Dec.{eqb, leb};
 ghost use Rattle.meaning.specs.Refusal.{within};
 ghost use Rattle.meaning.specs.Calls.{readerRefusal, readerAnswer};
-ghost use Rattle.system_reader.specs.Surveys.{surveyRefusal, Surveyed};
+ghost use Rattle.system_reader.specs.Surveys.{surveyRefusal};
 ghost use Rattle.system_reader.specs.Answers.{refusalOfRead, modulusOfRead, sizeOfRead, countOfRead, modulusOfDocument, sizeOfDocument, countOfDocument};
 ghost use Rattle.system_reader.specs.Answers.{startsAfter, columnsAfter, valuesAfter, rightAfter};
 
@@ -50,22 +49,20 @@ fn count_taken(count: u32, entries: usize) -> bool
     }
 }
 
-// Whether a slice has as many places as are needed.
-fn fits(needed: usize, places: usize) -> bool
-    ensures { λ r. ⌜ r ≡ leb needed places ⌝ }
-{
-    needed <= places
-}
-
 // 11: the room in the slices.
 fn room(n: u32, count: u32, starts: usize, columns: usize, values: usize, right: usize) -> bool
     ensures { λ r. ⌜ r ≡ leb (n + 1) starts && leb count columns && leb count values && leb n right ⌝ }
 {
-    let entries = both(fits(wide(n) + 1, starts), fits(wide(count), columns));
-    both(
-        both(entries, fits(wide(count), values)),
-        fits(wide(n), right),
-    )
+    if starts < wide(n) + 1 {
+        return false;
+    }
+    if columns < wide(count) {
+        return false;
+    }
+    if values < wide(count) {
+        return false;
+    }
+    wide(n) <= right
 }
 
 // The first check that turns the text down, 0 if none does.
@@ -96,35 +93,6 @@ fn refusal(s: Survey, starts: usize, columns: usize, values: usize, right: usize
     0
 }
 
-// What follows the first pass: the checks on what it found, and then the slices.
-fn read_on(
-    text: &[u8],
-    s: Survey,
-    starts: &mut [u32],
-    columns: &mut [u32],
-    values: &mut [u32],
-    right: &mut [u32],
-) -> Reading
-    requires { ⌜ Surveyed (now text) s ⌝ }
-    ensures { λ r. ⌜ refusalOfRead r ≡ readerRefusal (now (text .entry)) (now (starts .entry)) (now (columns .entry)) (now (values .entry)) (now (right .entry)) ⌝ }
-    ensures { λ r. ⌜ modulusOfRead r ≡ readerAnswer modulusOfDocument (now (text .entry)) (now (starts .entry)) (now (columns .entry)) (now (values .entry)) (now (right .entry)) ⌝ }
-    ensures { λ r. ⌜ sizeOfRead r ≡ readerAnswer sizeOfDocument (now (text .entry)) (now (starts .entry)) (now (columns .entry)) (now (values .entry)) (now (right .entry)) ⌝ }
-    ensures { λ r. ⌜ countOfRead r ≡ readerAnswer countOfDocument (now (text .entry)) (now (starts .entry)) (now (columns .entry)) (now (values .entry)) (now (right .entry)) ⌝ }
-    ensures { λ _. ⌜ now (starts .exit) ≡ startsAfter (now (text .entry)) (now (starts .entry)) (now (columns .entry)) (now (values .entry)) (now (right .entry)) ⌝ }
-    ensures { λ _. ⌜ now (columns .exit) ≡ columnsAfter (now (text .entry)) (now (starts .entry)) (now (columns .entry)) (now (values .entry)) (now (right .entry)) ⌝ }
-    ensures { λ _. ⌜ now (values .exit) ≡ valuesAfter (now (text .entry)) (now (starts .entry)) (now (columns .entry)) (now (values .entry)) (now (right .entry)) ⌝ }
-    ensures { λ _. ⌜ now (right .exit) ≡ rightAfter (now (text .entry)) (now (starts .entry)) (now (columns .entry)) (now (values .entry)) (now (right .entry)) ⌝ }
-{
-    let number = refusal(s, starts.len(), columns.len(), values.len(), right.len());
-    if number != 0 {
-        return Reading::Refused(number);
-    }
-    let n = wide(s.n);
-    fill_entries(text, s.body, s.entries, n, starts, columns, values);
-    fill_elements(text, s.right, s.elements, n, right);
-    Reading::Read(s.p, s.n, s.count)
-}
-
 // Fills the leading parts of the slices with the text's system and leaves the rest; a refusal leaves all.
 pub fn read(
     text: &[u8],
@@ -143,5 +111,12 @@ pub fn read(
     ensures { λ _. ⌜ now (right .exit) ≡ rightAfter (now (text .entry)) (now (starts .entry)) (now (columns .entry)) (now (values .entry)) (now (right .entry)) ⌝ }
 {
     let s = first_pass(text);
-    read_on(text, s, starts, columns, values, right)
+    let number = refusal(s, starts.len(), columns.len(), values.len(), right.len());
+    if number != 0 {
+        return Reading::Refused(number);
+    }
+    let n = wide(s.n);
+    fill_entries(text, s.body, s.entries, n, starts, columns, values);
+    fill_elements(text, s.right, s.elements, n, right);
+    Reading::Read(s.p, s.n, s.count)
 }

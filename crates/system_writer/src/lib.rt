@@ -6,8 +6,7 @@ use crate::lines::whole_text;
 use checks::system_refusal;
 ghost use mathlib.Core.Path.{_≡_};
 ghost use Rattle.meaning.specs.Matrix.{matrix};
-ghost use Rattle.meaning.specs.Refusal.{first};
-ghost use Rattle.meaning.specs.Calls.{systemChecks, writerRefusal, writerAnswer, writerAfter};
+ghost use Rattle.meaning.specs.Calls.{writerRefusal, writerAnswer, writerAfter};
 ghost use Rattle.system_writer.specs.Answers.{refusalOfWritten, lengthOfWritten};
 
 // The text's length, or the number of the check that turned the system or the slice down.
@@ -16,35 +15,7 @@ pub enum Written {
     Refused(u32),
 }
 
-// What follows the checks on the system, of which `number` is the first that turns it down: 11, and then the text. It is measured first, in a
-// slice without room.
-fn write_on(
-    number: u32,
-    p: u32,
-    starts: &[u32],
-    columns: &[u32],
-    values: &[u32],
-    right: &[u32],
-    out: &mut [u8],
-) -> Written
-    requires { ⌜ number ≡ first (systemChecks p (matrix (now starts) (now columns) (now values)) (now right)) ⌝ }
-    ensures { λ r. ⌜ refusalOfWritten r ≡ writerRefusal p (matrix (now (starts .entry)) (now (columns .entry)) (now (values .entry))) (now (right .entry)) (now (out .entry)) ⌝ }
-    ensures { λ r. ⌜ lengthOfWritten r ≡ writerAnswer p (matrix (now (starts .entry)) (now (columns .entry)) (now (values .entry))) (now (right .entry)) (now (out .entry)) ⌝ }
-    ensures { λ _. ⌜ now (out .exit) ≡ writerAfter p (matrix (now (starts .entry)) (now (columns .entry)) (now (values .entry))) (now (right .entry)) (now (out .entry)) ⌝ }
-{
-    if number != 0 {
-        return Written::Refused(number);
-    }
-    let mut none = [0u8; 1];
-    let length = whole_text(&mut none, p, starts, columns, values, right);
-    if out.len() < length {
-        return Written::Refused(11);
-    }
-    whole_text(out, p, starts, columns, values, right);
-    Written::Length(length)
-}
-
-// Writes the system's text and leaves the bytes after it; a refusal leaves all.
+// Writes the system's text and leaves the bytes after it; a refusal leaves all. The text is measured first, in a slice without room.
 pub fn write(
     p: u32,
     starts: &[u32],
@@ -58,5 +29,14 @@ pub fn write(
     ensures { λ _. ⌜ now (out .exit) ≡ writerAfter p (matrix (now (starts .entry)) (now (columns .entry)) (now (values .entry))) (now (right .entry)) (now (out .entry)) ⌝ }
 {
     let number = system_refusal(p, starts, columns, values, right);
-    write_on(number, p, starts, columns, values, right, out)
+    if number != 0 {
+        return Written::Refused(number);
+    }
+    let mut none = [0u8; 1];
+    let length = whole_text(&mut none, p, starts, columns, values, right);
+    if out.len() < length {
+        return Written::Refused(11);
+    }
+    whole_text(out, p, starts, columns, values, right);
+    Written::Length(length)
 }

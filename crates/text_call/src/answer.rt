@@ -27,7 +27,7 @@ fn put_elements(
 }
 
 // The whole text: `head` is the first line's word, with the kind, and `word` that of the vector's lines.
-pub fn put_answer(
+pub(crate) fn put_answer(
     out: &mut [u8],
     head: &[u8],
     word: &[u8],

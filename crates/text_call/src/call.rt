@@ -112,7 +112,7 @@ fn put_solved(
 }
 
 // The text call, on arrays for 128 rows and 1,024 entries.
-pub fn answer_text(
+pub(crate) fn answer_text(
     text: &[u8],
     answer: &mut [u8],
     starts: &mut [u32],

@@ -1,4 +1,4 @@
--- `read_on` meets its contract.
+-- `read` meets its contract.
 use mathlib.Core.Path.{_≡_, sym, ap, _∙_, subst}
 use Prim.Native.Nat.{_+_, _≤_}
 use lib.ListN.{length}
@@ -7,17 +7,21 @@ use Rattle.meaning.specs.Calls.{readerRefusal}
 use Rattle.laws.specs.Refusal.{unlessRefused-none, unlessRefused-some}
 use Rattle.system_reader.specs.Surveys.{reader-refusal, accepted, entries-ahead, elements-ahead, starts-are, columns-are, values-are, right-is}
 use borrow.Author.Needs.{needs}
-use Rattle.system_reader.proofs.read_on.Statement.{statement}
-use Rattle.system_reader.proofs.read_on.Tie as tie
+use Rattle.system_reader.proofs.read.Statement.{statement}
+use Rattle.system_reader.proofs.read.Tie as tie
+
+first-pass-requires : tie.Need-first-pass-requires
+first-pass-requires c κs = search needs
 
 refusal-requires : tie.Need-refusal-requires
 refusal-requires c κs = search needs
 
 returns : tie.Need-returns
 returns c =
-    let d = c .before .before .before .before .before .before .before in
+    let d = c .before .before .before .before .before .before .before .before in
     let a = d .args in
-    let q = c .before .refusal .ensures ∙ reader-refusal (a .text .now) (a .starts .now) (a .columns .now) (a .values .now) (a .right .now) (a .s) (d .pre) in
+    let s = c .before .before .first-pass in
+    let q = c .before .refusal .ensures ∙ reader-refusal (a .text .now) (a .starts .now) (a .columns .now) (a .values .now) (a .right .now) (s .result) (s .ensures) in
     let k = readerRefusal (a .text .now) (a .starts .now) (a .columns .now) (a .values .now) (a .right .now) in
     let n : k ≡ 0 → ⊥ = λ e. c .if1 .taken (q ∙ e) in (
       q,
@@ -39,10 +43,11 @@ wide-requires c κs = search needs
 fill-entries-requires : tie.Need-fill-entries-requires
 fill-entries-requires c κs =
     let b = c .before .before .before .before in
-    let d = b .before .before .before .before .before .before .before in
-    let t = accepted (d .args .s) _ _ _ _ (sym (b .before .refusal .ensures) ∙ b .if1 .left) in
+    let d = b .before .before .before .before .before .before .before .before in
+    let s = b .before .before .first-pass in
+    let t = accepted (s .result) _ _ _ _ (sym (b .before .refusal .ensures) ∙ b .if1 .left) in
     let w = c .before .before .before .wide .ensures .0 in (
-      entries-ahead (d .args .text .now) (d .args .s) (d .pre .known (t .formed)) _ w (t .size) (t .few) (t .placed),
+      entries-ahead (d .args .text .now) (s .result) (s .ensures .known (t .formed)) _ w (t .size) (t .few) (t .placed),
       (
         subst (λ m. m + 1 ≤ length (d .args .starts .now)) (sym w) (t .starts),
         subst (λ m. m ≤ length (d .args .columns .now)) (t .count) (t .columns),
@@ -54,10 +59,11 @@ fill-elements-requires : tie.Need-fill-elements-requires
 fill-elements-requires c κs =
     let e = c .before .before .before .before .before .before .before .before .before .before .before in
     let b = e .before in
-    let d = b .before .before .before .before .before .before .before in
-    let t = accepted (d .args .s) _ _ _ _ (sym (b .before .refusal .ensures) ∙ b .if1 .left) in
+    let d = b .before .before .before .before .before .before .before .before in
+    let s = b .before .before .first-pass in
+    let t = accepted (s .result) _ _ _ _ (sym (b .before .refusal .ensures) ∙ b .if1 .left) in
     let w = e .wide .ensures .0 in (
-      elements-ahead (d .args .text .now) (d .args .s) (d .pre .known (t .formed)) _ w (t .size) (t .placed),
+      elements-ahead (d .args .text .now) (s .result) (s .ensures .known (t .formed)) _ w (t .size) (t .placed),
       subst (λ m. m ≤ length (d .args .right .now)) (sym w) (t .right),
     )
 
@@ -80,13 +86,14 @@ returns-2 c =
     let fa = g .fill-entries in
     let e = g .before .before .before .before in
     let b = e .before in
-    let d = b .before .before .before .before .before .before .before in
+    let d = b .before .before .before .before .before .before .before .before in
     let a = d .args in
+    let s = b .before .before .first-pass in
     let z = b .if1 .left in
-    let t = accepted (d .args .s) _ _ _ _ (sym (b .before .refusal .ensures) ∙ z) in
-    let m = d .pre .known (t .formed) in
+    let t = accepted (s .result) _ _ _ _ (sym (b .before .refusal .ensures) ∙ z) in
+    let m = s .ensures .known (t .formed) in
     let w = e .wide .ensures .0 in
-    let q = sym (reader-refusal (a .text .now) (a .starts .now) (a .columns .now) (a .values .now) (a .right .now) (a .s) (d .pre)) ∙ sym (b .before .refusal .ensures) ∙ z in
+    let q = sym (reader-refusal (a .text .now) (a .starts .now) (a .columns .now) (a .values .now) (a .right .now) (s .result) (s .ensures)) ∙ sym (b .before .refusal .ensures) ∙ z in
     let k = readerRefusal (a .text .now) (a .starts .now) (a .columns .now) (a .values .now) (a .right .now) in (
       sym q,
       (
@@ -96,12 +103,12 @@ returns-2 c =
           (
             sym (unlessRefused-none k _ 0 q ∙ m .count),
             (
-              fa .ensures .0 ∙ ap (λ l. overwrite l (a .starts .now)) (starts-are (a .text .now) (a .s) m _ w) ∙ sym (unlessRefused-none k _ (a .starts .now) q),
+              fa .ensures .0 ∙ ap (λ l. overwrite l (a .starts .now)) (starts-are (a .text .now) (s .result) m _ w) ∙ sym (unlessRefused-none k _ (a .starts .now) q),
               (
-                fa .ensures .1 .0 ∙ ap (λ l. overwrite l (a .columns .now)) (columns-are (a .text .now) (a .s) m) ∙ sym (unlessRefused-none k _ (a .columns .now) q),
+                fa .ensures .1 .0 ∙ ap (λ l. overwrite l (a .columns .now)) (columns-are (a .text .now) (s .result) m) ∙ sym (unlessRefused-none k _ (a .columns .now) q),
                 (
-                  fa .ensures .1 .1 ∙ ap (λ l. overwrite l (a .values .now)) (values-are (a .text .now) (a .s) m) ∙ sym (unlessRefused-none k _ (a .values .now) q),
-                  fe .ensures ∙ ap (λ l. overwrite l (a .right .now)) (right-is (a .text .now) (a .s) m _ w) ∙ sym (unlessRefused-none k _ (a .right .now) q),
+                  fa .ensures .1 .1 ∙ ap (λ l. overwrite l (a .values .now)) (values-are (a .text .now) (s .result) m) ∙ sym (unlessRefused-none k _ (a .values .now) q),
+                  fe .ensures ∙ ap (λ l. overwrite l (a .right .now)) (right-is (a .text .now) (s .result) m _ w) ∙ sym (unlessRefused-none k _ (a .right .now) q),
                 ),
               ),
             ),
@@ -110,10 +117,11 @@ returns-2 c =
       ),
     )
 
-pub read-on-spec : {M : Type 1} → statement M
-read-on-spec =
+pub read-spec : {M : Type 1} → statement M
+read-spec =
     tie.close
     (tie.spec
+    first-pass-requires
     refusal-requires
     returns
     wide-requires

@@ -1,4 +1,4 @@
--- `write_on` meets its contract.
+-- `write` meets its contract.
 use mathlib.Core.Path.{_≡_, sym, _∙_}
 use Prim.Native.Nat.{_≤_, _<_}
 use native.Mathlib.Omega.{arith}
@@ -12,18 +12,21 @@ use Rattle.laws.specs.Refusal.{unlessRefused-none, unlessRefused-some}
 use Rattle.text_laws.specs.Accepted.{system-accepted}
 use Rattle.system_writer.specs.Writes.{accepted-rows, writer-system, writer-short, writer-fits, writer-text}
 use borrow.Author.Needs.{needs}
-use Rattle.system_writer.proofs.write_on.Statement.{statement}
-use Rattle.system_writer.proofs.write_on.Tie as tie
+use Rattle.system_writer.proofs.write.Statement.{statement}
+use Rattle.system_writer.proofs.write.Tie as tie
+
+system-refusal-requires : tie.Need-system-refusal-requires
+system-refusal-requires c κs = search needs
 
 returns : tie.Need-returns
 returns c =
-    let d = c .before .before .before .before .before .before in
-    let a = d .args in
+    let a = c .before .before .before .before .before .before .before .args in
     let A = matrix (a .starts .now) (a .columns .now) (a .values .now) in
-    let n : first (systemChecks (a .p) A (a .right .now)) ≡ 0 → ⊥ = λ e. c .if1 .taken (d .pre ∙ e) in
+    let r = c .before .system-refusal in
+    let n : first (systemChecks (a .p) A (a .right .now)) ≡ 0 → ⊥ = λ e. c .if1 .taken (r .ensures ∙ e) in
     let q = writer-system (a .p) A (a .right .now) (a .out .now) n in
     let k : writerRefusal (a .p) A (a .right .now) (a .out .now) ≡ 0 → ⊥ = λ e. n (sym q ∙ e) in (
-      d .pre ∙ sym q,
+      r .ensures ∙ sym q,
       (
         sym (unlessRefused-some (writerRefusal (a .p) A (a .right .now) (a .out .now)) (length (write (a .p) A (a .right .now))) 0 k),
         sym (unlessRefused-some (writerRefusal (a .p) A (a .right .now) (a .out .now)) (overwrite (write (a .p) A (a .right .now)) (a .out .now)) (a .out .now) k),
@@ -36,19 +39,17 @@ slice-aggregate-whole-text c = search needs
 whole-text-requires : tie.Need-whole-text-requires
 whole-text-requires c κs =
     let b = c .before in
-    let d = b .before .before .before .before .before .before in
-    let a = d .args in
-    let s = system-accepted (a .p) (matrix (a .starts .now) (a .columns .now) (a .values .now)) (a .right .now) (sym (d .pre) ∙ b .if1 .left) in
+    let a = b .before .before .before .before .before .before .before .args in
+    let s = system-accepted (a .p) (matrix (a .starts .now) (a .columns .now) (a .values .now)) (a .right .now) (sym (b .before .system-refusal .ensures) ∙ b .if1 .left) in
     (accepted-rows (a .p) (a .starts .now) (a .columns .now) (a .values .now) (a .right .now) s, s .right-length)
 
 returns-2 : tie.Need-returns-2
 returns-2 c =
     let w = c .before .before .whole-text in
     let b = c .before .before .before .before in
-    let d = b .before .before .before .before .before .before in
-    let a = d .args in
+    let a = b .before .before .before .before .before .before .before .args in
     let A = matrix (a .starts .now) (a .columns .now) (a .values .now) in
-    let z = sym (d .pre) ∙ b .if1 .left in
+    let z = sym (b .before .system-refusal .ensures) ∙ b .if1 .left in
     let l : length (a .out .now) < length (write (a .p) A (a .right .now)) =
     omega (arith, c .if2 .taken, writer-text (a .p) A (a .right .now) (a .out .now) z (w .result) _ (w .last .0) (w .ensures) .0) in
     let q = writer-short (a .p) A (a .right .now) (a .out .now) z l in
@@ -63,9 +64,8 @@ returns-2 c =
 whole-text-requires-2 : tie.Need-whole-text-requires-2
 whole-text-requires-2 c κs =
     let b = c .before .before .before .before .before in
-    let d = b .before .before .before .before .before .before in
-    let a = d .args in
-    let s = system-accepted (a .p) (matrix (a .starts .now) (a .columns .now) (a .values .now)) (a .right .now) (sym (d .pre) ∙ b .if1 .left) in
+    let a = b .before .before .before .before .before .before .before .args in
+    let s = system-accepted (a .p) (matrix (a .starts .now) (a .columns .now) (a .values .now)) (a .right .now) (sym (b .before .system-refusal .ensures) ∙ b .if1 .left) in
     (accepted-rows (a .p) (a .starts .now) (a .columns .now) (a .values .now) (a .right .now) s, s .right-length)
 
 same-length : tie.Need-same-length
@@ -77,10 +77,9 @@ returns-3 c =
     let i = c .before .before .before .before in
     let w = i .before .before .whole-text in
     let b = i .before .before .before .before in
-    let d = b .before .before .before .before .before .before in
-    let a = d .args in
+    let a = b .before .before .before .before .before .before .before .args in
     let A = matrix (a .starts .now) (a .columns .now) (a .values .now) in
-    let z = sym (d .pre) ∙ b .if1 .left in
+    let z = sym (b .before .system-refusal .ensures) ∙ b .if1 .left in
     let measured = writer-text (a .p) A (a .right .now) (a .out .now) z (w .result) _ (w .last .0) (w .ensures) .0 in
     let l : length (write (a .p) A (a .right .now)) ≤ length (a .out .now) = omega (arith, i .if2 .left, measured) in
     let q = writer-fits (a .p) A (a .right .now) (a .out .now) z l in (
@@ -92,10 +91,11 @@ returns-3 c =
       ),
     )
 
-pub write-on-spec : {M : Type 1} → statement M
-write-on-spec =
+pub write-spec : {M : Type 1} → statement M
+write-spec =
     tie.close
     (tie.spec
+    system-refusal-requires
     returns
     slice-aggregate-whole-text
     whole-text-requires
