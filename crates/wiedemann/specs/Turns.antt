@@ -1,9 +1,10 @@
 -- Iterates of a vector in three regions of n places at the front of a slice: r in the first, the iterates in the other two by turns.
 --     Seat n a               a is where one of the regions begins
 --     Other n from to        the region to write next: neither the first nor that at `from`
+--     regionAt n i           where the iterate after i products stands: region-seat, region-other
 --     Turning                what a product from one region into another asks
 --     Advanced               what it leaves: Horner's step with r
---     regions, advanced      the step within the part that r and its iterates have is that
+--     regions, advanced, advanced-at      the step within the part that r and its iterates have is that
 --     Iterated               the terms of a sequence up to i, and Aⁱr in a region: iterated-none, iterated-more, iterated-from; Sequenced: all of
 --                            them, iterated-all
 --     Applying               Horner's rule down to coefficient i: applying-none, applying-more; Applied: all of it, r replaced, applied-all
@@ -12,17 +13,18 @@
 --     monic-leading          the leading coefficient of a monic polynomial
 --     vector-power, vector-terms, apply-unit      Aⁱv and the terms have elements below p; 1(A)v is v
 use mathlib.Core.Path.{_≡_, refl, sym, ap, ap₂, _∙_, subst}
-use mathlib.Core.Logic.{_⊎_, inl, inr}
-use mathlib.Core.Bool.{true, _&&_}
+use mathlib.Core.Logic.{_≢_, _⊎_, inl, inr}
+use mathlib.Core.Bool.{true, cond, _&&_}
 use mathlib.Core.List.{List, [], _∷_}
 use Prim.Native.Nat.{ℕ, zero, suc, _+_, _-_, _*_, _%_, _≤_, _<_}
 use native.Mathlib.Nat.{zero-add, add-zero, one-mul, mod-eq-of-lt, eq-or-lt-of-le}
+use native.Mathlib.Decide.{ℕ-discrete}
 use native.Mathlib.Numerals.{add-one}
 use native.Mathlib.Omega.{arith}
 use lib.ListN.{length, take, drop, set, length-set}
 use lib.Seq.{getD-set-same, getD-set-other, getD-drop, take-set-le, take-take}
 use lib.Dec.{eqb, ltb}
-use borrow.Author.Tests.{eqb-true}
+use borrow.Author.Tests.{eqb-true, eq-eqb, ne-eqb}
 use Rattle.meaning.specs.List.{at, sum, every, padded}
 use Rattle.meaning.specs.Field.{times, isModulus}
 use Rattle.meaning.specs.Matrix.{Matrix, size, product, power, apply}
@@ -58,6 +60,62 @@ pub record Other (n from to : ℕ) : Type 0 where
   pub high : n ≤ to
   pub low : to ≤ 2 * n
   pub apart : Apart to n from n
+
+-- r at the front, the others by turns behind it
+unfoldable pub regionAt : ℕ → ℕ → ℕ
+regionAt n i = cond (eqb i 0) 0 (cond (eqb (i % 2) 1) n (2 * n))
+
+pub region-first : (n : ℕ) → regionAt n 0 ≡ 0
+unfolding regionAt
+region-first n = refl
+
+pub region-odd : (n i : ℕ) → i % 2 ≡ 1 → regionAt n i ≡ n
+unfolding regionAt
+region-odd n i e =
+    ap (λ t. cond t 0 (cond (eqb (i % 2) 1) n (2 * n))) (ne-eqb i 0 (λ z. omega (arith, e, z))) ∙ ap (λ t. cond t n (2 * n)) (eq-eqb (i % 2) 1 e)
+
+pub region-even : (n i : ℕ) → i ≢ 0 → i % 2 ≢ 1 → regionAt n i ≡ 2 * n
+unfolding regionAt
+region-even n i l e =
+    ap (λ t. cond t 0 (cond (eqb (i % 2) 1) n (2 * n))) (ne-eqb i 0 l) ∙ ap (λ t. cond t n (2 * n)) (ne-eqb (i % 2) 1 e)
+
+pub region-seat : (n i : ℕ) → Seat n (regionAt n i)
+region-seat n i = go (ℕ-discrete i 0) (ℕ-discrete (i % 2) 1)
+  where
+    go : Dec (i ≡ 0) → Dec (i % 2 ≡ 1) → Seat n (regionAt n i)
+    go (yes e) q = origin (ap (regionAt n) e ∙ region-first n)
+    go (no l) (yes e) = odd (region-odd n i e)
+    go (no l) (no e) = even (region-even n i l e)
+
+pub region-other : (n i : ℕ) → Other n (regionAt n i) (regionAt n (i + 1))
+region-other n i = go (ℕ-discrete i 0) (ℕ-discrete (i % 2) 1)
+  where
+    to-odd : i % 2 ≢ 1 → Apart n n (regionAt n i) n → Other n (regionAt n i) (regionAt n (i + 1))
+    to-odd e apart =
+        let here = region-odd n (i + 1) (omega (arith, e)) in
+        record {
+          seat = odd here;
+          high = omega (arith, here);
+          low = omega (arith, here);
+          apart = subst (λ a. Apart a n (regionAt n i) n) (sym here) apart;
+        }
+
+    go : Dec (i ≡ 0) → Dec (i % 2 ≡ 1) → Other n (regionAt n i) (regionAt n (i + 1))
+    go (yes e) q =
+        let there = ap (regionAt n) e ∙ region-first n in
+        to-odd (λ z. omega (arith, e, z)) (region.after (omega (arith, there)))
+    go (no l) (yes e) =
+        let there = region-odd n i e in
+        let here = region-even n (i + 1) (λ z. omega (arith, z)) (λ z. omega (arith, e, z)) in
+        record {
+          seat = even here;
+          high = omega (arith, here);
+          low = omega (arith, here);
+          apart = region.after (omega (arith, here, there));
+        }
+    go (no l) (no e) =
+        let there = region-even n i l e in
+        to-odd e (region.before (omega (arith, there)))
 
 pub record Turning (p n from : ℕ) (W : List ℕ) : Type 0 where
   pub seat : Seat n from
@@ -120,6 +178,12 @@ advanced {p} {A} {c} {from} {to} {W} m {Y} e t o w =
         (written-inner W 0 m fits (omega (arith, e, o .low))
         (subst (λ v. Written (part 0 m W) to (size A) (stepAt p A c (part 0 (size A) W) v) Y) source-of
         (subst (λ x. Written (part 0 m W) to (size A) (stepAt p A c x (part from (size A) (part 0 m W))) Y) origin-of w)))
+
+-- the regions by their other names
+pub advanced-at : {p : ℕ} {A : Matrix} {c from from′ to to′ : ℕ} {W W′ : List ℕ} → from ≡ from′ → to ≡ to′ → Advanced p A c W from W′ to
+    → Advanced p A c W from′ W′ to′
+advanced-at {p} {A} {c} {from} {from′} {to} {to′} {W} {W′} e f a =
+    subst (λ k. Advanced p A c W k W′ to′) e (subst (λ k. Advanced p A c W from W′ k) f a)
 
 pub vector-power : (p : ℕ) (A : Matrix) (i : ℕ) (v : List ℕ) → 0 < p → Vector p (size A) v → Vector p (size A) (power p A i v)
 vector-power p A zero v l h = rw (power-zero p A v) h

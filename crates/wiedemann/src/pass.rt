@@ -12,7 +12,7 @@ ghost use Rattle.modular.specs.Modulus.{Modular};
 ghost use Rattle.checks.specs.Valid.{Valid, Vector};
 ghost use Rattle.laws.specs.Part.{part};
 ghost use Rattle.wiedemann.specs.Projection.{Words};
-ghost use Rattle.wiedemann.specs.Turns.{Seat, Other, Turning, Advanced, Sequenced, Leading, Applied, Generated, Shortened};
+ghost use Rattle.wiedemann.specs.Turns.{regionAt, Turning, Advanced, Sequenced, Leading, Applied, Generated, Shortened};
 ghost use Rattle.wiedemann.specs.Pass.{generatorAt, passed, Makes, Passes};
 ghost use Rattle.checks.specs.Pass.{State};
 use crate::matrix::step_within;
@@ -28,21 +28,19 @@ use recurrence::generate;
 use slices::copy_within;
 use slices::put;
 
-// What products with A have made of r: where its region begins, and how many products led there.
-struct Iterate {
-    at: usize,
-    products: usize,
-}
-
-// The region of the next iterate: the second after the first and the third, the third after the second.
-fn other(n: usize, from: usize) -> usize
-    requires { ⌜ Seat n from × (n ≤ 4096) ⌝ }
-    ensures { λ to. ⌜ Other n from to ⌝ }
+// Where the iterate of r after i products stands: r at the front, the others by turns in the two regions behind it.
+fn region(n: usize, i: usize) -> usize
+    requires { ⌜ n ≤ 4096 ⌝ }
+    ensures { λ r. ⌜ r ≡ regionAt n i ⌝ }
 {
-    if from == n { 2 * n } else { n }
+    if i == 0 {
+        return 0;
+    }
+    if i % 2 == 1 { n } else { 2 * n }
 }
 
-// Horner's step: c × r plus A times the iterate, into the next region. r and the iterates are lent to it.
+// Horner's step after i products: c × r plus A times the iterate, into the next region. r and the iterates are lent to it. The answer is how many
+// products there are then.
 fn advance(
     m: Modulus,
     c: u32,
@@ -50,16 +48,17 @@ fn advance(
     columns: &[u32],
     values: &[u32],
     area: &mut [u32],
-    x: Iterate,
-) -> Iterate
+    i: usize,
+) -> usize
     requires { ⌜ Valid (m .p) (matrix (now starts) (now columns) (now values)) ⌝ }
-    requires { ⌜ Modular m × Turning (m .p) (length (now starts) - 1) (x .at) (now area) × (x .products ≤ 16384) ⌝ }
-    ensures { λ y. ⌜ (y .products ≡ x .products + 1)
-        × Advanced (m .p) (matrix (now (starts .entry)) (now (columns .entry)) (now (values .entry))) c
-        (now (area .entry)) (x .at) (now (area .exit)) (y .at) ⌝ }
+    requires { ⌜ Modular m × Turning (m .p) (length (now starts) - 1) (regionAt (length (now starts) - 1) i) (now area) × (i ≤ 16384) ⌝ }
+    ensures { λ k. ⌜ (k ≡ i + 1) × Advanced (m .p) (matrix (now (starts .entry)) (now (columns .entry)) (now (values .entry))) c
+        (now (area .entry)) (regionAt (length (now (starts .entry)) - 1) i)
+        (now (area .exit)) (regionAt (length (now (starts .entry)) - 1) k) ⌝ }
 {
     let n = starts.len() - 1;
-    let to = other(n, x.at);
+    let from = region(n, i);
+    let to = region(n, i + 1);
     let r: usize = 0;
     let end = 3 * n;
     let made = step_within(
@@ -70,37 +69,26 @@ fn advance(
         values,
         &mut area[r..end],
         r,
-        x.at,
+        from,
         to,
     );
-    Iterate {
-        at: to,
-        products: x.products + made,
-    }
+    i + made
 }
 
-// The term of an iterate Aⁱr, which has the place i among the 2 × left terms: its dot product with the projection.
-fn term(
-    m: Modulus,
-    words: &[u32],
-    u: Projection,
-    n: usize,
-    area: &mut [u32],
-    x: Iterate,
-    left: usize,
-)
+// Term i of the 2 × left: the projection's dot product with the iterate Aⁱr.
+fn term(m: Modulus, words: &[u32], u: Projection, n: usize, area: &mut [u32], i: usize, left: usize)
     requires { ⌜ Modular m × (n ≤ 4096) × (left ≤ 4096) × Words n (u .vectors) (now words) ⌝ }
-    requires { ⌜ (x .at + n ≤ length (now area)) × (3 * n + 2 * left ≤ length (now area)) × (x .products < 2 * left)
-        × Vector (m .p) n (part (x .at) n (now area)) ⌝ }
-    ensures { λ _. ⌜ now (area .exit) ≡ set (now (area .entry)) (3 * n + x .products)
-        (dot (m .p) (getD (projections (m .p) n (now (words .entry))) (u .index) []) (part (x .at) n (now (area .entry)))) ⌝ }
+    requires { ⌜ (regionAt n i + n ≤ length (now area)) × (3 * n + 2 * left ≤ length (now area)) × (i < 2 * left)
+        × Vector (m .p) n (part (regionAt n i) n (now area)) ⌝ }
+    ensures { λ _. ⌜ now (area .exit) ≡ set (now (area .entry)) (3 * n + i)
+        (dot (m .p) (getD (projections (m .p) n (now (words .entry))) (u .index) []) (part (regionAt n i) n (now (area .entry)))) ⌝ }
 {
-    let from = x.at;
+    let from = region(n, i);
     let to = from + n;
     let value = projected(m, words, u, &area[from..to]);
     let first = 3 * n;
     let end = first + 2 * left;
-    put(&mut area[first..end], x.products, value);
+    put(&mut area[first..end], i, value);
 }
 
 // The 2 × left terms u·r, u·Ar, u·A²r, .. where the recurrence begins; the answer is how many products they took.
@@ -123,13 +111,13 @@ fn terms(
         (now (area .entry)) (now (area .exit)) ⌝ }
 {
     let n = starts.len() - 1;
-    let mut x = Iterate { at: 0, products: 0 };
-    term(m, words, u, n, area, x, left);
-    while x.products + 1 < 2 * left {
-        x = advance(m, 0, starts, columns, values, area, x);
-        term(m, words, u, n, area, x, left);
+    let mut i = 0;
+    term(m, words, u, n, area, i, left);
+    while i + 1 < 2 * left {
+        i = advance(m, 0, starts, columns, values, area, i);
+        term(m, words, u, n, area, i, left);
     }
-    x.products
+    i
 }
 
 // The degree of the shortest recurrence of the `count` terms from `from` on; its generator stands behind them.
@@ -161,18 +149,18 @@ fn apply_within(
     ensures { λ made. ⌜ (made ≡ t) × Applied (m .p) (matrix (now (starts .entry)) (now (columns .entry)) (now (values .entry)))
         (now (area .entry)) f t (now (area .exit)) ⌝ }
 {
-    let mut x = Iterate { at: 0, products: 0 };
+    let mut made = 0;
     let mut i = t;
     while 0 < i {
         i -= 1;
         let c = area[f + i];
-        x = advance(m, c, starts, columns, values, area, x);
+        made = advance(m, c, starts, columns, values, area, made);
     }
     let n = starts.len() - 1;
     let r: usize = 0;
     let end = 3 * n;
-    copy_within(&mut area[r..end], x.at, r, n);
-    x.products
+    copy_within(&mut area[r..end], region(n, made), r, n);
+    made
 }
 
 // A pass: left, its degree t, its applications.

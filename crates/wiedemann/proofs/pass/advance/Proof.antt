@@ -1,21 +1,40 @@
-use mathlib.Core.Path.{ap}
+use mathlib.Core.Path.{_≡_, sym, ap, _∙_, subst}
 use native.Mathlib.Omega.{arith}
 use Prim.Native.Nat.{_+_, _-_, _*_}
 use lib.ListN.{length}
 use denote.Ref.{now}
-use Rattle.wiedemann.specs.Turns.{regions, advanced}
+use Rattle.wiedemann.specs.Turns.{Other, Turning, regionAt, region-other, regions, advanced, advanced-at}
 use borrow.Author.Needs.{needs}
 use Rattle.wiedemann.proofs.pass.advance.Statement.{statement}
 use Rattle.wiedemann.proofs.pass.advance.Tie as tie
 
+-- the two regions, as the code has worked them out
+turning : (c : tie.After-region2)
+    → let a = c .before .before .before .before .before .before .args in
+    let n = length (now (a .starts)) - 1 in
+    Turning (a .m .p) n (c .before .region .result) (now (a .area)) × Other n (c .before .region .result) (c .region2 .result)
+turning c =
+    let a = c .before .before .before .before .before .before .args in
+    let n = length (now (a .starts)) - 1 in
+    let from = sym (c .before .region .ensures) in (
+      subst (λ k. Turning (a .m .p) n k (now (a .area))) from (c .before .before .before .before .before .before .pre .1 .1),
+      subst (λ k. Other n k (c .region2 .result)) from (subst (λ k. Other n (regionAt n (a .i)) k) (sym (c .region2 .ensures)) (region-other n (a .i))),
+    )
+
 sub-n : tie.Need-sub-n
 sub-n c = search needs
 
-other-requires : tie.Need-other-requires
-other-requires c κs = (c .before .before .before .before .pre .1 .1 .seat, c .before .before .before .before .pre .0 .sized)
+region-requires : tie.Need-region-requires
+region-requires c κs = c .before .before .before .before .pre .0 .sized
+
+add-region : tie.Need-add-region
+add-region c = omega (arith, c .before .before .before .before .before .pre .1 .2)
+
+region-requires-2 : tie.Need-region-requires-2
+region-requires-2 c κs = c .before .before .before .before .before .pre .0 .sized
 
 mul-end : tie.Need-mul-end
-mul-end c = omega (arith, c .before .before .before .before .before .pre .0 .sized)
+mul-end c = omega (arith, c .before .before .before .before .before .before .pre .0 .sized)
 
 mul-step-within : tie.Need-mul-step-within
 mul-step-within c = search needs
@@ -27,17 +46,17 @@ part-step-within-start : tie.Need-part-step-within-start
 part-step-within-start c = search needs
 
 part-step-within-end : tie.Need-part-step-within-end
-part-step-within-end c = omega (arith, c .before .before .before .before .before .pre .1 .1 .room)
+part-step-within-end c = omega (arith, c .before .before .before .before .before .before .pre .1 .1 .room)
 
 step-within-requires : tie.Need-step-within-requires
 step-within-requires c κs =
-    let a = c .before .before .before .before .before .before .args in
-    let pre = c .before .before .before .before .before .before .pre in
-    let n = length (now (a .starts)) - 1 in
-    (pre .0, (pre .1 .0, regions (3 * n - 0) (omega arith) (pre .1 .1) (c .before .other .ensures)))
+    let pre = c .before .before .before .before .before .before .before .pre in
+    let n = length (now (c .before .before .before .before .before .before .before .args .starts)) - 1 in
+    let t = turning (c .before) in
+    (pre .0, (pre .1 .0, regions (3 * n - 0) (omega arith) (t .0) (t .1)))
 
-add-t13 : tie.Need-add-t13
-add-t13 c = omega (arith, c .before .before .before .step-within .ensures .0, c .before .before .before .before .before .before .before .before .before .before .pre .1 .2)
+add-result : tie.Need-add-result
+add-result c = omega (arith, c .before .before .step-within .ensures .0, c .before .before .before .before .before .before .before .before .before .before .pre .1 .2)
 
 same-length : tie.Need-same-length
 same-length c = search needs
@@ -45,23 +64,28 @@ same-length c = search needs
 returns : tie.Need-returns
 returns c =
     let a = c .before .before .before .before .before .before .before .before .before .before .args in
-    let pre = c .before .before .before .before .before .before .before .before .before .before .pre in
     let n = length (now (a .starts)) - 1 in
-    let made = c .before .before .before .step-within .ensures in
-    (ap (λ k. a .x .products + k) (made .0), advanced (3 * n - 0) (omega arith) (pre .1 .1) (c .before .before .before .before .before .other .ensures) (made .1))
+    let made = c .before .before .step-within .ensures in
+    let t = turning (c .before .before .before .before) in
+    let one : a .i + c .before .before .step-within .result ≡ a .i + 1 = ap (λ k. a .i + k) (made .0) in (
+      one,
+      advanced-at (c .before .before .before .before .before .region .ensures) (c .before .before .before .before .region2 .ensures ∙ ap (regionAt n) (sym one)) (advanced (3 * n - 0) (omega arith) (t .0) (t .1) (made .1)),
+    )
 
 pub advance-spec : {M : Type 1} → statement M
 advance-spec =
     tie.close
     (tie.spec
     sub-n
-    other-requires
+    region-requires
+    add-region
+    region-requires-2
     mul-end
     mul-step-within
     sub-step-within
     part-step-within-start
     part-step-within-end
     step-within-requires
-    add-t13
+    add-result
     same-length
     returns)

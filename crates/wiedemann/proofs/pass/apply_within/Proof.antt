@@ -1,4 +1,4 @@
-use Rattle.wiedemann.specs.Turns.{seat-low, Applying, applying-none, applying-more, applied-all}
+use Rattle.wiedemann.specs.Turns.{seat-low, regionAt, region-first, Applying, applying-none, applying-more, applied-all}
 use mathlib.Core.Logic.{inl}
 use Rattle.wiedemann.specs.Horner.{vector-apply}
 use Rattle.meaning.specs.Matrix.{matrix}
@@ -7,20 +7,23 @@ use denote.Ref.{now}
 use lib.ListN.{length}
 use native.Mathlib.Omega.{arith}
 use Prim.Native.Nat.{_+_, _-_, _*_}
-use mathlib.Core.Path.{_≡_, refl, subst}
+use mathlib.Core.Path.{_≡_, refl, sym, subst}
 use borrow.Author.Needs.{needs}
 use Rattle.wiedemann.proofs.pass.apply_within.Statement.{statement}
 use Rattle.wiedemann.proofs.pass.apply_within.Tie as tie
 
 abbrev Inv-loop : tie.InvT-loop
-Inv-loop m starts columns values area₀ f t x₀ i₀ area x i =
-    (x .products + i ≡ t) × Applying (m .p) (matrix starts columns values) area₀ f t i (x .at) area
+Inv-loop m starts columns values area₀ f t made₀ i₀ area made i =
+    (made + i ≡ t) × Applying (m .p) (matrix starts columns values) area₀ f t i (regionAt (length starts - 1) made) area
 
 abbrev μ-loop : tie.MeasureT-loop
-μ-loop m starts columns values area₀ f t x₀ i₀ area x i = i
+μ-loop m starts columns values area₀ f t made₀ i₀ area made i = i
 
 loop-holds : tie.Need-loop-holds Inv-loop μ-loop
-loop-holds c = (omega arith, applying-none (c .before .before .before .before .pre .1 .2))
+loop-holds c =
+    let a = c .before .before .before .before .args in
+    let n = length (now (a .starts)) - 1 in
+    (omega arith, subst (λ k. Applying (a .m .p) (matrix (now (a .starts)) (now (a .columns)) (now (a .values))) (now (a .area)) (a .f) (a .t) (a .t) k (now (a .area))) (sym (region-first n)) (applying-none (c .before .before .before .before .pre .1 .2)))
 
 sub-i : tie.Need-sub-i Inv-loop μ-loop
 sub-i c = search needs
@@ -65,9 +68,10 @@ loop-again c =
     let i = loop .i - 1 in
     let test = c .before .before .before .before .before .loop-test .taken in
     let made = c .before .before .advance .ensures in
-    let back : loop .i ≡ i + 1 = omega (arith, test) in (
+    let back : loop .i ≡ i + 1 = omega (arith, test) in
+    let n = length (now (a .starts)) - 1 in (
       omega (arith, loop .inv .0, made .0, test),
-      applying-more _ (pre .0) (pre .1 .2) (subst (λ m. Applying (a .m .p) A (now (a .area)) (a .f) (a .t) m (loop .x .at) (loop .area)) back (loop .inv .1))
+      applying-more _ (pre .0) (pre .1 .2) (subst (λ m. Applying (a .m .p) A (now (a .area)) (a .f) (a .t) m (regionAt n (loop .made)) (loop .area)) back (loop .inv .1))
           (omega (arith, loop .inv .0, test)) refl (made .1),
     )
 
@@ -90,6 +94,9 @@ part-copy-within-end : tie.Need-part-copy-within-end Inv-loop μ-loop
 part-copy-within-end c =
     omega (arith, c .before .loop .inv .1 .same-length, c .before .before .before .before .before .before .pre .1 .2 .above, c .before .before .before .before .before .before .pre .1 .2 .room)
 
+region-requires : tie.Need-region-requires Inv-loop μ-loop
+region-requires c κs = c .before .before .before .before .before .before .before .pre .0 .sized
+
 copy-within-requires : tie.Need-copy-within-requires Inv-loop μ-loop
 copy-within-requires c κs = search needs
 
@@ -98,18 +105,20 @@ same-length c = search needs
 
 returns : tie.Need-returns Inv-loop μ-loop
 returns c =
-    let a = c .before .before .before .before .before .before .before .before .before .before .args in
-    let h = c .before .before .before .before .before .before .before .before .before .before .pre .1 .2 in
-    let loop = c .before .before .before .before .before .loop in
+    let a = c .before .before .before .before .before .before .before .before .before .before .before .args in
+    let h = c .before .before .before .before .before .before .before .before .before .before .before .pre .1 .2 in
+    let loop = c .before .before .before .before .before .before .loop in
     let A = matrix (now (a .starts)) (now (a .columns)) (now (a .values)) in
     let n = length (now (a .starts)) - 1 in
     let m = 3 * n - 0 in
-    let ended : loop .i ≡ 0 = omega (arith, c .before .before .before .before .loop-test .left) in
+    let at = c .before .before .before .region .ensures in
+    let ended : loop .i ≡ 0 = omega (arith, c .before .before .before .before .before .loop-test .left) in
     let long = length-part 0 m (loop .area) (omega (arith, loop .inv .1 .same-length, h .above, h .room)) in (
       omega (arith, loop .inv .0, ended),
       applied-all m (omega arith) (omega (arith, h .above, h .room))
-          (subst (λ m. Applying (a .m .p) A (now (a .area)) (a .f) (a .t) m (loop .x .at) (loop .area)) ended (loop .inv .1))
-          (c .before .before .copy-within .ensures .copied (omega (arith, long, seat-low (loop .inv .1 .seat)), omega (arith, long), inl (omega arith))),
+          (subst (λ k. Applying (a .m .p) A (now (a .area)) (a .f) (a .t) 0 k (loop .area)) (sym at)
+          (subst (λ k. Applying (a .m .p) A (now (a .area)) (a .f) (a .t) k (regionAt n (loop .made)) (loop .area)) ended (loop .inv .1)))
+          (c .before .before .copy-within .ensures .copied (omega (arith, long, at, seat-low (loop .inv .1 .seat)), omega (arith, long), inl (omega arith))),
     )
 
 pub apply-within-spec : {M : Type 1} → statement M
@@ -132,6 +141,7 @@ apply-within-spec =
     sub-copy-within
     part-copy-within-start
     part-copy-within-end
+    region-requires
     copy-within-requires
     same-length
     returns)
