@@ -17,22 +17,24 @@ use modular::modulus::Modulus;
 use modular::multiplier::Multiplier;
 use slices::clear;
 
-// c × the value of each entry added to out at its column: what a row adds to the transposed product. Its entries share one multiplier.
+// v[i] × the value of each entry added to out at its column: what row i adds to the transposed product. Its entries share one multiplier.
 fn scatter(
     m: Modulus,
-    c: u32,
+    i: usize,
     from: usize,
     to: usize,
     columns: &[u32],
     values: &[u32],
+    v: &[u32],
     out: &mut [u32],
 )
-    requires { ⌜ (c < m .p) × Modular m × (from ≤ to) × (to ≤ length (now columns))
+    requires { ⌜ (i < length (now v)) × Vector (m .p) (length (now out)) (now v) × Modular m × (from ≤ to) × (to ≤ length (now columns))
         × (length (now columns) ≡ length (now values)) × Vector (m .p) (length (now out)) (now out) ⌝ }
     requires { ⌜ ((k : ℕ) → k < length (now columns) → at (now columns) k < length (now out)) ⌝ }
-    ensures { λ r. ⌜ now (out .exit) ≡ scattered (m .p) c from to (now (columns .entry)) (now (values .entry)) (now (out .entry)) ⌝ }
+    ensures { λ r. ⌜ now (out .exit)
+        ≡ scattered (m .p) (at (now (v .entry)) i) from to (now (columns .entry)) (now (values .entry)) (now (out .entry)) ⌝ }
 {
-    let multiplier = Multiplier::of(m, c);
+    let multiplier = Multiplier::of(m, v[i]);
     let mut k = from;
     while k < to {
         let j = wide(columns[k]);
@@ -59,7 +61,7 @@ fn transposed_into(
     let mut i = 0;
     while i < v.len() {
         let to = wide(starts[i + 1]);
-        scatter(m, v[i], from, to, columns, values, out);
+        scatter(m, i, from, to, columns, values, v, out);
         from = to;
         i += 1;
     }

@@ -1,7 +1,7 @@
 -- Iterates of a vector in three regions of n places at the front of a slice: r in the first, the iterates in the other two by turns.
 --     Seat n a               a is where one of the regions begins
 --     Other n from to        the region to write next: neither the first nor that at `from`
---     regionAt n i           where the iterate after i products stands: region-seat, region-other
+--     regionAt n i           where the iterate after i products stands: region-first, region-odd, region-even; region-other: the next one
 --     Turning                what a product from one region into another asks
 --     Advanced               what it leaves: Horner's step with r
 --     regions, advanced, advanced-at      the step within the part that r and its iterates have is that
@@ -78,14 +78,6 @@ pub region-even : (n i : ℕ) → i ≢ 0 → i % 2 ≢ 1 → regionAt n i ≡ 2
 unfolding regionAt
 region-even n i l e =
     ap (λ t. cond t 0 (cond (eqb (i % 2) 1) n (2 * n))) (ne-eqb i 0 l) ∙ ap (λ t. cond t n (2 * n)) (ne-eqb (i % 2) 1 e)
-
-pub region-seat : (n i : ℕ) → Seat n (regionAt n i)
-region-seat n i = go (ℕ-discrete i 0) (ℕ-discrete (i % 2) 1)
-  where
-    go : Dec (i ≡ 0) → Dec (i % 2 ≡ 1) → Seat n (regionAt n i)
-    go (yes e) q = origin (ap (regionAt n) e ∙ region-first n)
-    go (no l) (yes e) = odd (region-odd n i e)
-    go (no l) (no e) = even (region-even n i l e)
 
 pub region-other : (n i : ℕ) → Other n (regionAt n i) (regionAt n (i + 1))
 region-other n i = go (ℕ-discrete i 0) (ℕ-discrete (i % 2) 1)

@@ -62,24 +62,20 @@ shared-slice-read-wide-2 c = omega (arith, inside (c .before), c .before .before
 wide-requires-2 : tie.Need-wide-requires-2 Inv-loop μ-loop
 wide-requires-2 c κs = search needs
 
-mul-scatter : tie.Need-mul-scatter Inv-loop μ-loop
-mul-scatter c = omega (arith, inside (c .before .before), c .before .before .before .before .before .before .before .before .before .before .before .before .before .before .before .pre .0 .0 .sized)
-
-shared-slice-read-scatter : tie.Need-shared-slice-read-scatter Inv-loop μ-loop
-shared-slice-read-scatter c = omega (arith, c .before .before .before .loop-test .taken)
-
 scatter-requires : tie.Need-scatter-requires Inv-loop μ-loop
 scatter-requires c κs =
-    let start = c .before .before .before .before .before .before .before .before .before .before .before .before .before .before .before .before .before in
+    let start = c .before .before .before .before .before .before .before .before .before .before .before .before .before .before .before .before in
     let at = start .args in
     let known = start .pre .0 .0 in
-    let loop = c .before .before .before .before .before .loop in
-    let within = inside (c .before .before .before .before) in
-    let to = c .before .before .wide2 in
+    let loop = c .before .before .before .before .loop in
+    let within = inside (c .before .before .before) in
+    let to = c .before .wide2 in
     let bounds = row-bounds (matrix (now (at .starts)) (now (at .columns)) (now (at .values))) (loop .i) (loop .from) (to .result) (loop .inv .1) (to .ensures .0) known within in
-    let before = vector (c .before .before .before .before .before) in (
+    let before = vector (c .before .before .before .before) in
+    let v = start .pre .1 .1 in (
       (
-        start .pre .1 .1 .below _ (omega (arith, within)),
+        omega (arith, within, v .places),
+        record { places = v .places ∙ sym (before .places); below = λ j l. v .below j (omega (arith, l, before .places)) },
         start .pre .0 .1,
         bounds .0,
         bounds .1,
@@ -90,20 +86,20 @@ scatter-requires c κs =
     )
 
 add-i : tie.Need-add-i Inv-loop μ-loop
-add-i c = omega (arith, inside (c .before .before .before .before .before .before .before), c .before .before .before .before .before .before .before .before .before .before .before .before .before .before .before .before .before .before .before .before .pre .0 .0 .sized)
+add-i c = omega (arith, inside (c .before .before .before .before .before .before), c .before .before .before .before .before .before .before .before .before .before .before .before .before .before .before .before .before .before .before .pre .0 .0 .sized)
 
 loop-less : tie.Need-loop-less Inv-loop μ-loop
-loop-less c = omega (arith, c .before .before .before .before .before .before .before .loop-test .taken)
+loop-less c = omega (arith, c .before .before .before .before .before .before .loop-test .taken)
 
 loop-again : tie.Need-loop-again Inv-loop μ-loop
 loop-again c =
-    let at = c .before .before .before .before .before .before .before .before .before .before .before .before .before .before .before .before .before .before .before .before .args in
-    let loop = c .before .before .before .before .before .before .before .before .loop in
-    let to = c .before .before .before .before .before .wide2 in
+    let at = c .before .before .before .before .before .before .before .before .before .before .before .before .before .before .before .before .before .before .before .args in
+    let loop = c .before .before .before .before .before .before .before .loop in
+    let to = c .before .before .before .before .wide2 in
     let made = c .before .before .scatter in (
-      omega (arith, c .before .before .before .before .before .before .before .loop-test .taken),
+      omega (arith, c .before .before .before .before .before .before .loop-test .taken),
       to .ensures .0,
-      gathered-next (at .m .p) (matrix (now (at .starts)) (now (at .columns)) (now (at .values))) (now (at .v)) (loop .i) (loop .from) (to .result) (loop .out) (made .last .1 .1 .1 .1 .1 .1 .0) (loop .inv .1)
+      gathered-next (at .m .p) (matrix (now (at .starts)) (now (at .columns)) (now (at .values))) (now (at .v)) (loop .i) (loop .from) (to .result) (loop .out) (made .last .1 .1 .1 .1 .1 .1 .1 .0) (loop .inv .1)
           (to .ensures .0) (loop .inv .2) (made .ensures),
     )
 
@@ -133,8 +129,6 @@ transposed-into-spec =
     mul-wide
     shared-slice-read-wide-2
     wide-requires-2
-    mul-scatter
-    shared-slice-read-scatter
     scatter-requires
     add-i
     loop-less
