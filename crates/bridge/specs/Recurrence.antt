@@ -17,15 +17,15 @@ use native.Mathlib.Nat.{mod-lt, mod-eq-of-lt}
 use native.Mathlib.Numerals.{add-one}
 use native.Mathlib.Decide.{decLt, ℕ-discrete}
 use native.Mathlib.Omega.{arith}
-use lib.Dec.{eqb, ltb}
+use lib.Dec.{eqb}
 use lib.ListN.{length}
 use borrow.Author.Tests.{eqb-true, eq-eqb}
-use Rattle.meaning.specs.List.{at, sum as sumℕ, every}
+use Rattle.meaning.specs.List.{at, sum as sumℕ}
 use Rattle.meaning.specs.Field.{minus, times, inverse}
 use Rattle.meaning.specs.Recurrence.{isMonic, recurs, IsShortest, Steps, start, discrepancy, update, step, steps, reversed, degree, generator}
-use Rattle.laws.specs.Bool.{and-left, and-right, and-both}
+use Rattle.laws.specs.Bool.{and-both}
 use Rattle.laws.specs.List.{all-at, all-of}
-use Rattle.laws.specs.Recurrence.{times-lt, step-zero, step-grow, step-stay, steps-zero, steps-suc, discrepancy-lt, length-generator, generator-below}
+use Rattle.laws.specs.Recurrence.{monic-length, monic-elements, monic-leading, times-lt, step-zero, step-grow, step-stay, steps-zero, steps-suc, discrepancy-lt, length-generator, generator-below}
 use Rattle.algebra.specs.Ring.{Ring, Field, ring-laws}
 use Rattle.algebra.specs.Sum.{sum, sum-ext}
 use Rattle.algebra.specs.Polynomial.{Below, Monic, Recurs, Shortest, shift, const}
@@ -165,19 +165,13 @@ module _ (p : ℕ) (h : Prime p) where
     pub monic : Monic R d (coef p h f)
 
   pub monic-to : (d : ℕ) (f : List ℕ) → isMonic p d f ≡ true → IsMonic d f
-  unfolding isMonic
   monic-to d f e =
+      let long = monic-length p d f e in
       record {
-        size = size;
-        reduced = every-reduced p f (and-right (eqb (length f) (d + 1)) (every (λ a. ltb a p) f) left);
-        monic = record { lead = ap (mk p h) (eqb-true (at f d) 1 (and-right (eqb (length f) (d + 1) && every (λ a. ltb a p) f) (eqb (at f d) 1) e)) ∙ mk-one p h; above = λ i l. coef-below p h f i (omega (arith, size)) };
+        size = long;
+        reduced = every-reduced p f (monic-elements p d f e);
+        monic = record { lead = ap (mk p h) (monic-leading p d f e) ∙ mk-one p h; above = λ i l. coef-below p h f i (omega (arith, long)) };
       }
-    where
-      left : eqb (length f) (d + 1) && every (λ a. ltb a p) f ≡ true
-      left = and-left (eqb (length f) (d + 1) && every (λ a. ltb a p) f) (eqb (at f d) 1) e
-
-      size : length f ≡ d + 1
-      size = eqb-true (length f) (d + 1) (and-left (eqb (length f) (d + 1)) (every (λ a. ltb a p) f) left)
 
   pub monic-from : (d : ℕ) (f : List ℕ) → IsMonic d f → isMonic p d f ≡ true
   unfolding isMonic

@@ -1,4 +1,5 @@
 -- Laws of the recurrence's steps (meaning's Recurrence), for every p from 2 on: that p is prime is not needed to know how long q and t get.
+--     monic-length, monic-elements, monic-leading      what isMonic tests
 --     times-lt, minus-lt       a product and a difference are elements
 --     times-zero, minus-zero   a product by 0, a difference with 0
 --     step-zero, step-grow, step-stay      the cases of a step: the discrepancy is 0; it is not and 2·L < r; it is not and r ≤ 2·L
@@ -10,17 +11,37 @@
 --     degree-within, length-generator, generator-below       L ≤ N; f has L + 1 elements, all below p
 use mathlib.Core.Path.{_≡_, refl, sym, ap, ap₂, _∙_, subst}
 use mathlib.Core.Logic.{_≢_}
+use mathlib.Core.Bool.{true, _&&_}
 use mathlib.Core.List.{List, [], _∷_}
 use Prim.Native.Nat.{ℕ, zero, suc, _+_, _-_, _*_, _%_, _≤_, _<_, max}
 use native.Mathlib.Nat.{mod-lt, mul-zero, zero-mod, sub-zero, add-mod-right, mod-eq-of-lt, le-max-left, le-max-right}
 use native.Mathlib.Decide.{decLt, ℕ-discrete}
 use native.Mathlib.Omega.{arith}
 use lib.ListN.{length, List·getD-eq-default}
-use borrow.Author.Tests.{eq-eqb, ne-eqb, lt-ltb, le-ltb}
-use Rattle.meaning.specs.List.{at, sum, table}
+use lib.Dec.{eqb, ltb}
+use borrow.Author.Tests.{eqb-true, eq-eqb, ne-eqb, lt-ltb, le-ltb}
+use Rattle.meaning.specs.List.{at, sum, table, every}
 use Rattle.meaning.specs.Field.{minus, times, inverse}
-use Rattle.meaning.specs.Recurrence.{Steps, start, discrepancy, update, step, steps, reversed, degree, generator}
+use Rattle.meaning.specs.Recurrence.{isMonic, Steps, start, discrepancy, update, step, steps, reversed, degree, generator}
+use Rattle.laws.specs.Bool.{and-left, and-right}
 use Rattle.laws.specs.List.{length-table, getD-table, getD-table-past}
+
+-- ---- monic polynomials
+
+module _ (p d : ℕ) (f : List ℕ) (e : isMonic p d f ≡ true) where
+  both : eqb (length f) (d + 1) && every (λ a. ltb a p) f ≡ true
+  unfolding isMonic
+  both = and-left (eqb (length f) (d + 1) && every (λ a. ltb a p) f) (eqb (at f d) 1) e
+
+  pub monic-length : length f ≡ d + 1
+  monic-length = eqb-true (length f) (d + 1) (and-left (eqb (length f) (d + 1)) (every (λ a. ltb a p) f) both)
+
+  pub monic-elements : every (λ a. ltb a p) f ≡ true
+  monic-elements = and-right (eqb (length f) (d + 1)) (every (λ a. ltb a p) f) both
+
+  pub monic-leading : at f d ≡ 1
+  unfolding isMonic
+  monic-leading = eqb-true (at f d) 1 (and-right (eqb (length f) (d + 1) && every (λ a. ltb a p) f) (eqb (at f d) 1) e)
 
 -- ---- elements
 

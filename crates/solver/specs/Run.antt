@@ -29,7 +29,7 @@ use Rattle.meaning.specs.Solver.{Pass, Run, projections, dot, terms, begin, spe
 use Rattle.laws.specs.Accepted.{run-accepted}
 use Rattle.laws.specs.Bool.{and-both, test-cases, never}
 use Rattle.laws.specs.List.{length-table, table-of}
-use Rattle.laws.specs.Recurrence.{degree-within}
+use Rattle.laws.specs.Recurrence.{monic-leading, degree-within}
 use Rattle.laws.specs.Refusal.{first-append-zero, numbered-matrix, numbered-system}
 use Rattle.laws.specs.Solver.{spent-nil, spent-snoc}
 use Rattle.algebra.specs.Ring.{Field}
@@ -47,7 +47,6 @@ use Rattle.wiedemann.specs.declared.pass.Passed.{Passed}
 use Rattle.wiedemann.specs.declared.pass.Passed.the-variants.{Made, Refused}
 use Rattle.laws.specs.Part.{part, at-part, part-ext}
 use Rattle.laws.specs.Lent.{lent, length-lent, part-lent, part-at, part-cons}
-use Rattle.wiedemann.specs.Turns.{monic-leading}
 use Rattle.checks.specs.Pass.{residualAt, passRefusal, refused-state, state-0}
 use Rattle.wiedemann.specs.Pass.{held, passOf, Passes}
 use Rattle.solver.specs.declared.Counts.{Counts}

@@ -1,9 +1,10 @@
 -- What each case of the solver's answer says, and what a call leaves.
 --     Counted            D, the passes and the applications of an outcome
 --     Says               "kind, D, the passes and the applications", or the refusal's number
---     Solves             the answer, each lent slice afterwards, and the third condition of what was found
---     same-answer        two runs on one system, whatever their words and slices, agree in kind, vector and f
---     kindOf, SameRun, same-run      .. in what two calls answer and leave
+--     Leaves             each lent slice afterwards, and the third condition of what was found
+--     Solves             the answer, and that
+--     same-answer, same-slices      two runs on one system, whatever their words and slices, agree in kind, vector and f, and leave the same
+--     kindOf, SameRun, same-run      .. and answer the same
 --     closing            the counts at the end, with the products that it took
 --     Ends, Closed       what is made of F when r is zero
 --     constant, divisor, coefficients, taken-in      F[0], its inverse and G in the polynomial slice; G(A)b is not refused
@@ -51,14 +52,17 @@ Says (Solved c) number o = (number ≡ 0) × (o .kind ≡ solved) × Counted c o
 Says (Singular c) number o = (number ≡ 0) × (o .kind ≡ singular) × Counted c o
 Says (Refused k) number o = (number ≡ k) × (k ≢ 0)
 
-pub record Solves (p : ℕ) (A : Matrix) (b words vector polynomial work : List ℕ) (r : Verdict) (vector′ polynomial′ work′ : List ℕ) : Type 0 where
-  pub says : Says r (solverRefusal p A b words vector polynomial work) (solve p A b words)
+pub record Leaves (p : ℕ) (A : Matrix) (b words vector polynomial work vector′ polynomial′ work′ : List ℕ) : Type 0 where
   pub vector-after : vector′ ≡ vectorAfter p A b words vector polynomial work
   pub polynomial-after : polynomial′ ≡ polynomialAfter p A b words vector polynomial work
   -- "every lent slice keeps its contents"
   pub kept : solverRefusal p A b words vector polynomial work ≢ 0 → work′ ≡ work
   -- the third condition of every run
   pub condition : solverRefusal p A b words vector polynomial work ≡ 0 → ThirdCondition p A b words (solve p A b words)
+
+pub record Solves (p : ℕ) (A : Matrix) (b words vector polynomial work : List ℕ) (r : Verdict) (vector′ polynomial′ work′ : List ℕ) : Type 0 where
+  pub says : Says r (solverRefusal p A b words vector polynomial work) (solve p A b words)
+  pub leaves : Leaves p A b words vector polynomial work vector′ polynomial′ work′
 
 -- ---- the checks
 
@@ -82,6 +86,20 @@ pub same-answer : (p : ℕ) (A : Matrix) (b words v f w words₁ v₁ f₁ w₁ 
     → solverRefusal p A b words₁ v₁ f₁ w₁ ≡ 0 → SameAnswer (solve p A b words) (solve p A b words₁)
 same-answer p A b words v f w words₁ v₁ f₁ w₁ e e₁ =
     everyTwoRuns p A b words words₁ (run-passed p A b words v f w e) (run-passed p A b words₁ v₁ f₁ w₁ e₁)
+
+pub same-slices : {p : ℕ} {A : Matrix} {b words v f w words₁ v₁ f₁ w₁ v′ f′ w′ v₁′ f₁′ w₁′ : List ℕ} → Leaves p A b words v f w v′ f′ w′
+    → Leaves p A b words₁ v₁ f₁ w₁ v₁′ f₁′ w₁′ → solverRefusal p A b words v f w ≡ 0 → solverRefusal p A b words₁ v₁ f₁ w₁ ≡ 0
+    → (v′ ≡ v₁′) × (f′ ≡ f₁′)
+same-slices {p} {A} {b} {words} {v} {f} {w} {words₁} {v₁} {f₁} {w₁} s s₁ e e₁ =
+    let same = same-answer p A b words v f w words₁ v₁ f₁ w₁ e e₁ in
+    let here = solverRefusal p A b words v f w in
+    let there = solverRefusal p A b words₁ v₁ f₁ w₁ in
+    let F : List ℕ → List ℕ = λ ws. padded (size A + 1) (solve p A b ws .polynomial) in (
+      s .vector-after ∙ unlessRefused-none here (solve p A b words .vector) v e ∙ same .vector
+          ∙ sym (s₁ .vector-after ∙ unlessRefused-none there (solve p A b words₁ .vector) v₁ e₁),
+      s .polynomial-after ∙ unlessRefused-none here (F words) f e ∙ ap (padded (size A + 1)) (same .polynomial)
+          ∙ sym (s₁ .polynomial-after ∙ unlessRefused-none there (F words₁) f₁ e₁),
+    )
 
 -- the kind of an answer that is no refusal
 abbrev pub kindOf : Verdict → Kind → Type 0
@@ -111,13 +129,8 @@ module _ (p : ℕ) (A : Matrix) (b words v f w words₁ v₁ f₁ w₁ : List �
         that =
             subst (kindOf r₁) (sym (same .kind))
             (kind-says r₁ (solverRefusal p A b words₁ v₁ f₁ w₁) (solve p A b words₁) e₁ (s₁ .says));
-        same-vector =
-            s .vector-after ∙ ap (λ t. cond t (solve p A b words .vector) v) (eq-eqb (solverRefusal p A b words v f w) 0 e) ∙ same .vector
-            ∙ sym (s₁ .vector-after ∙ ap (λ t. cond t (solve p A b words₁ .vector) v₁) (eq-eqb (solverRefusal p A b words₁ v₁ f₁ w₁) 0 e₁));
-        same-polynomial =
-            s .polynomial-after ∙ ap (λ t. cond t (padded (size A + 1) (solve p A b words .polynomial)) f) (eq-eqb (solverRefusal p A b words v f w) 0 e)
-            ∙ ap (padded (size A + 1)) (same .polynomial)
-            ∙ sym (s₁ .polynomial-after ∙ ap (λ t. cond t (padded (size A + 1) (solve p A b words₁ .polynomial)) f₁) (eq-eqb (solverRefusal p A b words₁ v₁ f₁ w₁) 0 e₁));
+        same-vector = same-slices (s .leaves) (s₁ .leaves) e e₁ .0;
+        same-polynomial = same-slices (s .leaves) (s₁ .leaves) e e₁ .1;
       }
     where
       same : SameAnswer (solve p A b words) (solve p A b words₁)
@@ -230,10 +243,13 @@ module _ (p : ℕ) (A : Matrix) (b words v f w : List ℕ) where
   refused k e q =
       record {
         says = (e, q);
-        vector-after = sym (ap (λ t. cond t (solve p A b words .vector) v) off);
-        polynomial-after = sym (ap (λ t. cond t (padded (size A + 1) (solve p A b words .polynomial)) f) off);
-        kept = λ z. refl;
-        condition = condition p A b words v f w;
+        leaves =
+            record {
+              vector-after = sym (ap (λ t. cond t (solve p A b words .vector) v) off);
+              polynomial-after = sym (ap (λ t. cond t (padded (size A + 1) (solve p A b words .polynomial)) f) off);
+              kept = λ z. refl;
+              condition = condition p A b words v f w;
+            };
       }
     where
       off : eqb (solverRefusal p A b words v f w) 0 ≡ false
@@ -243,10 +259,13 @@ module _ (p : ℕ) (A : Matrix) (b words v f w : List ℕ) where
   taken {r} e q =
       record {
         says = subst (λ k. Says r k (solve p A b words)) (sym e) (q .says);
-        vector-after = q .vector-is ∙ sym (ap (λ t. cond t (solve p A b words .vector) v) on);
-        polynomial-after = q .polynomial-is ∙ sym (ap (λ t. cond t (padded (size A + 1) (solve p A b words .polynomial)) f) on);
-        kept = λ z. absurd (z e);
-        condition = condition p A b words v f w;
+        leaves =
+            record {
+              vector-after = q .vector-is ∙ sym (ap (λ t. cond t (solve p A b words .vector) v) on);
+              polynomial-after = q .polynomial-is ∙ sym (ap (λ t. cond t (padded (size A + 1) (solve p A b words .polynomial)) f) on);
+              kept = λ z. absurd (z e);
+              condition = condition p A b words v f w;
+            };
       }
     where
       on : eqb (solverRefusal p A b words v f w) 0 ≡ true

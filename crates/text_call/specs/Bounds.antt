@@ -5,26 +5,23 @@
 --     answer-fits          its text has at most 4,608 bytes
 --     answer-long          every answer's text has more than 18
 use mathlib.Core.Path.{_≡_, refl, sym, ap, subst}
-use mathlib.Core.Bool.{Bool, true, false, cond, _&&_}
+use mathlib.Core.Bool.{Bool, true, false, cond}
 use mathlib.Core.List.{List, [], _∷_, _++_}
 use Prim.Native.Nat.{ℕ, _+_, _-_, _*_, _≤_, _<_}
 use Rattle.laws.specs.Solver.{vectorCount-nil}
 use native.Mathlib.Decide.{ℕ-discrete}
 use native.Mathlib.Omega.{arith}
-use lib.Dec.{eqb, ltb}
 use lib.ListN.{length, drop, length-append}
-use borrow.Author.Tests.{eqb-true}
-use Rattle.meaning.specs.List.{at, table, isZero, every, flat, bytes}
+use Rattle.meaning.specs.List.{at, table, isZero, flat, bytes}
 use Rattle.meaning.specs.Field.{times, minus, inverse}
 use Rattle.meaning.specs.Matrix.{Matrix, size, apply}
-use Rattle.meaning.specs.Recurrence.{isMonic}
 use Rattle.meaning.specs.Solver.{Pass, Kind, solved, singular, Outcome, passCount, applications, projections, begin, run, verdict, close, solve}
 use Rattle.meaning.specs.ThirdCondition.{termCost, ThirdCondition}
 use Rattle.meaning.specs.Text.{decimal, line}
 use Rattle.meaning.specs.Answer.{kindWord, vectorWord, answerText}
 use Rattle.meaning.specs.Refusal.{first}
 use Rattle.meaning.specs.Calls.{runChecks}
-use Rattle.laws.specs.Bool.{and-left, and-right}
+use Rattle.laws.specs.Recurrence.{monic-length, monic-elements}
 use Rattle.laws.specs.List.{length-table}
 use Rattle.residue.specs.Prime.{Prime}
 use Rattle.residue.specs.Lists.{Reduced, reduced-table}
@@ -84,7 +81,7 @@ module _ (p : ℕ) (A : Matrix) (b : List ℕ) (e : first (runChecks p A b []) �
       go false = omega (arith, termCost-bounded (size A) (o .passes) h)
 
   pub run-small : Small p (size A) o
-  unfolding solve close isMonic
+  unfolding solve close
   run-small =
       let a = accepted p A b [] e in
       let third = everyRun p A b [] e in
@@ -92,17 +89,14 @@ module _ (p : ℕ) (A : Matrix) (b : List ℕ) (e : first (runChecks p A b []) �
       let v = verdict-vector p (a .prime) A b (c .factor) (c .found) in
       let D : o .degree ≤ size A = run-found p (a .prime) A b (a .size-b) (a .reduced-b) (projections p (size A) []) in
       let few : passCount o ≤ size A = omega (arith, third .few, vectorCount-nil (size A)) in
-      let monic =
-      and-left (eqb (length (o .polynomial)) (o .degree + 1) && every (λ a. ltb a p) (o .polynomial)) (eqb (at (o .polynomial) (o .degree)) 1)
-      (third .monic) in
       record {
         degree-low = D;
         passes-few = few;
         applications-few = cost third few D;
         vector-length = v .0;
         vector-below = v .1;
-        polynomial-length = eqb-true (length (o .polynomial)) (o .degree + 1) (and-left (eqb (length (o .polynomial)) (o .degree + 1)) (every (λ a. ltb a p) (o .polynomial)) monic);
-        polynomial-below = every-reduced p (o .polynomial) (and-right (eqb (length (o .polynomial)) (o .degree + 1)) (every (λ a. ltb a p) (o .polynomial)) monic);
+        polynomial-length = monic-length p (o .degree) (o .polynomial) (third .monic);
+        polynomial-below = every-reduced p (o .polynomial) (monic-elements p (o .degree) (o .polynomial) (third .monic));
       }
 
 -- ---- the answer's text

@@ -303,7 +303,7 @@ module _ (p n count : ℕ) (starts columns values right : List ℕ) (l : Loaded 
       let call = subst (λ x. Solves p A (take n right) x v f w r v′ f′ w′) ew on-right in
       let none = loaded-taken v f w lv lf lw in (
         subst (λ z. Says r z o) none (call .says),
-        call .vector-after ∙ unlessRefused-none (solverRefusal p A (take n right) [] v f w) (o .vector) v none,
-        call .polynomial-after ∙ unlessRefused-none (solverRefusal p A (take n right) [] v f w) (padded (size A + 1) (o .polynomial)) f none
+        call .leaves .vector-after ∙ unlessRefused-none (solverRefusal p A (take n right) [] v f w) (o .vector) v none,
+        call .leaves .polynomial-after ∙ unlessRefused-none (solverRefusal p A (take n right) [] v f w) (padded (size A + 1) (o .polynomial)) f none
             ∙ ap (λ z. padded (z + 1) (o .polynomial)) loaded-rows,
       )

@@ -43,7 +43,7 @@ fn scatter(
     }
 }
 
-// The transposed product into out, row after row.
+// The transposed product into out, row after row. The answer is how many products with the matrix it made: one.
 fn transposed_into(
     m: Modulus,
     starts: &[u32],
@@ -51,10 +51,11 @@ fn transposed_into(
     values: &[u32],
     v: &[u32],
     out: &mut [u32],
-)
+) -> usize
     requires { ⌜ Valid (m .p) (matrix (now starts) (now columns) (now values)) × Modular m ⌝ }
     requires { ⌜ (length (now out) ≡ length (now starts) - 1) × Vector (m .p) (length (now starts) - 1) (now v) ⌝ }
-    ensures { λ r. ⌜ now (out .exit) ≡ transposed (m .p) (matrix (now (starts .entry)) (now (columns .entry)) (now (values .entry))) (now (v .entry)) ⌝ }
+    ensures { λ made. ⌜ (made ≡ 1) × (now (out .exit)
+        ≡ transposed (m .p) (matrix (now (starts .entry)) (now (columns .entry)) (now (values .entry))) (now (v .entry))) ⌝ }
 {
     clear(out);
     let mut from = wide(starts[0]);
@@ -65,6 +66,7 @@ fn transposed_into(
         from = to;
         i += 1;
     }
+    1
 }
 
 // The transposed product into out.
@@ -87,6 +89,6 @@ pub fn transposed(
         return Writing::Refused(number);
     }
     let m = Modulus::of(p);
-    transposed_into(m, starts, columns, values, v, out);
-    Writing::Done(1)
+    let made = transposed_into(m, starts, columns, values, v, out);
+    Writing::Done(made as u64)
 }

@@ -10,11 +10,10 @@
 --     Applying               Horner's rule down to coefficient i: applying-none, applying-more; Applied: all of it, r replaced, applied-all
 --     Generated              the shortest recurrence of a part: generated
 --     Shortened              terms, recurrence, and r replaced by f(A)r: shortened
---     monic-leading          the leading coefficient of a monic polynomial
 --     vector-power, vector-terms, apply-unit      Aⁱv and the terms have elements below p; 1(A)v is v
 use mathlib.Core.Path.{_≡_, refl, sym, ap, ap₂, _∙_, subst}
 use mathlib.Core.Logic.{_≢_, _⊎_, inl, inr}
-use mathlib.Core.Bool.{true, cond, _&&_}
+use mathlib.Core.Bool.{true, cond}
 use mathlib.Core.List.{List, [], _∷_}
 use Prim.Native.Nat.{ℕ, zero, suc, _+_, _-_, _*_, _%_, _≤_, _<_}
 use native.Mathlib.Nat.{zero-add, add-zero, one-mul, mod-eq-of-lt, eq-or-lt-of-le}
@@ -23,17 +22,16 @@ use native.Mathlib.Numerals.{add-one}
 use native.Mathlib.Omega.{arith}
 use lib.ListN.{length, take, drop, set, length-set}
 use lib.Seq.{getD-set-same, getD-set-other, getD-drop, take-set-le, take-take}
-use lib.Dec.{eqb, ltb}
-use borrow.Author.Tests.{eqb-true, eq-eqb, ne-eqb}
-use Rattle.meaning.specs.List.{at, sum, every, padded}
+use lib.Dec.{eqb}
+use borrow.Author.Tests.{eq-eqb, ne-eqb}
+use Rattle.meaning.specs.List.{at, sum, padded}
 use Rattle.meaning.specs.Field.{times, isModulus}
 use Rattle.meaning.specs.Matrix.{Matrix, size, product, power, apply}
-use Rattle.meaning.specs.Recurrence.{isMonic, degree, generator}
+use Rattle.meaning.specs.Recurrence.{degree, generator}
 use Rattle.meaning.specs.Solver.{dot, terms}
-use Rattle.laws.specs.Bool.{and-right}
 use Rattle.laws.specs.List.{table-of}
 use Rattle.residue.specs.Prime.{Prime, isModulus-Prime}
-use Rattle.laws.specs.Recurrence.{degree-within, length-generator}
+use Rattle.laws.specs.Recurrence.{monic-leading, degree-within, length-generator}
 use Rattle.bridge.specs.Recurrence.{isShortest}
 use Rattle.checks.specs.Valid.{Valid, Vector}
 use Rattle.laws.specs.Written.{Written}
@@ -385,11 +383,6 @@ pub record Generated (p : ℕ) (W : List ℕ) (from count : ℕ) (W′ : List �
   pub short : t ≤ count
   pub f : part (from + (count + 2)) (t + 1) W′ ≡ generator p (part from count W)
   pub monic : at W′ (from + (count + 2) + t) ≡ 1
-
-pub monic-leading : (p d : ℕ) (f : List ℕ) → isMonic p d f ≡ true → at f d ≡ 1
-unfolding isMonic
-monic-leading p d f e =
-    eqb-true (at f d) 1 (and-right (eqb (length f) (d + 1) && every (λ a. ltb a p) f) (eqb (at f d) 1) e)
 
 pub generated : (p : ℕ) (W : List ℕ) (from count m : ℕ) (Y : List ℕ) (t : ℕ) → isModulus p ≡ true → m ≡ 4 * count + 8 → from + m ≤ length W
     → length Y ≡ m → HoldsGenerator p count (part from m W) Y t → Generated p W from count (lent W from m Y) t

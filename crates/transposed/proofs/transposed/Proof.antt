@@ -1,4 +1,4 @@
-use mathlib.Core.Path.{_≡_, refl, sym, ap, _∙_, subst}
+use mathlib.Core.Path.{_≡_, sym, ap, _∙_, subst}
 use denote.Ref.{now}
 use lib.ListN.{length}
 use Prim.Native.Nat.{_-_}
@@ -65,7 +65,7 @@ returns-2 c =
     let A = matrix (now (at .starts)) (now (at .columns)) (now (at .values)) in
     let made = c .before .before .transposed-into in
     writes-done (productRefusal (at .field .p) A (now (at .v)) (now (at .out))) (transposed (at .field .p) A (now (at .v))) (now (at .out))
-    (made .last .1 .1 .1 .1 .1 .0) (none (c .before .before .before .before .before)) refl (made .ensures ∙ ap (λ p. transposed p A (now (at .v))) (modulus (c .before .before .before .before) .0))
+    (made .last .1 .1 .1 .1 .1 .0) (none (c .before .before .before .before .before)) (made .ensures .0) (made .ensures .1 ∙ ap (λ p. transposed p A (now (at .v))) (modulus (c .before .before .before .before) .0))
 
 pub transposed-spec : {M : Type 1} → statement M
 transposed-spec =

@@ -113,7 +113,7 @@ returns c =
     let A = matrix (now (at .starts)) (now (at .columns)) (now (at .values)) in
     let loop = c .before .loop in
     let end : loop .i ≡ length (now (at .starts)) - 1 = omega (arith, loop .inv .0, c .loop-test .left, start .pre .1 .1 .places) in
-    loop .inv .2 ∙ ap (gathered (at .m .p) A (now (at .v))) end ∙ gathered-all (at .m .p) A (now (at .v))
+    (refl, loop .inv .2 ∙ ap (gathered (at .m .p) A (now (at .v))) end ∙ gathered-all (at .m .p) A (now (at .v)))
 
 pub transposed-into-spec : {M : Type 1} → statement M
 transposed-into-spec =

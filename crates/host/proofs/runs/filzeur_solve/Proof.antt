@@ -1,8 +1,6 @@
-use mathlib.Core.Path.{_≡_, sym, ap, _∙_}
 use Rattle.meaning.specs.Matrix.{matrix}
 use Rattle.meaning.specs.Solver.{solve}
 use Rattle.meaning.specs.Calls.{solverRefusal}
-use Rattle.host.specs.declared.runs.Verdict.{Verdict}
 use denote.Ref.{now}
 use borrow.Author.Needs.{needs}
 use Rattle.host.proofs.runs.filzeur_solve.Statement.{statement}
@@ -30,14 +28,7 @@ returns c =
     let number = solverRefusal (at .p) A (now (at .b)) (now (at .words)) (now (at .vector)) (now (at .polynomial)) (now (at .work)) in
     let done = c .before .before .before .before .before .before .before .solve .ensures in
     let e = c .numbers-of .ensures number (solve (at .p) A (now (at .b)) (now (at .words))) (done .says) in
-    let refusal : c .numbers-of .result .refusal ≡ number = ap (λ (v : Verdict). v .refusal) e in
-    record {
-      verdict = e;
-      vector-after = done .vector-after;
-      polynomial-after = done .polynomial-after;
-      kept = λ q. done .kept (λ z. q (refusal ∙ z));
-      condition = λ q. done .condition (sym refusal ∙ q);
-    }
+    record { verdict = e; leaves = done .leaves }
 
 pub filzeur-solve-spec : {M : Type 1} → statement M
 filzeur-solve-spec =
