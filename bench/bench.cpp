@@ -165,8 +165,9 @@ size_t peak_bytes() {
 void weigh(size_t n, size_t k, uint32_t p) {
     Random random(n);
     System s = some_system(random, n, k, p, true), small = some_system(random, 64, 4, p, true);
-    // starts, columns, values, b, words, vector, polynomial and work, as lent to our solver
-    size_t lent = 4 * ((n + 1) + 2 * s.columns.size() + n + s.words.size() + n + (n + 1) + 16 * n + 16);
+    // starts, columns, values, b, words, vector, polynomial, bill and work, as lent to our solver
+    size_t bill = 3 * (n + s.words.size() / n);
+    size_t lent = 4 * ((n + 1) + 2 * s.columns.size() + n + s.words.size() + n + (n + 1) + bill + 16 * n + 16);
     printf("lent\t%zu\t%zu\t%u\t\t%zu\n", n, k, p, lent);
     for (const Entrant &entrant : entrants) {
         fflush(stdout);

@@ -42,7 +42,11 @@ void solve(Case &c) {
     filzeur_verdict answer = filzeur_solve(
         s.p, s.starts.data(), s.starts.size(), s.columns.data(), s.columns.size(), s.values.data(),
         s.values.size(), s.b.data(), s.b.size(), s.words.data(), s.words.size(), c.vector.data(),
-        c.vector.size(), c.f.data(), c.f.size(), c.work.data(), c.work.size());
+        c.vector.size(), c.f.data(), c.f.size(),
+#if FILZEUR_VERSION >= 2
+        c.bill.data(), c.bill.size(),
+#endif
+        c.work.data(), c.work.size());
     c.numbers = {answer.refusal, answer.kind, answer.degree, answer.passes, answer.applications, 0};
 }
 

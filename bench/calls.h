@@ -9,13 +9,14 @@
 // A system with what the calls read beside it, and room for what they write.
 struct Case {
     Case(const System &system, const Vector &given, const Vector &list)
-        : s(system), v(given), terms(list), out(s.n), vector(s.n), f(s.n + 1), work(16 * s.n + 16),
-          generator(terms.size() + 1), recurrence_work(4 * terms.size() + 8), answer(8192, ' ') {}
+        : s(system), v(given), terms(list), out(s.n), vector(s.n), f(s.n + 1),
+          bill(3 * (s.n + s.words.size() / s.n)), work(16 * s.n + 16), generator(terms.size() + 1),
+          recurrence_work(4 * terms.size() + 8), answer(8192, ' ') {}
 
     const System &s;
     const Vector &v, &terms;
     std::string text; // the system's, from Calls::write
-    Vector out, vector, f, work, generator, recurrence_work;
+    Vector out, vector, f, bill, work, generator, recurrence_work;
     std::string answer; // the text call's
     struct Numbers {
         uint64_t refusal, kind, degree, passes, applications, length;

@@ -81,14 +81,24 @@ void race(std::vector<Library> &libraries, Call call, Case &c) {
                 library.best = std::min(library.best, turn(library.places[place]->*call, c, repeats));
 }
 
+// The text call's answer without its bill, which the libraries of a version 1 header don't print.
+std::string unbilled(const std::string &answer) {
+    std::istringstream lines(answer);
+    std::string kept;
+    for (std::string line; std::getline(lines, line);)
+        if (line.rfind("pass\t", 0) != 0 && line.rfind("close\t", 0) != 0)
+            kept += line + '\n';
+    return kept;
+}
+
 // What a call leaves where nothing was there before.
 auto left_by(void (*call)(Case &), Case &c) {
     for (Vector *slice : {&c.out, &c.vector, &c.f, &c.generator})
         std::fill(slice->begin(), slice->end(), 0);
     call(c);
     const Case::Numbers &n = c.numbers;
-    return std::make_tuple(c.out, c.vector, c.f, c.generator, c.answer.substr(0, n.length), n.refusal, n.kind,
-                           n.degree, n.passes, n.applications);
+    return std::make_tuple(c.out, c.vector, c.f, c.generator, unbilled(c.answer.substr(0, n.length)), n.refusal,
+                           n.kind, n.degree, n.passes, n.applications);
 }
 
 // ---- the table

@@ -18,6 +18,7 @@ import reference
 import systems
 import tools
 
+ANSWER = 7168
 BAD_MODULI = [0, 1, 4, 9, 91, 561, 65536, 2147483646, 2147483648, 2147483659, 4294967291, 4294967295]
 
 
@@ -32,9 +33,11 @@ def expected_recurrence(result):
 
 
 def expected_solve(result):
-    kind, D, passes, applications, vector, polynomial = result[1:]
+    kind, D, passes, applications, vector, polynomial, bill = result[1:]
     number = 1 if kind == 'solved' else 2
-    return [number, D, passes, applications, len(vector)] + vector + [len(polynomial)] + polynomial
+    billed = bill[:3 * min(passes, len(bill) // 3)]
+    return ([number, D, passes, applications, len(billed)] + billed + [len(vector)] + vector +
+            [len(polynomial)] + polynomial)
 
 
 def expected_read(result):
@@ -65,7 +68,7 @@ CALLS = {
     'transposed': (reference.transposed_product, expected_vector, 0),
     'apply': (reference.polynomial_apply, expected_vector, 0),
     'recurrence': (reference.recurrence, expected_recurrence, 1),
-    'solve': (reference.solve, expected_solve, 4),
+    'solve': (reference.solve, expected_solve, 5),
     'takes': (reference.check_solution, expected_number, 1),
     'is_null': (reference.check_kernel, expected_number, 1),
     'read': (reference.read_system, expected_read, 3),
@@ -107,6 +110,12 @@ def some_matrix(source):
     return p, starts, columns, values, b, words
 
 
+def some_bill(source, passes, most):
+    """The places of a bill: none, less than a pass, less than all of them, all, and more."""
+    all_of_them = [max(0, 3 * passes - 1), 3 * passes, 3 * passes + 1]
+    return source.choice([0, 1, 2, 3, 4, *all_of_them, source.randrange(most + 1), most])
+
+
 def right_call(source, name):
     p, starts, columns, values, b, words = some_matrix(source)
     n = len(b)
@@ -126,7 +135,9 @@ def right_call(source, name):
         s = some_vector(source, source.randrange(0, 30), source.choice([p, min(p, 2), min(p, 3)]))
         return Call(name, [p, s], [len(s) + 1, 4 * len(s) + 8 + source.randrange(3)])
     if name == 'solve':
-        return Call(name, matrix + [b, words], [n, n + 1, 16 * n + 16 + source.randrange(3)])
+        passes = len(reference.solver_steps(*matrix, b, words)[4])
+        bill = some_bill(source, passes, 3 * (len(words) // n + n))
+        return Call(name, matrix + [b, words], [n, n + 1, bill, 16 * n + 16 + source.randrange(3)])
     answer = reference.solver_steps(p, starts, columns, values, b, [])[2]
     if name == 'takes':
         return Call(name, matrix + [source.choice([answer, b]), b])
@@ -138,7 +149,7 @@ def right_call(source, name):
         return Call(name, [text], [length + source.randrange(3) for length in room])
     if name == 'write':
         return Call(name, matrix + [b], [len(text) + source.randrange(3)])
-    return Call(name, [text], [4608 + source.randrange(3)])
+    return Call(name, [text], [ANSWER + source.randrange(3)])
 
 
 # ---- faults
@@ -215,7 +226,7 @@ def limit_calls():
     for n in (4096, 4097):
         starts, none = list(range(n + 1)), [0] * n
         yield Call('product', [7, starts, list(range(n)), [1] * n, none], [n])
-        yield Call('solve', [7, starts, list(range(n)), [1] * n, none, []], [n, n + 1, 16 * n + 16])
+        yield Call('solve', [7, starts, list(range(n)), [1] * n, none, []], [n, n + 1, 3 * n, 16 * n + 16])
         text = reference.system_text(7, starts, list(range(n)), [1] * n, none)
         yield Call('read', [text], [n + 1, n, n, n])
     for last in (16, 17):  # 65,536 entries, and one more
@@ -227,19 +238,25 @@ def limit_calls():
     for terms in (8192, 8193):
         yield Call('recurrence', [3, [0] * terms], [terms + 1, 4 * terms + 8])
     for words in (0, 127, 128, 129, 130):
-        yield Call('solve', [7, [0, 1, 2], [0, 1], [2, 3], [1, 1], [1] * words], [2, 3, 48])
+        yield Call('solve', [7, [0, 1, 2], [0, 1], [2, 3], [1, 1], [1] * words], [2, 3, 6, 48])
+    for bill in (*range(12), 1000):  # three passes
+        yield Call('solve', [7, [0, 1, 2], [0, 1], [2, 3], [1, 1], [0, 0]], [2, 3, bill, 48])
+        yield Call('solve', [7, [0, 1, 2], [0, 1], [2, 3], [1, 1], [0, 0]], [2, 3, bill, 47])
     for n in (128, 129):
         starts, columns = list(range(n + 1)), list(range(n))
-        yield Call('text', [reference.system_text(7, starts, columns, [1] * n, [1] * n)], [4608])
+        yield Call('text', [reference.system_text(7, starts, columns, [1] * n, [1] * n)], [ANSWER])
+        # as many passes as places, of the widest numbers
+        yield Call('text', [reference.system_text(2147483647, starts, columns, [2147483646 - i * i for i in range(n)],
+                                                  [2147483646 - i for i in range(n)])], [ANSWER])
     for last in (8, 9):  # 1,024 entries, and one more
         starts = [8 * i for i in range(128)] + [1016 + last]
         columns = list(range(8)) * 127 + list(range(last))
-        yield Call('text', [reference.system_text(2, starts, columns, [1] * len(columns), [1] * 128)], [4608])
+        yield Call('text', [reference.system_text(2, starts, columns, [1] * len(columns), [1] * 128)], [ANSWER])
     for length in (24576, 24577):
-        yield Call('text', [b'x' * length], [4608])
+        yield Call('text', [b'x' * length], [ANSWER])
     for length in (2097152, 2097153):
         yield Call('read', [b'x' * length], [2, 1, 1, 1])
-    for length in (0, 4607, 4608, 4700):
+    for length in (0, 4608, ANSWER - 1, ANSWER, ANSWER + 32):
         yield Call('text', [b'system\t2\t1\t1\na\t1\t1\t1\nb\t1\t1\nend\n'], [length])
 
 

@@ -5,11 +5,12 @@
     evidence/compare.py --gate
 
 Makes COUNT systems from SEED (systems.py), gives each to the static library through driver.cpp, and holds
-  - kind, D, passes, applications, vector and polynomial to a second implementation (second.cpp), and where the system
-    is small also to the reference in Python (reference.py), two programs that share no code with the library;
+  - kind, D, passes, applications, the bill's lines, vector and polynomial to a second implementation (second.cpp), and
+    where the system is small also to the reference in Python (reference.py), two programs that share no code with the
+    library;
   - kind, D and f to dense elimination: the ranks of the Krylov vectors b, Ab, .. and of Ab, A²b, .., and their first
     dependence; by dense.cpp, by FLINT (Debian's libflint-dev) and by PARI (pari-gp), where these are installed;
-  - the vector to its meaning: Ax = b, or w is not zero and Aw = 0.
+  - the vector to its meaning, Ax = b, or w is not zero and Aw = 0; and the bill to its sum.
 
 --gate is a small fixed set that needs python3 and g++ only. The library is target/staticlib/libhost.a, or what
 FILZEUR_LIBRARY names. Exit status 0: nothing differs."""
@@ -34,23 +35,36 @@ KINDS = {1: 'solved', 2: 'singular'}
 def line_of(system):
     what, p, starts, columns, values, b, words = system
     n = len(b)
-    return tools.spell('solve', p, starts, columns, values, b, words, n, n + 1, 16 * n + 16)
+    return tools.spell('solve', p, starts, columns, values, b, words, n, n + 1, 3 * (len(words) // n + n), 16 * n + 16)
 
 
 class Answer:
     def __init__(self, line, n):
         self.harm = line.startswith('harm')
         numbers = [int(word) for word in line.replace('harm', '').split()]
-        self.refusal, self.kind, self.degree, self.passes, self.applications = numbers[:5]
-        self.vector = numbers[6:6 + n]
-        self.polynomial = numbers[7 + n:]
+        self.refusal, self.kind, self.degree, self.passes, self.applications, billed = numbers[:6]
+        self.bill = [tuple(numbers[k:k + 3]) for k in range(6, 6 + billed, 3)]
+        slices = numbers[6 + billed:]
+        self.vector = slices[1:1 + n]
+        self.polynomial = slices[2 + n:]
 
     def all(self):
-        return (self.kind, self.degree, self.passes, self.applications, self.vector, self.polynomial)
+        return (self.kind, self.degree, self.passes, self.applications, self.bill, self.vector, self.polynomial)
+
+
+def adds_up(answer, n):
+    """A line for each pass: left falls from n by the degrees, and the applications are the passes' and the close's."""
+    left = n
+    for line in answer.bill:
+        if line != (left, line[1], 2 * left - 1 + line[1]):
+            return False
+        left -= line[1]
+    total = sum(applications for _, _, applications in answer.bill) + max(answer.degree - 1, 0)
+    return len(answer.bill) == answer.passes and left == n - answer.degree and total == answer.applications
 
 
 def holds_itself(system, answer):
-    """What can be said of the answer alone: its vector's meaning, a monic f, zeros after it, the count's bounds."""
+    """What can be said of the answer alone: its vector's meaning, a monic f, zeros after it, its bill."""
     what, p, starts, columns, values, b, words = system
     n, D = len(b), answer.degree
     if answer.harm or answer.refusal or answer.kind not in KINDS:
@@ -58,7 +72,7 @@ def holds_itself(system, answer):
     image = reference.times(p, starts, columns, values, answer.vector)
     right = image == b if answer.kind == 1 else any(answer.vector) and not any(image)
     shape = D <= n and answer.polynomial[D] == 1 and not any(answer.polynomial[D + 1:])
-    return right and shape and answer.passes <= len(words) // n + n
+    return right and shape and answer.passes <= len(words) // n + n and adds_up(answer, n)
 
 
 def by_reference(system):
@@ -66,7 +80,8 @@ def by_reference(system):
     n = len(b)
     kind, F, vector, applications, passes = reference.solver_steps(p, starts, columns, values, b, words)
     number = 1 if kind == 'solved' else 2
-    return (number, len(F) - 1, len(passes), applications, vector, F + [0] * (n + 1 - len(F)))
+    bill = reference.bill_of(passes)
+    return (number, len(F) - 1, len(passes), applications, bill, vector, F + [0] * (n + 1 - len(F)))
 
 
 def agrees_with_dense(report, answer):
@@ -114,7 +129,7 @@ def compare(made, budget, packages):
     answers = [Answer(line, len(system[5])) for line, system in zip(tools.ask(tools.driver(), lines), made)]
 
     for system, answer in zip(made, answers):
-        tally.hold('the meaning of its vector', system, holds_itself(system, answer))
+        tally.hold('the meaning of its vector and the sum of its bill', system, holds_itself(system, answer))
 
     second = tools.ask(tools.build('second', 'second.cpp'), lines)
     for system, answer, line in zip(made, answers, second):
@@ -147,14 +162,14 @@ def compare(made, budget, packages):
 
 
 def gate_set():
-    """Fixed: many small systems, some of a few hundred rows, and two of the largest."""
+    """Fixed: many small systems, some of a few hundred rows, and two of the largest, one with a first pass of degree 0."""
     made = [systems.make(random.Random(k), 32) for k in range(300)]
     made += [systems.make(random.Random(1000 + k), 300) for k in range(30)]
     large = random.Random(5)
-    for shape, p in ((systems.permutation, 2147483647), (systems.block, 65537)):
+    for shape, p, zeros in ((systems.permutation, 2147483647, 0), (systems.block, 65537, 4096)):
         matrix = systems.slices(shape(large, p, 4096))
         b = [large.randrange(p) for _ in range(4096)]
-        words = [large.randrange(2 ** 32) for _ in range(2 * 4096)]
+        words = [0] * zeros + [large.randrange(2 ** 32) for _ in range(2 * 4096)]
         made.append(('%s of 4,096 rows' % shape.__name__, p, *matrix, b, words))
     return made
 
@@ -178,9 +193,10 @@ def main():
 
     kinds = collections.Counter(KINDS.get(answer.kind, 'refused') for answer in answers)
     several = sum(answer.passes > 1 for answer in answers)
-    print('%d systems of 1 to %d rows: %s; %d with more than one pass; %.0f seconds' % (
+    print('%d systems of 1 to %d rows: %s; %d with more than one pass, %d passes billed; %.0f seconds' % (
         len(made), max(len(system[5]) for system in made),
-        ', '.join('%d %s' % (kinds[kind], kind) for kind in sorted(kinds)), several, time.time() - began))
+        ', '.join('%d %s' % (kinds[kind], kind) for kind in sorted(kinds)), several,
+        sum(len(answer.bill) for answer in answers), time.time() - began))
     for tool, held in tally.held.items():
         print('%6d held to %s' % (held, tool))
     print('compare: %d differ' % tally.differ)

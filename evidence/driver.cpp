@@ -4,7 +4,8 @@
 // A line is the call's name, its numbers, each slice that it reads (the length, then the elements), and the
 // lengths of the slices that it writes. Those are filled with noise before the call, since no answer may
 // depend on what they held. An answer is the returned numbers, then each written slice but the work slice
-// (the length, then the elements). `harm` before an answer says that a slice was changed that had to stay.
+// (the length, then the elements); a slice that may keep places stands among the numbers, without those.
+// `harm` before an answer says that a slice was changed that had to stay.
 #include "../host/filzeur.h"
 #include "lent.h"
 
@@ -142,13 +143,19 @@ void recurrence(Call &call) {
     answer(call, d.refusal, {d.degree}, {&polynomial});
 }
 
+// The bill holds whole passes, and the places after them stay.
 void solve(Call &call) {
     uint32_t p = call.number();
     Matrix a(call);
     Words &b = call.reads(), &words = call.reads();
-    Words &vector = call.writes(), &polynomial = call.writes(), &work = call.writes();
-    filzeur_verdict v = filzeur_solve(p, M(a), S(b), S(words), S(vector), S(polynomial), S(work));
-    answer(call, v.refusal, {v.kind, v.degree, v.passes, v.applications}, {&vector, &polynomial});
+    Words &vector = call.writes(), &polynomial = call.writes(), &bill = call.writes(), &work = call.writes();
+    filzeur_verdict v = filzeur_solve(p, M(a), S(b), S(words), S(vector), S(polynomial), S(bill), S(work));
+    size_t billed = 3 * std::min<size_t>(v.passes, bill.size() / 3);
+    std::vector<uint64_t> numbers{v.kind, v.degree, v.passes, v.applications, billed};
+    numbers.insert(numbers.end(), bill.begin(), bill.begin() + billed);
+    if (!bill.kept(billed))
+        std::cout << "harm ";
+    answer(call, v.refusal, numbers, {&vector, &polynomial});
 }
 
 void takes(Call &call) {

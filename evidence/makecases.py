@@ -32,11 +32,11 @@ def answer_line(got):
 put('Cases worked out by reference.py (made by makecases.py; do not edit by hand).')
 put('Matrices are given as dense rows "r1 / r2 / .." and as slices (starts; columns; values, columns from 0).')
 put('Polynomials lowest power first.  Output slices have exactly the stated length and hold 9 before, unless said.')
-put('"tells apart" names the wrong solvers of mutants.py that give another answer (kind, D, passes, applications, vector, f).')
+put('"tells apart" names the wrong solvers of mutants.py that give another answer (kind, D, passes, applications, vector, f, bill, close).')
 put()
 
 # ------------------------------------------------------------------ systems
-put('=== 1. SYSTEMS (solver call) ===')
+put('=== 1. SYSTEMS (solver call; bill slice of 3 x (R + n) places, of which the three of each pass are given) ===')
 systems = [
     ('restart, p = 2, first factor z; the vector needs the whole F', 2, [[0, 0], [0, 1]], [1, 1], []),
     ('restart, p = 3, solved; one word vector, then unit vectors; a pass of degree 0 in the middle', 3,
@@ -56,25 +56,31 @@ systems = [
     ('EXTRA, n = 4: t kept (unshifted) over a restart shows only from n = 4', 2,
      [[1, 1, 0, 0], [1, 0, 0, 0], [0, 0, 0, 1], [0, 0, 0, 0]], [1, 0, 0, 1], []),
     ('EXTRA, n = 4, the same with p = 3', 3, [[0, 2, 0, 0], [0, 0, 0, 0], [0, 0, 0, 1], [0, 0, 2, 0]], [2, 2, 1, 0], []),
+    ('document 01, two passes', 7, [[2, 0], [0, 3]], [1, 1], []),
+    ('document 01, three passes, the first of degree 0', 7, [[2, 0], [0, 3]], [1, 1], [0, 0]),
 ]
+told = set()
 for k, (what, p, M, b, words) in enumerate(systems, 1):
     n = len(M)
     S = selftest.dense_to_sparse(M)
     selftest.check_system(p, n, M, b, [words, []])
-    got = ref.solve(p, *S, b, words, [9] * n, [9] * (n + 1), [9] * (16 * n + 16))
-    kind, D, passes, apps, vector, poly = got[1:]
+    got = ref.solve(p, *S, b, words, [9] * n, [9] * (n + 1), [9] * (3 * (len(words) // n + n)), [9] * (16 * n + 16))
+    kind, D, passes, apps, vector, poly, bill = got[1:]
     put('1.%d  %s' % (k, what))
     put('   p = %d, n = %d, A = %s   (starts %s; columns %s; values %s)' % (p, n, rows(M), nums(S[0]), nums(S[1]), nums(S[2])))
     put('   b = %s; words = %s' % (nums(b), nums(words)))
-    put('   -> %s, D = %d, passes = %d, applications = %d, %s = %s, polynomial slice = %s' %
-        (kind, D, passes, apps, 'x' if kind == 'solved' else 'w', nums(vector), nums(poly)))
-    for i, (u, left, terms, f, after) in enumerate(ref.solver_steps(p, *S, b, words)[4], 1):
-        put('      pass %d: u = %s, left = %d, terms = %s, f = %s, degree %d, r becomes %s' %
-            (i, nums(u), left, nums(terms), nums(f), len(f) - 1, nums(after)))
+    put('   -> %s, D = %d, passes = %d, applications = %d, %s = %s, polynomial slice = %s, bill = %s, close = %d' %
+        (kind, D, passes, apps, 'x' if kind == 'solved' else 'w', nums(vector), nums(poly), nums(bill[:3 * passes]), ref.close_of(D)))
+    for i, (u, left, terms, f, after, made) in enumerate(ref.solver_steps(p, *S, b, words)[4], 1):
+        put('      pass %d: u = %s, left = %d, terms = %s, f = %s, degree %d, r becomes %s, applications %d' %
+            (i, nums(u), left, nums(terms), nums(f), len(f) - 1, nums(after), made))
     if 'full degree' in what or 'one pass is enough' in what:
         assert D == n and passes == 1, (D, passes)
-    put('   tells apart: ' + (', '.join(mutants.told_apart(p, S, b, words)) or '(none)'))
+    apart = mutants.told_apart(p, S, b, words)
+    told.update(apart)
+    put('   tells apart: ' + (', '.join(apart) or '(none)'))
 put()
+assert set(mutants.NAMES) - told == set(mutants.HIDDEN), set(mutants.NAMES) - told
 
 # ------------------------------------------------------------------ sequences
 put('=== 2. SEQUENCES (recurrence call; answer L and the polynomial slice of N + 1 places) ===')
@@ -192,7 +198,7 @@ for k, (what, text, lengths) in enumerate(texts, 1):
 put()
 
 # ------------------------------------------------------------------ text call
-put('=== 5. TEXTS FOR THE TEXT CALL (answer slice of 4608; the program prints the same bytes) ===')
+put('=== 5. TEXTS FOR THE TEXT CALL (answer slice of 7168; the program prints the same bytes) ===')
 for k, (what, text) in enumerate([
         ('document 01', good),
         ('singular, restart, p = 2', b'system\t2\t2\t1\na\t2\t2\t1\nb\t1\t1\nb\t2\t1\nend\n'),
@@ -200,19 +206,21 @@ for k, (what, text) in enumerate([
         ('n = 1', b'system\t13\t1\t1\na\t1\t1\t5\nb\t1\t3\nend\n'),
         ('no entries, degree-0 pass first', b'system\t5\t2\t0\nb\t2\t3\nend\n'),
         ('3 passes', b'system\t5\t3\t3\na\t1\t1\t1\na\t2\t2\t2\na\t3\t3\t3\nb\t1\t1\nb\t2\t1\nb\t3\t1\nend\n'),
+        ('diag(2,3), 2 passes', b'system\t7\t2\t2\na\t1\t1\t2\na\t2\t2\t3\nb\t1\t1\nb\t2\t1\nend\n'),
 ], 1):
-    got = ref.text_call(text, bytes([9]) * 4608)
-    assert got[0] == 'ok' and got[2][got[1]:] == bytes([9]) * (4608 - got[1])
+    got = ref.text_call(text, bytes([9]) * 7168)
+    assert got[0] == 'ok' and got[2][got[1]:] == bytes([9]) * (7168 - got[1])
     assert ref.program(text) == got[2][:got[1]]
     put('5.%d  %s: "%s"' % (k, what, esc(text)))
     put('   -> %d, "%s"' % (got[1], esc(got[2][:got[1]])))
 for k, (what, text, length, printed) in enumerate([
         ('24,577 bytes "x"', b'x' * 24577, 0, True),
         ('24,576 bytes "x"', b'x' * 24576, 0, True),
-        ('n = 129, no entries: "system\\t7\\t129\\t0\\nend\\n"', b'system\t7\t129\t0\nend\n', 4608, True),
-        ('n = 129 and b value 7: "system\\t7\\t129\\t0\\nb\\t1\\t7\\nend\\n"', b'system\t7\t129\t0\nb\t1\t7\nend\n', 4608, True),
-        ('n = 4097: "system\\t7\\t4097\\t0\\nend\\n"', b'system\t7\t4097\t0\nend\n', 4608, True),
-        ('answer slice of 4,607: "system\\t7\\t1\\t0\\nend\\n"', b'system\t7\t1\t0\nend\n', 4607, False),
+        ('n = 129, no entries: "system\\t7\\t129\\t0\\nend\\n"', b'system\t7\t129\t0\nend\n', 7168, True),
+        ('n = 129 and b value 7: "system\\t7\\t129\\t0\\nb\\t1\\t7\\nend\\n"', b'system\t7\t129\t0\nb\t1\t7\nend\n', 7168, True),
+        ('n = 4097: "system\\t7\\t4097\\t0\\nend\\n"', b'system\t7\t4097\t0\nend\n', 7168, True),
+        ('answer slice of 7,167: "system\\t7\\t1\\t0\\nend\\n"', b'system\t7\t1\t0\nend\n', 7167, False),
+        ('answer slice of 4,608, enough before the bill: "system\\t7\\t1\\t0\\nend\\n"', b'system\t7\t1\t0\nend\n', 4608, False),
         ('p = 6 and answer slice of 0: "system\\t6\\t1\\t0\\nend\\n"', b'system\t6\t1\t0\nend\n', 0, True),
 ], 1):
     got = ref.text_call(text, bytes(length))
@@ -238,8 +246,8 @@ put('6.r2 p = 7, diag(2,3), b = 1, out of 100 bytes -> ' + answer_line(ref.write
 put()
 
 # ------------------------------------------------------------------ refusals of the solver
-put('=== 7. REFUSALS OF THE SOLVER CALL (slices: vector 2, polynomial 3, work 48 unless said) ===')
-base = dict(p=7, starts=[0, 1, 2], columns=[0, 1], values=[2, 3], b=[1, 1], words=[], vector=2, polynomial=3, work=48)
+put('=== 7. REFUSALS OF THE SOLVER CALL, AND BILLS OF EVERY LENGTH (slices: vector 2, polynomial 3, bill 6, work 48 unless said) ===')
+base = dict(p=7, starts=[0, 1, 2], columns=[0, 1], values=[2, 3], b=[1, 1], words=[], vector=2, polynomial=3, bill=6, work=48)
 for number, what, change in [
         (3, 'p = 1', dict(p=1)),
         (3, 'p = 9, and starts empty (4)', dict(p=9, starts=[])),
@@ -266,18 +274,30 @@ for number, what, change in [
         (11, 'polynomial of 2 places', dict(polynomial=2)),
         (11, 'polynomial of 4 places', dict(polynomial=4)),
         (11, 'work of 47 places', dict(work=47)),
+        (11, 'work of 47 places, and no bill', dict(work=47, bill=0)),
         (0, 'work of 49 places, 128 words of 4294967295', dict(work=49, words=[4294967295] * 128)),
         (0, 'nothing wrong', dict()),
+        (0, 'no bill', dict(bill=0)),
+        (0, 'bill of 1 place', dict(bill=1)),
+        (0, 'bill of 2 places', dict(bill=2)),
+        (0, 'bill of 3 places: one pass', dict(bill=3)),
+        (0, 'bill of 5 places: one pass, two places stay', dict(bill=5)),
+        (0, 'bill of 8 places: both passes, two places stay', dict(bill=8)),
+        (0, 'three passes, the first of degree 0, bill of 7 places', dict(words=[0, 0], bill=7)),
+        (0, 'three passes, bill of 10 places', dict(words=[0, 0], bill=10)),
+        (0, 'b = 0: no pass, bill of 4 places stays', dict(b=[0, 0], bill=4)),
 ]:
     d = dict(base)
     d.update(change)
-    got = ref.solve(d['p'], d['starts'], d['columns'], d['values'], d['b'], d['words'], [9] * d['vector'], [9] * d['polynomial'], [9] * d['work'])
+    got = ref.solve(d['p'], d['starts'], d['columns'], d['values'], d['b'], d['words'], [9] * d['vector'], [9] * d['polynomial'],
+                    [9] * d['bill'], [9] * d['work'])
     assert (got == ('refused', number)) if number else got[0] == 'ok', (what, got)
-    put('%s: p = %d; starts %s; columns %s; values %s; b %s; words %s; vector %d, polynomial %d, work %d' %
+    put('%s: p = %d; starts %s; columns %s; values %s; b %s; words %s; vector %d, polynomial %d, bill %d, work %d' %
         (what, d['p'], nums(d['starts']), nums(d['columns']), nums(d['values']), nums(d['b']),
-         nums(d['words']) if len(d['words']) < 10 else '%d times %d' % (len(d['words']), d['words'][0]), d['vector'], d['polynomial'], d['work']))
-    put('   -> ' + ('refused %d' % number if number else '%s, D = %d, passes = %d, applications = %d, vector %s, polynomial %s' %
-                    (got[1], got[2], got[3], got[4], nums(got[5]), nums(got[6]))))
+         nums(d['words']) if len(d['words']) < 10 else '%d times %d' % (len(d['words']), d['words'][0]), d['vector'], d['polynomial'],
+         d['bill'], d['work']))
+    put('   -> ' + ('refused %d' % number if number else '%s, D = %d, passes = %d, applications = %d, vector %s, polynomial %s, bill %s' %
+                    (got[1], got[2], got[3], got[4], nums(got[5]), nums(got[6]), nums(got[7]))))
 put()
 
 # ------------------------------------------------------------------ field

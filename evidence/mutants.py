@@ -1,4 +1,5 @@
-"""Wrong solvers (document 01, 'Tempting here', and a few more).  Used to say which case tells which one apart.
+"""Wrong solvers (document 01, 'Tempting here', and a few more) and wrong bills (document 02, request (i)).  Used to say which
+case tells which one apart.
 
 keep_t_e / keep_e carry t, e over a restart exactly in the form of document 01's steps (t shifted at every term).  They are
 NOT observable: the last t = q of a pass happens at a term r1 <= 2*L1 - 1 (or t is still 0), so the kept t is z^k times a
@@ -10,7 +11,9 @@ import reference as ref
 
 NAMES = ['keep_t_e', 'keep_e', 'keep_t_unshifted', 'keep_all', 'stale_q',
          'first_pass_only', 'stop_at_D_n', 'singular_on_arrival', 'last_factor_x', 'G_on_last_r',
-         'columns_space_kind', 'word_stride_1', 'units_after_R', 'left_n_always', 'f_unreversed', 'no_degree0_pass_count']
+         'columns_space_kind', 'word_stride_1', 'units_after_R', 'left_n_always', 'f_unreversed', 'no_degree0_pass_count',
+         'bill_left_after', 'bill_no_degree0', 'bill_no_t', 'close_D']
+HIDDEN = ['keep_t_e', 'keep_e']
 
 
 def recurrence_from(p, s, t, e, q, L):
@@ -33,10 +36,17 @@ def recurrence_from(p, s, t, e, q, L):
     return L, q, t, e, unshifted
 
 
+def billed(name, left, t, made):
+    """The bill's lines of one pass."""
+    if name == 'bill_no_degree0' and t == 0:
+        return []
+    return [(left - t if name == 'bill_left_after' else left, t, made - t if name == 'bill_no_t' else made)]
+
+
 def solve(name, p, S, b, words):
     n = len(S[0]) - 1
     R = len(words) // n
-    r, F, D, apps, k, counted = list(b), [1], 0, 0, 0, 0
+    r, F, D, apps, k, counted, bill = list(b), [1], 0, 0, 0, 0, []
     t, e, q, L, unshifted = [0], 1, [1], 0, [0]
     last = [1]
     while any(r) if name != 'stop_at_D_n' else (any(b) and D < n):
@@ -49,6 +59,7 @@ def solve(name, p, S, b, words):
             i = (k % n) if name == 'units_after_R' else k - R
             u = [int(j == i) for j in range(n)]
         left = n if name == 'left_n_always' else n - D
+        earlier = apps
         terms, v = [], r
         for i in range(2 * left):
             if i:
@@ -71,6 +82,7 @@ def solve(name, p, S, b, words):
         before = r
         r, made = ref.polynomial_times(p, *S, f, r)
         apps += made
+        bill += billed(name, left, L, apps - earlier)
         F = ref.polynomial_product(p, F, f)
         D += L
         k += 1
@@ -82,7 +94,7 @@ def solve(name, p, S, b, words):
         if D > n:
             break
     if D == 0:
-        return 'solved', 0, counted, apps, [0] * n, [1] + [0] * n
+        return 'solved', 0, counted, apps, [0] * n, [1] + [0] * n, bill, 0
     G = F[1:]
     vec, made = ref.polynomial_times(p, *S, G, before if name == 'G_on_last_r' else b)
     apps += made
@@ -98,10 +110,16 @@ def solve(name, p, S, b, words):
         c0 = last[0] if name == 'last_factor_x' else F[0]
         c = -ref.inverse_mod(c0, p) % p
         vec = [c * x % p for x in vec]
-    return kind, D, counted, apps, vec, (F + [0] * n)[:n + 1]
+    return kind, D, counted, apps, vec, (F + [0] * n)[:n + 1], bill, D if name == 'close_D' else made
+
+
+def right(p, S, b, words):
+    """What the reference gives: kind, D, passes, applications, vector, f, bill, close."""
+    n = len(S[0]) - 1
+    kind, F, vector, applications, passes = ref.solver_steps(p, *S, b, words)
+    D = len(F) - 1
+    return kind, D, len(passes), applications, vector, F + [0] * (n - D), ref.bill_of(passes), ref.close_of(D)
 
 
 def told_apart(p, S, b, words):
-    n = len(S[0]) - 1
-    right = ref.solve(p, *S, b, words, [0] * n, [0] * (n + 1), [0] * (16 * n + 16))[1:]
-    return [m for m in NAMES if solve(m, p, S, b, words) != right]
+    return [m for m in NAMES if solve(m, p, S, b, words) != right(p, S, b, words)]

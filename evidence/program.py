@@ -59,8 +59,12 @@ def texts():
     ring = [(i, i % 128 + 1, HIGH - i) for i in range(1, 129)]
     band = [(i, j, i + j) for i in range(1, 129) for j in range(max(1, i - 1), min(128, i + 1) + 1)]
 
-    # accepted: document 01's first case, solved and singular systems, 128 rows, 1,024 entries, the longest text
+    # accepted: document 01's first case, solved and singular systems, no pass and two and 128 of them, 128 rows, 1,024 entries,
+    # the longest text
     yield 0, first
+    yield 0, text_of(7, 2, [(1, 1, 2), (2, 2, 3)], ones)
+    yield 0, text_of(7, 2, [(1, 1, 2), (2, 2, 3)], [(2, 1)])
+    yield 0, text_of(HIGH, 128, [(i, i, HIGH - i) for i in range(1, 129)], [(i, 1) for i in range(1, 129)])
     yield 0, text_of(7, 2, [(1, 2, 1)], [(1, 1)])
     yield 0, text_of(7, 2, two, [])
     yield 0, text_of(2, 1, [(1, 1, 1)], [(1, 1)])

@@ -1,6 +1,7 @@
 """Reference implementation of document 01 (Wiedemann solver modulo word-size primes).
 
-Plain Python 3, standard library only.  Written from 00-conditions.md, 01-scope.md and source 002 alone.
+Plain Python 3, standard library only.  Written from 00-conditions.md, 01-scope.md, request (i) of 02-change-requests.md
+and source 002 alone.
 
 Every public call takes lists of ints (32-bit numbers, 0 .. 2**32 - 1) or bytes, never changes an argument, and
 returns either ('ok', ...) or ('refused', number).  A lent slice that is written is passed in with its old contents
@@ -19,18 +20,18 @@ A. Checks of each call, in the order made.  Order = rising number; each is made 
                                    11 (len out != n or len work < 2n)
      recurrence                    3, 8 (N > 8192), 9 (s), 11 (len poly != N+1 or len work < 4N+8)
      solve                         3, 4, 5, 6, 7, 8 (len b != n), 9 (b), 10,
-                                   11 (len vector != n, len poly != n+1, len work < 16n+16)
+                                   11 (len vector != n, len poly != n+1, len work < 16n+16; never the bill)
      check_solution  (Ax = b)      3, 4, 5, 6, 7, 8 (len x != n or len b != n), 9 (x, b)
      check_kernel                  3, 4, 5, 6, 7, 8 (len w != n), 9 (w)
      read_system                   2, 3, 4, 5, 6, 7, 11 (starts < n+1, columns < entries, values < entries, b < n)
      write_system                  3, 4, 5, 6, 7, 8 (len b != n), 9 (b), 11 (out shorter than the text)
-     text_call                     1, 2, 3, 4, 5, 6, 7, 11 (n > 128, entries > 1024, or answer slice < 4608)
+     text_call                     1, 2, 3, 4, 5, 6, 7, 11 (n > 128, entries > 1024, or answer slice < 7168)
      program                       as text_call, with an answer slice that is long enough (only n and entries give 11)
 B. Choices.
   1. "Slices as long as stated": where the paper says "has n places", "n + 1 places", "N + 1 places" the length must be
      EXACTLY that (longer is refused, 11); where it says "at least" a longer slice is taken.  Exactly: out of the three
      products, recurrence polynomial, solver vector and polynomial.  At least: all work slices, the reader's four slices,
-     the text call's answer (4608), the writer's out (its text's length).
+     the text call's answer (7168), the writer's out (its text's length).
   2. Elements (9) come before output lengths (11), and words (10) stand between them.  So an element >= p wins over a
      short out slice, and also over bad words.
   3. Words are "any 32-bit numbers": neither 8 nor 9 looks at them, only 10.
@@ -61,7 +62,7 @@ B. Choices.
  16. The reader's slice lengths (11) come after 7.  Its entry count there is the header's (equal to the `a` lines by then).
  17. The writer has no check 2: the longest text possible (n = 4096, 65536 entries) is under 1,600,000 bytes.
  18. The text call: n of 129..4096 -> 11, n over 4096 -> 4; a text that is over 128 / 1024 and has a fault of 2..7 gets the
-     lower number.  A short answer slice (< 4608) is 11 even where the answer would fit, and only after 1..7.
+     lower number.  A short answer slice (< 7168) is 11 even where the answer would fit, and only after 1..7.
  19. The text call's 24,576 bytes is below the reader's 2,097,152, so the length part of 2 is never reached there.
  20. Answer lines: tab-parted, byte 10 at the end, as in the system text.  f lines for ALL powers 0..D (zeros too, the
      leading 1 too); x / w lines for ALL places (zeros too).
@@ -74,6 +75,10 @@ B. Choices.
  26. Empty words (R = 0) are taken: 0 is a multiple of n.
  27. u (a words vector) is reduced modulo p element by element before use.
  28. `if 2 x L < r`: L is the value before this step (002 prints l_r, the misprint).
+ 29. Request (i), the bill: a `pass` line for EVERY pass, also of degree 0, left being that before the pass; one `close` line
+     always, also where no pass was made.  The applications of a pass are counted here as they are made, and so is the total.
+ 30. The solver's bill slice is not in the papers: three numbers (left, t, applications) for each pass, as many whole passes
+     as it has room for; the places behind them stay.  Any length is taken, so no check looks at it.
 """
 
 import sys
@@ -89,7 +94,7 @@ MAX_TEXT = 2097152
 CALL_TEXT = 24576
 CALL_N = 128
 CALL_ENTRIES = 1024
-CALL_ANSWER = 4608
+CALL_ANSWER = 7168
 
 
 def refused(number):
@@ -429,7 +434,7 @@ def recurrence(p, s, polynomial, work):
 def solver_steps(p, starts, columns, values, b, words):
     """The steps of document 01 on accepted input; products with A are counted as they are made.
 
-    Returns kind, F, vector, applications, and a list of passes (u, left, terms, f, r after)."""
+    Returns kind, F, vector, applications, and a list of passes (u, left, terms, f, r after, applications)."""
     n = len(starts) - 1
     R = len(words) // n
     r = list(b)
@@ -444,6 +449,7 @@ def solver_steps(p, starts, columns, values, b, words):
         else:
             u = [1 if k == j - R else 0 for k in range(n)]
         left = n - D
+        before = applications
         terms = []
         power = list(r)
         for k in range(2 * left):
@@ -456,7 +462,7 @@ def solver_steps(p, starts, columns, values, b, words):
         applications += made
         F = polynomial_product(p, F, f)
         D = D + t
-        passes.append((u, left, terms, f, r))
+        passes.append((u, left, terms, f, r, applications - before))
     G = F[1:]
     if D == 0:
         return 'solved', F, [0] * n, applications, passes
@@ -468,8 +474,24 @@ def solver_steps(p, starts, columns, values, b, words):
     return 'singular', F, vector, applications, passes
 
 
-def solve(p, starts, columns, values, b, words, vector, polynomial, work):
-    """('ok', kind, D, passes, applications, vector slice, polynomial slice) or a refusal."""
+def bill_of(passes):
+    """The bill's lines: left, t and applications of each pass."""
+    return [(left, len(f) - 1, applications) for u, left, terms, f, after, applications in passes]
+
+
+def close_of(D):
+    """The number of the `close` line."""
+    return D - 1 if D > 0 else 0
+
+
+def bill_slice(lines, bill):
+    """The slice's final contents: the lines that have room for all three numbers, then what stood there."""
+    numbers = [x for row in lines[:len(bill) // 3] for x in row]
+    return numbers + list(bill[len(numbers):])
+
+
+def solve(p, starts, columns, values, b, words, vector, polynomial, bill, work):
+    """('ok', kind, D, passes, applications, vector slice, polynomial slice, bill slice) or a refusal."""
     number = matrix_refusal(p, starts, columns, values)
     if number:
         return refused(number)
@@ -484,7 +506,7 @@ def solve(p, starts, columns, values, b, words, vector, polynomial, work):
         return refused(11)
     kind, F, x, applications, passes = solver_steps(p, starts, columns, values, b, words)
     D = len(F) - 1
-    return ('ok', kind, D, len(passes), applications, x, F + [0] * (n - D))
+    return ('ok', kind, D, len(passes), applications, x, F + [0] * (n - D), bill_slice(bill_of(passes), bill))
 
 
 # ---------------------------------------------------------------- checks of offered answers
@@ -674,6 +696,9 @@ def text_call(text, answer):
     kind, F, vector, applications, passes = solver_steps(p, starts, columns, values, b, [])
     D = len(F) - 1
     result = line('answer', kind, D, len(passes), applications)
+    for number, row in enumerate(bill_of(passes), 1):
+        result += line('pass', number, *row)
+    result += line('close', close_of(D))
     for i in range(D + 1):
         result += line('f', i, F[i])
     for i in range(n):

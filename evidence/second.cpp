@@ -16,8 +16,10 @@ int main() {
         Line line(text);
         size_t n = line.system.rows.size();
         second::Answer answer = second::Run(line.system)(line.words);
-        std::cout << "0 " << (answer.solved ? 1 : 2) << ' ' << answer.f.size() - 1 << ' ' << answer.passes
-                  << ' ' << answer.applications;
+        std::cout << "0 " << (answer.solved ? 1 : 2) << ' ' << answer.f.size() - 1 << ' '
+                  << answer.bill.size() << ' ' << answer.applications << ' ' << 3 * answer.bill.size();
+        for (auto [left, degree, applications] : answer.bill)
+            std::cout << ' ' << left << ' ' << degree << ' ' << applications;
         print(answer.vector, n);
         print(answer.f, n + 1);
         std::cout << std::endl;

@@ -20,11 +20,16 @@ struct System {
     Vector b;
 };
 
+struct Pass {
+    uint64_t left, degree, applications;
+};
+
 struct Answer {
     bool solved;
     Polynomial f;
     Vector vector;
-    uint64_t passes, applications;
+    std::vector<Pass> bill;
+    uint64_t applications;
 };
 
 inline uint32_t multiply(uint32_t p, uint64_t a, uint64_t b) { return static_cast<uint32_t>(a * b % p); }
@@ -123,14 +128,15 @@ class Run {
 
     Answer operator()(const Vector &words) {
         size_t n = s.rows.size();
-        Answer answer{true, {1}, Vector(n), 0, 0};
+        Answer answer{true, {1}, Vector(n), {}, 0};
         Vector r = s.b;
         while (std::any_of(r.begin(), r.end(), [](uint32_t element) { return element != 0; })) {
             size_t left = n - (answer.f.size() - 1);
-            Polynomial f = recurrence(s.p, terms(projection(words, answer.passes), r, 2 * left), left);
+            uint64_t before = made;
+            Polynomial f = recurrence(s.p, terms(projection(words, answer.bill.size()), r, 2 * left), left);
             r = apply(f, r);
             answer.f = multiply(s.p, answer.f, f);
-            answer.passes++;
+            answer.bill.push_back({left, f.size() - 1, made - before});
         }
         if (answer.f.size() > 1) {
             answer.vector = apply(Polynomial(answer.f.begin() + 1, answer.f.end()), s.b);

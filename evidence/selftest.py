@@ -109,28 +109,36 @@ def random_words(p, n):
     return [rng.choice((0, 0, 0, 1, p, p - 1, 2 ** 32 - 1)) for _ in range(R * n)]
 
 
-def run(p, n, S, b, words):
+def dirty(k):
+    return [rng.randrange(2 ** 32) for _ in range(k)]
+
+
+def run(p, n, S, b, words, bill=()):
     """solve, with dirty slices"""
-    dirty = lambda k: [rng.randrange(2 ** 32) for _ in range(k)]
-    return ref.solve(p, *S, b, words, dirty(n), dirty(n + 1), dirty(16 * n + 16 + rng.randrange(3)))
+    return ref.solve(p, *S, b, words, dirty(n), dirty(n + 1), list(bill), dirty(16 * n + 16 + rng.randrange(3)))
+
+
+def sum_of_bill(lines):
+    """What the `pass` and `close` lines of an answer add up to."""
+    return sum(int(line.split('\t')[-1]) for line in lines if line.startswith(('pass\t', 'close\t')))
 
 
 # ---------------------------------------------------------------- document 01, section Cases
 
 def document_cases():
     text = b'system\t7\t2\t3\na\t1\t1\t2\na\t1\t2\t1\na\t2\t2\t3\nb\t1\t1\nb\t2\t1\nend\n'
-    want = b'answer\tsolved\t1\t1\t4\nf\t0\t4\nf\t1\t1\nx\t1\t5\nx\t2\t5\nend\n'
-    old = bytes(range(256)) * 18
-    expect(len(old) == 4608)
+    want = b'answer\tsolved\t1\t1\t4\npass\t1\t2\t1\t4\nclose\t0\nf\t0\t4\nf\t1\t1\nx\t1\t5\nx\t2\t5\nend\n'
+    old = bytes(range(256)) * 28
+    expect(len(old) == 7168)
     expect(ref.text_call(text, old) == ('ok', len(want), want + old[len(want):]))
     expect(ref.program(text) == want)
 
     diag = ([0, 1, 2], [0, 1], [2, 3])
     U = ([0, 1, 1], [1], [1])
-    expect(run(7, 2, diag, [1, 1], []) == ('ok', 'solved', 2, 2, 7, [4, 5], [6, 2, 1]))
-    expect(run(7, 2, diag, [1, 1], [1, 1]) == ('ok', 'solved', 2, 1, 6, [4, 5], [6, 2, 1]))
-    expect(run(7, 2, diag, [1, 1], [8, 8]) == ('ok', 'solved', 2, 1, 6, [4, 5], [6, 2, 1]))
-    expect(run(7, 2, diag, [1, 1], [0, 0]) == ('ok', 'solved', 2, 3, 10, [4, 5], [6, 2, 1]))
+    expect(run(7, 2, diag, [1, 1], []) == ('ok', 'solved', 2, 2, 7, [4, 5], [6, 2, 1], []))
+    expect(run(7, 2, diag, [1, 1], [1, 1]) == ('ok', 'solved', 2, 1, 6, [4, 5], [6, 2, 1], []))
+    expect(run(7, 2, diag, [1, 1], [8, 8]) == ('ok', 'solved', 2, 1, 6, [4, 5], [6, 2, 1], []))
+    expect(run(7, 2, diag, [1, 1], [0, 0]) == ('ok', 'solved', 2, 3, 10, [4, 5], [6, 2, 1], []))
     got = run(7, 2, diag, [0, 1], [])
     expect(got[1] == 'solved' and got[3] == 2 and got[4] == 7 and got[5] == [0, 5])
     got = run(7, 2, U, [0, 1], [])
@@ -138,8 +146,8 @@ def document_cases():
     got = run(7, 2, U, [1, 0], [])
     expect(got[1] == 'singular' and got[6] == [0, 1, 0] and got[5] == [1, 0] and got[4] == 4)
     expect(ref.check_solution(7, *U, [0, 1], [1, 0]) == ('ok', True))
-    expect(run(7, 2, diag, [0, 0], []) == ('ok', 'solved', 0, 0, 0, [0, 0], [1, 0, 0]))
-    expect(run(7, 2, U, [0, 0], [5, 5]) == ('ok', 'solved', 0, 0, 0, [0, 0], [1, 0, 0]))
+    expect(run(7, 2, diag, [0, 0], []) == ('ok', 'solved', 0, 0, 0, [0, 0], [1, 0, 0], []))
+    expect(run(7, 2, U, [0, 0], [5, 5]) == ('ok', 'solved', 0, 0, 0, [0, 0], [1, 0, 0], []))
     got = run(2, 1, ([0, 1], [0], [1]), [1], [])
     expect(got[1] == 'solved' and got[5] == [1] and got[4] == 2)
     expect(ref.recurrence(7, [1, 2, 4, 1], [9] * 5, [0] * 24) == ('ok', 1, [5, 1, 0, 0, 0]))
@@ -154,6 +162,36 @@ def document_cases():
     expect(ref.text_call(b'system\t7\t129\t0\nend\n', old) == ('refused', 11))
 
 
+# ---------------------------------------------------------------- request (i) of document 02: the bill
+
+def bill_cases():
+    """The bills of document 01's cases, worked out by hand, in slices of every length up to some places too many."""
+    diag = ([0, 1, 2], [0, 1], [2, 3])
+    U = ([0, 1, 1], [1], [1])
+    for p, n, S, b, words, lines in (
+            (7, 2, ([0, 2, 3], [0, 1, 1], [2, 1, 3]), [1, 1], [], [(2, 1, 4)]),
+            (7, 2, diag, [1, 1], [], [(2, 1, 4), (1, 1, 2)]),
+            (7, 2, diag, [1, 1], [1, 1], [(2, 2, 5)]),
+            (7, 2, diag, [1, 1], [0, 0], [(2, 0, 3), (2, 1, 4), (1, 1, 2)]),
+            (7, 2, diag, [0, 1], [], [(2, 0, 3), (2, 1, 4)]),
+            (7, 2, U, [0, 1], [], [(2, 2, 5)]),
+            (7, 2, U, [1, 0], [], [(2, 1, 4)]),
+            (7, 2, diag, [0, 0], [5, 5], []),
+            (2, 1, ([0, 1], [0], [1]), [1], [], [(1, 1, 2)])):
+        numbers = [x for row in lines for x in row]
+        for places in range(len(numbers) + 5):
+            bill = dirty(places)
+            got = run(p, n, S, b, words, bill)
+            written = min(places - places % 3, len(numbers))
+            expect(got[3] == len(lines) and got[7] == numbers[:written] + bill[written:], 'bill', S, b, words, places, got)
+            expect(got[4] == sum(row[2] for row in lines) + max(got[2] - 1, 0), 'sum of the bill', S, b, words, got)
+    expect(ref.program(b'system\t7\t2\t2\na\t1\t1\t2\na\t2\t2\t3\nb\t1\t1\nb\t2\t1\nend\n') ==
+           b'answer\tsolved\t2\t2\t7\npass\t1\t2\t1\t4\npass\t2\t1\t1\t2\nclose\t1\n'
+           b'f\t0\t6\nf\t1\t2\nf\t2\t1\nx\t1\t4\nx\t2\t5\nend\n')
+    expect(ref.program(b'system\t7\t2\t2\na\t1\t1\t2\na\t2\t2\t3\nend\n') ==
+           b'answer\tsolved\t0\t0\t0\nclose\t0\nf\t0\t1\nx\t1\t0\nx\t2\t0\nend\n')
+
+
 # ---------------------------------------------------------------- solver against dense elimination
 
 def check_system(p, n, M, b, words_list):
@@ -164,9 +202,10 @@ def check_system(p, n, M, b, words_list):
     results = []
     for words in words_list:
         R = len(words) // n
-        got = run(p, n, S, b, words)
+        bill = dirty(rng.randrange(3 * n + 4))
+        got = run(p, n, S, b, words, bill)
         expect(got[0] == 'ok', 'refused', got, p, M, b)
-        _, kind, D, passes, applications, vector, poly = got
+        _, kind, D, passes, applications, vector, poly, billed = got
         where = (p, M, b, words, got)
         f = poly[:D + 1]
         expect(len(poly) == n + 1 and len(vector) == n and not any(poly[D + 1:]), 'lengths', where)
@@ -186,8 +225,8 @@ def check_system(p, n, M, b, words_list):
         # the passes, one by one
         trace = ref.solver_steps(p, *S, b, words)[4]
         expect(len(trace) == passes, where)
-        r, before, total = b, 0, 0
-        for k, (u, left, terms, g, after) in enumerate(trace):
+        r, before, total, lines = b, 0, 0, []
+        for k, (u, left, terms, g, after, made) in enumerate(trace):
             expect(any(r), 'pass on zero r', where)
             expect(left == n - before and len(terms) == 2 * left and left >= 1, 'left', where)
             want_u = [w % p for w in words[k * n:k * n + n]] if k < R else [int(i == k - R) for i in range(n)]
@@ -203,6 +242,8 @@ def check_system(p, n, M, b, words_list):
             expect((L, h) == (len(g) - 1, g) and number == 'one', 'f of pass', where)
             r = d_apply_poly(M, g, r, p)
             expect(r == after, 'r after', where)
+            expect(made == 2 * left - 1 + L, 'applications of a pass', where)
+            lines += [left, L, made]
             total += 2 * left - 1
             before += L
             if L == 0:
@@ -211,6 +252,8 @@ def check_system(p, n, M, b, words_list):
                 count('true restarts, p = %d' % p)
         expect(not any(r) and before == D, 'end', where)
         expect(applications == (total + 2 * D - 1 if any(b) else 0), 'applications', where)
+        written = min(len(bill) - len(bill) % 3, len(lines))
+        expect(billed == lines[:written] + bill[written:], 'bill', where, bill)
         results.append((kind, D, vector, poly))
         count(kind)
     expect(all(x == results[0] for x in results), 'words change the answer', p, M, b, results)
@@ -225,12 +268,15 @@ def check_system(p, n, M, b, words_list):
     back = ref.read_system(text, [77] * (n + 3), [78] * (e + 1), [79] * e, [80] * (n + 2))
     expect(back == ('ok', p, n, e, S[0] + [77] * 2, S[1] + [78], S[2], list(b) + [80] * 2), 'read', back)
     # text call = solver without words
-    got = run(p, n, S, b, [])
-    answer = ref.text_call(text, b'\x01' * 4700)
+    got = run(p, n, S, b, [], [0] * (3 * n))
+    answer = ref.text_call(text, b'\x01' * 7200)
     expect(answer[0] == 'ok' and answer[1] > 18)
     lines = answer[2][:answer[1]].decode().split('\n')
-    expect(answer[2][answer[1]:] == b'\x01' * (4700 - answer[1]))
-    want = ['answer\t%s\t%d\t%d\t%d' % got[1:5]] + ['f\t%d\t%d' % (i, got[6][i]) for i in range(got[2] + 1)]
+    expect(answer[2][answer[1]:] == b'\x01' * (7200 - answer[1]))
+    expect(sum_of_bill(lines) == got[4], 'the printed sum', lines)
+    want = ['answer\t%s\t%d\t%d\t%d' % got[1:5]]
+    want += ['pass\t%d\t%d\t%d\t%d' % (k + 1, *got[7][3 * k:3 * k + 3]) for k in range(got[3])]
+    want += ['close\t%d' % max(got[2] - 1, 0)] + ['f\t%d\t%d' % (i, got[6][i]) for i in range(got[2] + 1)]
     want += ['%s\t%d\t%d' % ('x' if got[1] == 'solved' else 'w', i + 1, got[5][i]) for i in range(n)] + ['end', '']
     expect(lines == want, lines, want)
     expect(ref.program(text) == answer[2][:answer[1]])
@@ -396,7 +442,8 @@ def refusal_tests(rounds):
         g = [rng.randrange(p) for _ in range(rng.randrange(1, n + 2))]
         words = [rng.randrange(2 ** 32) for _ in range(n * rng.choice((0, 1, 2, 64)))]
         slices = {'starts': starts, 'columns': columns, 'values': values, 'v': v, 'b': b, 'g': g, 'words': words,
-                  'out': [9] * n, 'poly': [9] * (n + 1), 'work': [9] * (16 * n + 16), 'gwork': [9] * (2 * n)}
+                  'out': [9] * n, 'poly': [9] * (n + 1), 'bill': [9] * (3 * n), 'work': [9] * (16 * n + 16),
+                  'gwork': [9] * (2 * n)}
         for _ in range(rng.choice((0, 1, 1, 2, 3))):
             if rng.random() < 0.15:
                 p = rng.choice((0, 1, 4, 9, 91, 2147483646, 2147483648, 4294967291, 4294967295))
@@ -422,7 +469,7 @@ def refusal_tests(rounds):
         same(ref.polynomial_apply(*A, g, v, slices['out'], slices['gwork']),
              causes | long_v | ({8} if not 1 <= len(g) <= m + 1 else set()) | big(v) | big(g) | o11 |
              ({11} if len(slices['gwork']) < 2 * m else set()), 'polynomial_apply')
-        same(ref.solve(*A, b, words, slices['out'], slices['poly'], slices['work']),
+        same(ref.solve(*A, b, words, slices['out'], slices['poly'], slices['bill'], slices['work']),
              causes | long_b | big(b) | w10 | o11 | ({11} if len(slices['poly']) != m + 1 else set()) |
              ({11} if len(slices['work']) < 16 * m + 16 else set()), 'solve')
         same(ref.check_solution(*A, v, b), causes | long_v | long_b | big(v) | big(b), 'check_solution')
@@ -516,7 +563,7 @@ def text_tests(rounds):
         causes, parsed = text_causes(text)
         lengths = [rng.choice((0, 1, 2, 3, 4, 10, 10, 10)) if rng.random() < 0.2 else 200 for _ in range(4)]
         got = ref.read_system(text, *[[9] * k for k in lengths])
-        call = ref.text_call(text, bytes(rng.choice((4608, 4608, 4607, 0, 5000))) if rng.random() < 0.3 else bytes(4608))
+        call = ref.text_call(text, bytes(rng.choice((7168, 7168, 7167, 4608, 0, 8000))) if rng.random() < 0.3 else bytes(7168))
         if causes:
             expect(got == ('refused', min(causes)), text, got, causes)
             expect(call == ('refused', min(causes)), text, call, causes)
@@ -544,12 +591,12 @@ def text_tests(rounds):
                 else:
                     expect(call == ('refused', 11))
     # sizes
-    answer = bytes(4608)
+    answer = bytes(7168)
     short = b'system\t7\t1\t0\nend\n'
     expect(ref.text_call(short, answer)[1] > 18)
     expect(ref.text_call(b'', answer) == ('refused', 2) and ref.program(b'') == b'refused\t2\n')
     expect(ref.text_call(b'x' * 24577, b'') == ('refused', 1) and ref.text_call(b'x' * 24576, b'') == ('refused', 2))
-    expect(ref.text_call(short, bytes(4607)) == ('refused', 11))
+    expect(ref.text_call(short, bytes(7167)) == ('refused', 11))
     big = ref.system_text(7, *dense_to_sparse([[1] * 33 for _ in range(33)]), [0] * 33)
     expect(len(big) <= 24576 and ref.text_call(big, answer) == ('refused', 11))
     M = [[1] * 32 for _ in range(32)]
@@ -560,21 +607,25 @@ def text_tests(rounds):
     many = b'system\t7\t300\t65536\n' + b''.join(b'a\t%d\t%d\t1\n' % (i // 300 + 1, i % 300 + 1) for i in range(65536)) + b'end\n'
     expect(ref.read_system(many, [0] * 301, [0] * 65536, [0] * 65536, [0] * 300)[:4] == ('ok', 7, 300, 65536))
     expect(ref.read_system(b'\n' * 2097153, [], [], [], []) == ('refused', 2))
-    # longest answer
+    # longest answers: of one pass, and of a pass for each place
     p, n = 2147483647, 128
     M = [[0] * n for _ in range(n)]
     for i in range(n):
         M[i][(i + 1) % n] = p - 1 - i
         M[i][(i + 7) % n] = p - 2 - 3 * i
-    text = ref.system_text(p, *dense_to_sparse(M), [p - 1 - i for i in range(n)])
-    got = ref.text_call(text, answer)
-    expect(got[0] == 'ok' and got[1] <= 4608)
-    counts['longest answer seen'] = got[1]
+    one = ref.system_text(p, *dense_to_sparse(M), [p - 1 - i for i in range(n)])
+    each = ref.system_text(p, list(range(n + 1)), list(range(n)), [p - 1 - i * i for i in range(n)], [p - 1 - i for i in range(n)])
+    for text, passes in (one, 1), (each, n):
+        got = ref.text_call(text, answer)
+        expect(got[0] == 'ok' and got[1] <= 7168)
+        expect(got[2].split(b'\n')[passes].startswith(b'pass\t%d\t' % passes) and got[2].split(b'\n')[passes + 1].startswith(b'close\t'))
+        counts['longest answer seen'] = max(got[1], counts.get('longest answer seen', 0))
 
 
 if __name__ == '__main__':
     rounds = int(sys.argv[1]) if len(sys.argv) > 1 else 1500
     document_cases()
+    bill_cases()
     field_tests()
     product_tests(rounds)
     recurrence_tests(rounds)

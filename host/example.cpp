@@ -82,6 +82,10 @@ bool plain_loop_agrees(const filzeur::System &system, const filzeur::Answer &ans
 void print(const filzeur::Answer &answer) {
     std::printf("answer\t%s\t%" PRIu64 "\t%" PRIu64 "\t%" PRIu64 "\n", name(answer.kind), answer.degree, answer.passes,
                 answer.applications);
+    for (std::size_t i = 0; i < answer.bill.size(); ++i)
+        std::printf("pass\t%zu\t%" PRIu64 "\t%" PRIu64 "\t%" PRIu64 "\n", i + 1, answer.bill[i].left,
+                    answer.bill[i].degree, answer.bill[i].applications);
+    std::printf("close\t%" PRIu64 "\n", answer.degree == 0 ? 0 : answer.degree - 1);
     for (std::size_t i = 0; i < answer.polynomial.size(); ++i)
         std::printf("f\t%zu\t%" PRIu32 "\n", i, answer.polynomial[i]);
     for (std::size_t i = 0; i < answer.vector.size(); ++i)

@@ -21,6 +21,9 @@
 #include <stddef.h>
 #include <stdint.h>
 
+/* Raised whenever a signature, a struct or the meaning of one changes. A header without it is version 1. */
+#define FILZEUR_VERSION 2
+
 #ifdef __cplusplus
 extern "C" {
 #endif
@@ -33,7 +36,7 @@ enum {
     FILZEUR_MAX_VECTORS = 64,    /* R, the vectors of random words */
     FILZEUR_MAX_TEXT = 2097152,  /* bytes of a system text */
     FILZEUR_CALL_TEXT = 24576,   /* bytes of a system text that filzeur_text takes */
-    FILZEUR_CALL_ANSWER = 4608   /* bytes that filzeur_text wants for its answer */
+    FILZEUR_CALL_ANSWER = 7168   /* bytes that filzeur_text wants for its answer */
 };
 
 /* The refusals.
@@ -136,13 +139,18 @@ struct filzeur_degree filzeur_recurrence(uint32_t p, const uint32_t *s, size_t s
  * numbers; they sway passes and applications only. polynomial = the monic f of least degree with f(A)b = 0, then zeros.
  * Solved: b is a combination of Ab, A(Ab), .., and vector = x with Ax = b. Singular: vector = w, not zero, with Aw = 0;
  * Ax = b may have solutions all the same.
+ * bill: three numbers for each pass, in their order: left (n less the degree found before the pass), the pass's degree t
+ * and its applications, 2 * left - 1 + t. The verdict's applications are the sum of the passes' and degree - 1 for the
+ * close (0 for degree 0). The bill takes as many whole passes as it has room for, and its other places stay as they
+ * were: an empty one wants none, 3 * (R + n) places hold every pass of a run. No length of it is refused.
  * Refusals: 3 to 7; 8 (b: n elements); 9 (b); 10 (words); 11 (vector: exactly n places; polynomial: exactly n + 1;
  * work: at least 16 * n + 16). */
 struct filzeur_verdict filzeur_solve(uint32_t p, const uint32_t *starts, size_t starts_length, const uint32_t *columns,
                                      size_t columns_length, const uint32_t *values, size_t values_length,
                                      const uint32_t *b, size_t b_length, const uint32_t *words, size_t words_length,
                                      uint32_t *vector, size_t vector_length, uint32_t *polynomial,
-                                     size_t polynomial_length, uint32_t *work, size_t work_length);
+                                     size_t polynomial_length, uint32_t *bill, size_t bill_length, uint32_t *work,
+                                     size_t work_length);
 
 /* ---- Checks of answers that anyone offers ---- */
 
@@ -174,7 +182,7 @@ struct filzeur_length filzeur_write(uint32_t p, const uint32_t *starts, size_t s
 
 /* The text call: a system text in, the answer's text out, without random words. Answers the length of the answer's
  * text, always above 18, or the refusal's number; the bytes after the answer stay.
- * Refusals: 1 to 7; 11 (n over 128, or over 1,024 entries; answer: at least 4,608 bytes). */
+ * Refusals: 1 to 7; 11 (n over 128, or over 1,024 entries; answer: at least 7,168 bytes). */
 uint64_t filzeur_text(const uint8_t *text, size_t text_length, uint8_t *answer, size_t answer_length);
 
 #ifdef __cplusplus

@@ -4,6 +4,7 @@
 //   Result<T>            a T or a Refusal
 //   Field                the field of p elements: sum, difference, product, inverse
 //   Matrix, System       a sparse square matrix; a field, a matrix and a right side
+//   Answer, Pass         what a run of the solver found; one line of its bill
 //   product, transposed, apply, recurrence, solve, takes, is_null
 //   read_system, write_system, answer_text
 //
@@ -150,14 +151,32 @@ struct System {
 
 enum class Kind : std::uint32_t { solved = FILZEUR_SOLVED, singular = FILZEUR_SINGULAR };
 
+// One projection's part of a run: n less the degree found before it, the degree that it finds, its products with A.
+struct Pass {
+    std::uint64_t left, degree, applications;
+};
+
 struct Answer {
     Kind kind;
     std::uint64_t degree, passes, applications;
     Vector vector;         // x with Ax = b, or w with Aw = 0, as the kind says
     Polynomial polynomial; // f, monic, of that degree
+    // The passes in their order. Their applications, and degree - 1 for the close (0 for degree 0), make up those of
+    // the run.
+    std::vector<Pass> bill = {};
 };
 
 namespace detail {
+
+inline std::vector<Pass> passes(const Element *bill, std::size_t count) {
+    std::vector<Pass> found(count);
+    for (auto &[left, degree, applications] : found) {
+        left = *bill++;
+        degree = *bill++;
+        applications = *bill++;
+    }
+    return found;
+}
 
 // Calls a C function on p, the matrix's three slices, and what follows.
 template <class Call, class... Rest> auto with(Call call, const Field &field, const Matrix &a, Rest... rest) {
@@ -200,13 +219,17 @@ inline Result<Polynomial> recurrence(const Field &field, const Vector &list) {
 // words: R vectors of n random words each, one after the other, R from 0 to 64. The verdict does not depend on them.
 inline Result<Answer> solve(const System &system, const std::vector<std::uint32_t> &words = {}) {
     const auto &[field, a, b] = system;
-    detail::Lent<Element> vector(a.size()), polynomial(a.size() + 1), work(16 * a.size() + 16);
-    auto verdict =
-        detail::with(filzeur_solve, field, a, detail::place(b), b.size(), detail::place(words), words.size(),
-                     vector.data(), vector.size(), polynomial.data(), polynomial.size(), work.data(), work.size());
-    return detail::result(verdict.refusal, Answer{Kind{verdict.kind}, verdict.degree, verdict.passes,
-                                                  verdict.applications, std::move(vector).leading(a.size()),
-                                                  std::move(polynomial).leading(verdict.degree + 1)});
+    // R; where that is more than 64, or there is no row, the call is refused and the bill stays empty.
+    std::size_t vectors = words.size() / std::max<std::size_t>(1, a.size());
+    std::size_t passes = std::min<std::size_t>(FILZEUR_MAX_VECTORS, vectors) + a.size();
+    detail::Lent<Element> vector(a.size()), polynomial(a.size() + 1), bill(3 * passes), work(16 * a.size() + 16);
+    auto verdict = detail::with(filzeur_solve, field, a, detail::place(b), b.size(), detail::place(words), words.size(),
+                                vector.data(), vector.size(), polynomial.data(), polynomial.size(), bill.data(),
+                                bill.size(), work.data(), work.size());
+    return detail::result(verdict.refusal,
+                          Answer{Kind{verdict.kind}, verdict.degree, verdict.passes, verdict.applications,
+                                 std::move(vector).leading(a.size()), std::move(polynomial).leading(verdict.degree + 1),
+                                 detail::passes(bill.data(), verdict.passes)});
 }
 
 // Whether Ax = b

@@ -13,6 +13,7 @@ import reference  # noqa: E402
 from generator import FREE, listed, printed, run, shown  # noqa: E402
 
 dice = random.Random(20261115)
+bill_dice = random.Random(20261117)
 calls, answers = [], []
 
 
@@ -42,18 +43,33 @@ def dense(starts, columns, values):
     return rows
 
 
-def add(p, starts, columns, values, b, words, vector=None, polynomial=None, work=None):
+def billed(bill, n, degree, passes, applications):
+    """Whether whole passes stand on the bill, left falling from n, with the applications of all of them where there is room."""
+    left, total = n, max(degree - 1, 0)
+    for k in range(min(passes, len(bill) // 3)):
+        left_before, t, made = bill[3 * k:3 * k + 3]
+        if left_before != left or made != 2 * left - 1 + t:
+            return False
+        left, total = left - t, total + made
+    return len(bill) < 3 * passes or (left == n - degree and total == applications and set(bill[3 * passes:]) <= {FREE})
+
+
+def add(p, starts, columns, values, b, words, vector=None, polynomial=None, work=None, bill=None):
     n = max(len(starts) - 1, 0)
     vector = n if vector is None else vector
     polynomial = n + 1 if polynomial is None else polynomial
     work = 16 * n + 16 if work is None else work
-    calls.append([[p, vector, polynomial, work], starts, columns, values, b, words])
-    answer = reference.solve(p, starts, columns, values, b, words, [FREE] * vector, [FREE] * polynomial, [0] * work)
+    every_pass = 3 * (n + len(words) // max(n, 1))
+    bill = bill_dice.choice((0, 1, 2, 3, 4, 5, 8, every_pass, every_pass, every_pass)) if bill is None else bill
+    calls.append([[p, vector, polynomial, bill, work], starts, columns, values, b, words])
+    lent = [[FREE] * places for places in (vector, polynomial, bill)]
+    answer = reference.solve(p, starts, columns, values, b, words, *lent, [0] * work)
     if answer[0] == 'refused':
-        answers.append(printed(answer[1]) + shown([FREE] * vector) + shown([FREE] * polynomial) + shown([FREE] * work))
+        answers.append(printed(answer[1]) + ''.join(map(shown, lent)) + shown([FREE] * work))
         return
-    _, kind, D, passes, applications, x, F = answer
-    answers.append(printed(0, kind == 'solved', D, passes, applications) + shown(x) + shown(F) + shown([]))
+    _, kind, D, passes, applications, x, F, lines = answer
+    answers.append(printed(0, kind == 'solved', D, passes, applications) + shown(x) + shown(F) + shown(lines) + shown([]))
+    assert billed(lines, n, D, passes, applications)
     if n <= 24:
         A = dense(starts, columns, values)
         image = [sum(c * y for c, y in zip(row, x)) % p for row in A]
@@ -133,6 +149,16 @@ add(7, *diag, [1, 1], [], 2, 2)
 add(7, *diag, [1, 1], [], 2, 4)
 add(7, *diag, [1, 1], [], 2, 3, 47)
 add(7, *diag, [1, 1], [], 2, 3, 49)
+# bills of every length: whole passes, what stands behind them stays; of two passes, of three with one of degree 0, of one, of none, of a singular system,
+# and of a call that is refused
+for bill in (*range(13), 100):
+    add(7, *diag, [1, 1], [], bill=bill)
+    add(7, *diag, [1, 1], [0, 0], bill=bill)
+    add(7, *diag, [1, 1], [1, 1], bill=bill)
+    add(7, *diag, [0, 0], [], bill=bill)
+    add(5, [0, 1, 2, 2], [0, 1], [2, 3], [1, 1, 1], [], bill=bill)
+    add(7, *diag, [1, 1], [1], bill=bill)
+    add(7, *diag, [1, 1], [], 2, 3, 47, bill)
 # random systems, singular and not; many small ones over small fields, where restarts are common
 for p, count, most in ((2, 110, 24), (3, 90, 24), (7, 60, 24), (65537, 40, 20), (2147483647, 40, 20)):
     for _ in range(count):
@@ -141,7 +167,8 @@ for p, count, most in ((2, 110, 24), (3, 90, 24), (7, 60, 24), (65537, 40, 20), 
         A = system(p, n, min(1.0, dice.choice((1.5, 3.0, 5.0)) / n), deficient)
         add(p, *A, vector(p, n, dice.choice((0.0, 0.5, 0.9))), words_for(p, n))
 for p, n in ((2, 60), (3, 60), (7, 57), (65537, 60), (2147483647, 60), (2, 211), (65537, 256), (2147483647, 300)):
-    add(p, *system(p, n, 4.0 / n), vector(p, n), words_for(p, n) if n < 100 else [])
+    A, b, words = system(p, n, 4.0 / n), vector(p, n), words_for(p, n) if n < 100 else []
+    add(p, *A, b, words, bill=3 * (n + len(words) // n))
 
 
 def make():

@@ -12,7 +12,7 @@ sys.path[:0] = [str(crates / 'test_io'), str(crates.parent / 'evidence')]
 import reference  # noqa: E402
 from generator import FREE_BYTE, Place, Texts, printed, run, shown_bytes  # noqa: E402
 
-LEAST, BUFFER = 4608, 24577
+LEAST, BUFFER = 7168, 24577
 dice = random.Random(20261116)
 calls, answers, numbers, texts = [], [], {}, Texts()
 
@@ -72,6 +72,20 @@ for text in (
     add(text)
     add(text, letter='o')
 
+# the bill: two passes, one of them of degree 0; three, the first of degree 0; as many as places, so that it is as long as can be
+for passes, text in (
+    (0, text_of(7, 2, diag, [])),
+    (2, text_of(7, 2, diag, [(1, 1), (2, 1)])),
+    (2, text_of(7, 2, diag, [(2, 1)])),
+    (3, text_of(5, 3, [(1, 1, 1), (2, 2, 2), (3, 3, 3)], [(1, 1), (2, 1), (3, 1)])),
+    (3, text_of(2, 3, [(2, 1, 1), (3, 2, 1)], [(2, 1)])),
+    (128, text_of(2147483647, 128, [(i, i, 2147483647 - i) for i in range(1, 129)], [(i, i * i) for i in range(1, 129)])),
+    (128, text_of(2147483647, 128, [(i, i, 2147483647 - i) for i in range(1, 129)], [(128, 1)])),
+):
+    for letter in 'co':
+        add(text, letter=letter)
+        assert answers[-1].count(b'\npass\t') == passes and answers[-1].count(b'\nclose\t') == 1
+
 # each size from 1 to 128; systems solved and singular, with restarts over small fields
 for n in range(1, 129):
     p = dice.choice((2, 3, 7, 65537, 2147483647))
@@ -124,8 +138,8 @@ for buffer in (0, len(first), 24576, 24577, 24578, 30000):
     for text in (b'', first, first * 463 + first[:38], first * 464):
         add(text, letter='o', buffer=buffer)
 
-# the answer slice: at least 4,608 bytes, 11 after all other checks
-for room in (0, 1, 18, 48, 4607, 4608, 4609, 4700):
+# the answer slice: at least 7,168 bytes, 11 after all other checks
+for room in (0, 1, 18, 69, 4608, 7167, 7168, 7169, 7300):
     add(first, room)
     add(first, room, 'o')
 for text in (
@@ -136,8 +150,8 @@ for text in (
     text_of(7, 2, diag[::-1], []),
     text_of(7, 2, diag, [(1, 7)]),
 ):
-    add(text, 4607)
-    add(text, 4700)
+    add(text, 7167)
+    add(text, 7300)
     add(text, letter='o')
 
 # each refusal, and which comes first where two apply

@@ -13,7 +13,7 @@
 
 namespace {
 
-constexpr size_t answer_bytes = 4608;
+constexpr size_t answer_bytes = 7168;
 
 // ---- the oracle: document 01's text call, by a reader that takes the text apart line by line
 
@@ -145,17 +145,24 @@ Expected oracle(std::string_view bytes, size_t answer_length) {
         system.b[element[0] - 1] = element[1];
     second::Answer solved = second::Run(system)({});
 
-    auto line = [](const std::string &word, uint64_t place, uint64_t value) {
-        return word + '\t' + std::to_string(place) + '\t' + std::to_string(value) + '\n';
+    std::string answer;
+    auto line = [&](const char *words, std::initializer_list<uint64_t> numbers) {
+        answer += words;
+        for (uint64_t number : numbers)
+            answer += '\t' + std::to_string(number);
+        answer += '\n';
     };
-    std::string answer = std::string("answer\t") + (solved.solved ? "solved" : "singular") + '\t' +
-                         std::to_string(solved.f.size() - 1) + '\t' + std::to_string(solved.passes) + '\t' +
-                         std::to_string(solved.applications) + '\n';
-    for (size_t i = 0; i < solved.f.size(); i++)
-        answer += line("f", i, solved.f[i]);
+    size_t degree = solved.f.size() - 1, pass = 0;
+    line(solved.solved ? "answer\tsolved" : "answer\tsingular",
+         {degree, solved.bill.size(), solved.applications});
+    for (auto [left, t, applications] : solved.bill)
+        line("pass", {++pass, left, t, applications});
+    line("close", {degree == 0 ? 0 : degree - 1});
+    for (size_t i = 0; i <= degree; i++)
+        line("f", {i, solved.f[i]});
     for (size_t i = 0; i < n; i++)
-        answer += line(solved.solved ? "x" : "w", i + 1, solved.vector[i]);
-    answer += "end\n";
+        line(solved.solved ? "x" : "w", {i + 1, solved.vector[i]});
+    line("end", {});
     return {answer.size(), answer};
 }
 

@@ -75,7 +75,7 @@ std::string text_of(const std::string &line) {
     return text;
 }
 
-// "4,607" after the key
+// "7,167" after the key
 std::size_t grouped(const std::string &line, const std::string &key, std::size_t otherwise) {
     std::size_t at = line.find(key), value = 0;
     if (at == std::string::npos)
@@ -105,17 +105,27 @@ Numbers padded(Numbers leading, std::size_t places) {
 
 // ---- Sections 1 and 7: the solver ----
 
+// Whether the bill's first passes are these numbers, three each.
+bool begins_with(const std::vector<filzeur::Pass> &bill, const Numbers &leading) {
+    Numbers all;
+    for (const auto &[left, degree, applications] : bill)
+        for (auto number : {left, degree, applications})
+            all.push_back(static_cast<std::uint32_t>(number));
+    return leading.size() <= all.size() && std::equal(leading.begin(), leading.end(), all.begin());
+}
+
 struct Run {
     std::uint32_t p;
     Matrix a;
     Numbers b, words;
-    std::uint32_t vector, polynomial, work; // lengths
+    std::uint32_t vector, polynomial, bill, work; // lengths
 };
 
 void solver_case(const std::string &what, const Run &run, const std::string &expected) {
-    Lent vector(run.vector), polynomial(run.polynomial), work(run.work);
-    auto verdict = on(filzeur_solve, run.p, run.a, place(run.b), run.b.size(), place(run.words), run.words.size(),
-                      vector.data(), vector.size(), polynomial.data(), polynomial.size(), work.data(), work.size());
+    Lent vector(run.vector), polynomial(run.polynomial), bill(run.bill), work(run.work);
+    auto verdict =
+        on(filzeur_solve, run.p, run.a, place(run.b), run.b.size(), place(run.words), run.words.size(), vector.data(),
+           vector.size(), polynomial.data(), polynomial.size(), bill.data(), bill.size(), work.data(), work.size());
     auto answer = filzeur::solve({{run.p}, run.a, run.b}, run.words);
     std::uint32_t refusal = refusal_of(expected);
     check(verdict.refusal == refusal, what + ", refusal " + std::to_string(verdict.refusal));
@@ -123,20 +133,21 @@ void solver_case(const std::string &what, const Run &run, const std::string &exp
     if (refusal != 0) {
         check(verdict.kind == 0 && verdict.degree == 0 && verdict.passes == 0 && verdict.applications == 0,
               what + ", no other answer");
-        check(vector.untouched() && polynomial.untouched() && work.untouched(), what + ", slices");
+        check(vector.untouched() && polynomial.untouched() && bill.untouched() && work.untouched(), what + ", slices");
         if (refusal != 11) // the C++ call's own slices are right
             check(answer.refusal().number == refusal, what + ", C++ refusal");
         return;
     }
     auto found = numbers(expected, has(expected, "x = ") ? "x = " : has(expected, "w = ") ? "w = " : "vector ");
     auto f = numbers(expected, has(expected, "slice = ") ? "slice = " : "polynomial ");
+    auto billed = numbers(expected, has(expected, "bill = ") ? "bill = " : "bill ");
     std::uint64_t degree = number(expected, "D = "), passes = number(expected, "passes = "),
                   applications = number(expected, "applications = ");
     std::uint32_t kind = has(expected, "-> solved") ? FILZEUR_SOLVED : FILZEUR_SINGULAR;
     check(verdict.kind == kind && verdict.degree == degree && verdict.passes == passes &&
               verdict.applications == applications,
           what + ", verdict");
-    check(vector.ends_as(found) && polynomial.ends_as(f), what + ", slices");
+    check(vector.ends_as(found) && polynomial.ends_as(f) && bill.ends_as(billed), what + ", slices");
 
     check(answer.ok(), what + ", C++ answer");
     if (!answer.ok())
@@ -146,13 +157,16 @@ void solver_case(const std::string &what, const Run &run, const std::string &exp
               value.applications == applications && value.vector == found && padded(value.polynomial, f.size()) == f &&
               value.polynomial.size() == degree + 1,
           what + ", C++ answer's fields");
+    billed.resize(3 * std::min<std::size_t>(passes, billed.size() / 3));
+    check(value.bill.size() == passes && begins_with(value.bill, billed), what + ", C++ answer's bill");
 }
 
 void system_case(const std::vector<std::string> &lines) {
     Matrix a = matrix_of(lines[1]);
     auto n = static_cast<std::uint32_t>(a.size());
-    Run run{
-        number(lines[1], "p = "), a, numbers(lines[2], " b = "), numbers(lines[2], "words = "), n, n + 1, 16 * n + 16};
+    auto words = numbers(lines[2], "words = ");
+    auto passes = static_cast<std::uint32_t>(words.size()) / n + n; // at most
+    Run run{number(lines[1], "p = "), a, numbers(lines[2], " b = "), words, n, n + 1, 3 * passes, 16 * n + 16};
     solver_case(lines[0], run, lines[3]);
 }
 
@@ -160,7 +174,7 @@ void refusal_case(const std::vector<std::string> &lines) {
     const auto &line = lines[0];
     Run run{number(line, "p = "),       matrix_of(line),           numbers(line, "; b "),
             words_of(line, "; words "), number(line, "; vector "), number(line, ", polynomial "),
-            number(line, ", work ")};
+            number(line, ", bill "),    number(line, ", work ")};
     solver_case(line, run, lines[1]);
 }
 
@@ -338,8 +352,8 @@ struct Section {
 };
 
 const std::map<char, Section> sections = {
-    {'1', {system_case, 15}}, {'2', {recurrence_case, 15}}, {'3', {product_case, 21}}, {'4', {reader_case, 29}},
-    {'5', {text_case, 13}},   {'6', {writer_case, 5}},      {'7', {refusal_case, 27}}, {'8', {field_case, 14}},
+    {'1', {system_case, 17}}, {'2', {recurrence_case, 15}}, {'3', {product_case, 21}}, {'4', {reader_case, 29}},
+    {'5', {text_case, 15}},   {'6', {writer_case, 5}},      {'7', {refusal_case, 37}}, {'8', {field_case, 14}},
 };
 
 } // namespace

@@ -3,7 +3,8 @@
 #     sh example.sh PROGRAM FOLDER
 #
 # Without words it gives, byte for byte, the answers that evidence/reference.py gave (*.answer); with words the same but
-# for the counts, whatever they are. What is no system is refused, by number and exit status.
+# for the passes and the counts, whatever they are, and the bill adds up. What is no system is refused, by number and
+# exit status.
 set -eu
 program=$1 examples=$2
 
@@ -14,7 +15,16 @@ fail() {
 
 # The kind, the degree, f and the vector, without the passes and applications
 verdict() {
-    "$program" "$@" 2>/dev/null | cut -f 1-3
+    "$program" "$@" 2>/dev/null | grep -v '^pass' | cut -f 1-3
+}
+
+# A line for each pass, and their sum with the close is what the first line says
+adds_up() {
+    "$program" "$@" 2>/dev/null | awk -F '\t' '
+        $1 == "answer" { passes = $4; applications = $5 }
+        $1 == "pass" && $2 == found + 1 { found++; sum += $5 }
+        $1 == "close" { closed++; sum += $2 }
+        END { exit !(closed == 1 && found == passes && sum == applications) }'
 }
 
 refused() {
@@ -34,6 +44,7 @@ for system in "$examples"/*.system; do
     [ -n "$without" ] || fail "$system is not answered"
     for vectors in 1 1 2 64; do
         [ "$(verdict -r "$vectors" "$system")" = "$without" ] || fail "$system with $vectors vectors of words"
+        adds_up -r "$vectors" "$system" || fail "the bill of $system with $vectors vectors of words"
     done
     [ "$(verdict -r 1 <"$system")" = "$without" ] || fail "$system from standard input"
 done

@@ -202,6 +202,53 @@ void text(const System &system) {
     }
 }
 
+// A pass for each projection that was used, left falling from n by their degrees; with the close they make up the
+// applications.
+void bill(std::size_t n, const filzeur::Answer &answer) {
+    std::uint64_t left = n, sum = answer.degree == 0 ? 0 : answer.degree - 1;
+    check(answer.bill.size() == answer.passes, "the bill has every pass");
+    for (const auto &pass : answer.bill) {
+        check(pass.left == left && pass.applications == 2 * left - 1 + pass.degree, "a pass on the bill");
+        left -= pass.degree;
+        sum += pass.applications;
+    }
+    check(left == n - answer.degree && sum == answer.applications, "the bill adds up");
+}
+
+// A bill of any length, by the C call: whole passes only, and what stands behind them stays; all of it where refused.
+void bill_lengths(const System &system, const std::vector<std::uint32_t> &words) {
+    auto n = system.matrix.size();
+    auto run = filzeur::solve(system, words).value();
+    Vector all;
+    for (const auto &[left, degree, applications] : run.bill)
+        for (auto number : {left, degree, applications})
+            all.push_back(std::uint32_t(number));
+    for (std::size_t places : {std::size_t{0}, std::size_t{1}, std::size_t{2}, std::size_t{3}, std::size_t{5},
+                               all.size(), all.size() + 1, all.size() + 2, all.size() + 3, 3 * (n + 64)}) {
+        Vector vector(n), f(n + 1), work(16 * n + 16);
+        tests::Slice<std::uint32_t> bill(places, 4294967295);
+        auto solve = [&](std::size_t work_length) {
+            return filzeur::detail::with(filzeur_solve, system.field, system.matrix, system.right.data(), n,
+                                         filzeur::detail::place(words), words.size(), vector.data(), n, f.data(), n + 1,
+                                         bill.data(), places, work.data(), work_length);
+        };
+        check(solve(work.size() - 1).refusal == 11 && bill.untouched(), "a refused call's bill");
+        auto verdict = solve(work.size());
+        check(verdict.refusal == 0 && verdict.passes == run.passes && verdict.applications == run.applications &&
+                  vector == run.vector,
+              "the same run for every bill");
+        auto billed = std::ptrdiff_t(std::min(places - places % 3, all.size()));
+        check(bill.ends_as(Vector(all.begin(), all.begin() + billed)), "whole passes on a bill");
+    }
+}
+
+// Code from before the bill: six initialisers, and passes is their number.
+void earlier_code() {
+    filzeur::Answer answer{Kind::solved, 1, 2, 7, {0, 5}, {4, 1}};
+    std::uint64_t passes = answer.passes;
+    check(passes == 2 && answer.bill.empty(), "an answer made without a bill");
+}
+
 // The third condition: the verdict by dense elimination, and the same verdict for all words.
 void solver(const System &system) {
     auto p = system.field.p;
@@ -224,6 +271,7 @@ void solver(const System &system) {
         check(again.kind == first.kind && again.vector == first.vector && again.polynomial == first.polynomial,
               "the same verdict for other words");
         check(again.passes <= vectors + n, "passes at most R + n");
+        bill(n, again);
         if (system.right == zero)
             check(again.passes == 0 && again.applications == 0, "nothing counted for b = 0");
         if (again.passes == 1)
@@ -238,6 +286,10 @@ void text_call(const System &system) {
     std::ostringstream text;
     text << "answer\t" << (solved ? "solved" : "singular") << '\t' << run.degree << '\t' << run.passes << '\t'
          << run.applications << '\n';
+    for (std::size_t i = 0; i < run.bill.size(); ++i)
+        text << "pass\t" << i + 1 << '\t' << run.bill[i].left << '\t' << run.bill[i].degree << '\t'
+             << run.bill[i].applications << '\n';
+    text << "close\t" << (run.degree == 0 ? 0 : run.degree - 1) << '\n';
     for (std::size_t i = 0; i < run.polynomial.size(); ++i)
         text << "f\t" << i << '\t' << run.polynomial[i] << '\n';
     for (std::size_t i = 0; i < run.vector.size(); ++i)
@@ -274,6 +326,7 @@ void largest() {
     // A of rank 16: few terms decide, though the slices are the longest.
     auto answer = filzeur::solve(system, draw_words(p, n, 1)).value();
     check(answer.degree <= per_row + 1, "the degree of a matrix of rank 16");
+    bill(n, answer);
     auto yes = answer.kind == Kind::solved ? filzeur::takes(system.field, system.matrix, answer.vector, system.right)
                                            : filzeur::is_null(system.field, system.matrix, answer.vector);
     check(yes.value(), "the largest answer multiplies out");
@@ -303,9 +356,11 @@ void refusals() {
     check(filzeur::takes({7}, u, {0, 0}, {0, 7}).refusal().number == 9, "b has an element 7");
     check(filzeur::is_null({7}, u, {7}).refusal().number == 8, "w too short, and an element 7");
     check(filzeur::solve({{6}, u, {7}}, {1}).refusal().number == 3, "a composite modulus, and all else wrong too");
+    check(filzeur::solve({{7}, u, {1, 0}}, Vector(1000000)).refusal().number == 10, "far too many words");
     check(filzeur::read_system("system\t7\t1\t0\nb\t0\t7\nend\n").refusal().number == 6, "b row 0, and value 7");
     // Nothing at all, in every place
     check(filzeur::solve({{7}, {}, {}}).refusal().number == 4, "no starts");
+    check(filzeur::solve({{7}, {}, {}}, {1, 2}).refusal().number == 4, "no starts, and words");
     check(filzeur::write_system({{7}, {}, {}}).refusal().number == 4, "no starts, written");
     check(filzeur::product({7}, {}, {}).refusal().number == 4, "no starts, multiplied");
     check(filzeur::apply({7}, {{0, 0}, {}, {}}, {}, {1}).refusal().number == 8, "no polynomial");
@@ -324,9 +379,11 @@ int main(int argc, char **argv) {
         products(system);
         text(system);
         solver(system);
+        bill_lengths(system, draw_words(system.field.p, system.matrix.size(), below(4)));
         text_call(system);
         recurrences();
     }
+    earlier_code();
     refusals();
     largest();
     return tests::report("random");

@@ -16,9 +16,9 @@ use Rattle.solver.specs.Verdict.{Leaves, same-answer, same-slices}
 use Rattle.host.specs.declared.runs.Verdict.{Verdict}
 use Rattle.host.specs.Answers.{kindNumber, verdictOf}
 
-pub record Answered (p : ℕ) (A : Matrix) (b words vector polynomial work : List ℕ) (r : Verdict) (vector′ polynomial′ work′ : List ℕ) : Type 0 where
+pub record Answered (p : ℕ) (A : Matrix) (b words vector polynomial bill work : List ℕ) (r : Verdict) (vector′ polynomial′ bill′ work′ : List ℕ) : Type 0 where
   pub verdict : r ≡ verdictOf (solverRefusal p A b words vector polynomial work) (solve p A b words)
-  pub leaves : Leaves p A b words vector polynomial work vector′ polynomial′ work′
+  pub leaves : Leaves p A b words vector polynomial bill work vector′ polynomial′ bill′ work′
 
 pub record SameNumbers (r r₁ : Verdict) (vector vector₁ polynomial polynomial₁ : List ℕ) : Type 0 where
   pub kind : r .kind ≡ r₁ .kind
@@ -27,7 +27,7 @@ pub record SameNumbers (r r₁ : Verdict) (vector vector₁ polynomial polynomia
   pub same-polynomial : polynomial ≡ polynomial₁
 
 -- what a call that is not refused answers and leaves, by its outcome
-module _ {p : ℕ} {A : Matrix} {b words v f w : List ℕ} {r : Verdict} {v′ f′ w′ : List ℕ} (s : Answered p A b words v f w r v′ f′ w′) (none : r .refusal ≡ 0) where
+module _ {p : ℕ} {A : Matrix} {b words v f B w : List ℕ} {r : Verdict} {v′ f′ B′ w′ : List ℕ} (s : Answered p A b words v f B w r v′ f′ B′ w′) (none : r .refusal ≡ 0) where
   taken : solverRefusal p A b words v f w ≡ 0
   taken = sym (ap (λ (x : Verdict). x .refusal) (s .verdict)) ∙ none
 
@@ -38,8 +38,8 @@ module _ {p : ℕ} {A : Matrix} {b words v f w : List ℕ} {r : Verdict} {v′ f
   degree-is : r .degree ≡ solve p A b words .degree
   degree-is = ap (λ (x : Verdict). x .degree) (s .verdict) ∙ unlessRefused-none (solverRefusal p A b words v f w) (solve p A b words .degree) 0 taken
 
-module _ {p : ℕ} {A : Matrix} {b words v f w words₁ v₁ f₁ w₁ : List ℕ} {r r₁ : Verdict} {v′ f′ w′ v₁′ f₁′ w₁′ : List ℕ} where
-  pub same-numbers : Answered p A b words v f w r v′ f′ w′ → Answered p A b words₁ v₁ f₁ w₁ r₁ v₁′ f₁′ w₁′ → r .refusal ≡ 0 → r₁ .refusal ≡ 0
+module _ {p : ℕ} {A : Matrix} {b words v f B w words₁ v₁ f₁ B₁ w₁ : List ℕ} {r r₁ : Verdict} {v′ f′ B′ w′ v₁′ f₁′ B₁′ w₁′ : List ℕ} where
+  pub same-numbers : Answered p A b words v f B w r v′ f′ B′ w′ → Answered p A b words₁ v₁ f₁ B₁ w₁ r₁ v₁′ f₁′ B₁′ w₁′ → r .refusal ≡ 0 → r₁ .refusal ≡ 0
       → SameNumbers r r₁ v′ v₁′ f′ f₁′
   same-numbers s s₁ e e₁ =
       record {

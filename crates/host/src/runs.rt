@@ -60,11 +60,12 @@ pub extern "C" fn filzeur_solve(
     words: &[u32],
     vector: &mut [u32],
     polynomial: &mut [u32],
+    bill: &mut [u32],
     work: &mut [u32],
 ) -> Verdict
     ensures { λ r. ⌜ Answered p (matrix (now (starts .entry)) (now (columns .entry)) (now (values .entry))) (now (b .entry))
-        (now (words .entry)) (now (vector .entry)) (now (polynomial .entry)) (now (work .entry)) r
-        (now (vector .exit)) (now (polynomial .exit)) (now (work .exit)) ⌝ }
+        (now (words .entry)) (now (vector .entry)) (now (polynomial .entry)) (now (bill .entry)) (now (work .entry)) r
+        (now (vector .exit)) (now (polynomial .exit)) (now (bill .exit)) (now (work .exit)) ⌝ }
 {
     numbers_of(solve(
         Field { p },
@@ -75,6 +76,7 @@ pub extern "C" fn filzeur_solve(
         words,
         vector,
         polynomial,
+        bill,
         work,
     ))
 }

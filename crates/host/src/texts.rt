@@ -6,11 +6,11 @@ use system_writer::write;
 ghost use mathlib.Core.Path.{_≡_};
 ghost use Prim.Native.Nat.{_≤_};
 ghost use Rattle.meaning.specs.Matrix.{matrix};
-ghost use Rattle.meaning.specs.Calls.{readerRefusal, readerAnswer, readerAfter, writerRefusal, writerAnswer, writerAfter, textAnswer, textAfter};
+ghost use Rattle.meaning.specs.Calls.{readerRefusal, readerAnswer, readerAfter, writerRefusal, writerAnswer, writerAfter};
 ghost use Rattle.system_reader.specs.Answers.{refusalOfRead, modulusOfRead, sizeOfRead, countOfRead, startsOfSystem, columnsOfSystem};
 ghost use Rattle.system_reader.specs.Answers.{valuesOfSystem, rightOfSystem, modulusOfDocument, sizeOfDocument, countOfDocument};
 ghost use Rattle.system_writer.specs.Answers.{refusalOfWritten, lengthOfWritten};
-ghost use Rattle.text_call.specs.Checks.{LengthOrNumber};
+ghost use Rattle.text_call.specs.Checks.{Called};
 ghost use Rattle.host.specs.Answers.{systemOf, lengthOf};
 ghost use lib.ListN.{length};
 
@@ -105,9 +105,7 @@ pub extern "C" fn filzeur_write(
 // The call of crate text_call: a static library exports its own functions only, so it is named here again.
 #[no_mangle]
 pub extern "C" fn filzeur_text(text: &[u8], answer: &mut [u8]) -> u64
-    ensures { λ r. ⌜ r ≡ textAnswer (now (text .entry)) (length (now (answer .entry))) ⌝ }
-    ensures { λ _. ⌜ now (answer .exit) ≡ textAfter (now (text .entry)) (now (answer .entry)) ⌝ }
-    ensures { λ r. ⌜ LengthOrNumber (now (text .entry)) (length (now (answer .entry))) r ⌝ }
+    ensures { λ r. ⌜ Called (now (text .entry)) (now (answer .entry)) r (now (answer .exit)) ⌝ }
 {
     text_call::filzeur_text(text, answer)
 }

@@ -5,21 +5,27 @@
 --     length-units, getD-units               the n unit vectors
 --     length-projections, projection-words, projection-unit      "the R vectors, then the unit vectors 1 to n"
 --     spent-nil, spent-cons, spent-append, spent-snoc            the applications of passes
-use mathlib.Core.Path.{_≡_, refl, sym, ap, ap₂, _∙_}
-use mathlib.Core.Bool.{true, cond}
-use mathlib.Core.List.{List, [], _∷_, _++_}
-use Prim.Native.Nat.{ℕ, zero, suc, _+_, _*_, _/_, _%_, _≤_, _<_}
+--     bill-nil, bill-cons, bill-snoc, length-bill                the passes in numbers
+--     Within n q, made-within                what is known of a pass on n rows: left ≤ n, t ≤ 2 × left, 2 × left − 1 + t applications
+--     AllWithin, run-within                  so it is of all passes of a run
+use mathlib.Core.Path.{_≡_, refl, sym, ap, ap₂, _∙_, subst}
+use mathlib.Core.Bool.{Bool, true, false, cond}
+use mathlib.Core.List.{List, [], _∷_, _++_, append-assoc}
+use Prim.Native.Nat.{ℕ, zero, suc, _+_, _-_, _*_, _/_, _%_, _≤_, _<_}
 use native.Mathlib.Nat.{zero-div, div-add-mod', div-lt-iff-lt-mul}
 use native.Mathlib.Omega.{arith}
 use lib.Dec.{eqb, leb}
 use lib.ListN.{length, getD, length-append, List·getD-append}
 use lib.Seq.{getD-append-add}
 use borrow.Author.Tests.{eqb-true, leb-true}
-use Rattle.meaning.specs.List.{at, table}
-use Rattle.meaning.specs.Solver.{vectorCount, vectors, units, projections, Pass, spent}
+use Rattle.meaning.specs.List.{at, table, isZero, flat}
+use Rattle.meaning.specs.Matrix.{Matrix, size, power}
+use Rattle.meaning.specs.Recurrence.{degree}
+use Rattle.meaning.specs.Solver.{vectorCount, vectors, units, projections, dot, terms, Pass, Run, passTerms, pass, run, spent, charge, bill}
 use Rattle.meaning.specs.Refusal.{wordsTaken}
 use Rattle.laws.specs.Bool.{and-left, and-right}
 use Rattle.laws.specs.List.{length-table, getD-table}
+use Rattle.laws.specs.Recurrence.{degree-within}
 
 -- ---- R
 
@@ -96,3 +102,81 @@ spent-append (q ∷ qs) rs = omega (arith, spent-cons q (qs ++ rs), spent-cons q
 
 pub spent-snoc : (qs : List Pass) (q : Pass) → spent (qs ++ (q ∷ [])) ≡ spent qs + q .applications
 spent-snoc qs q = omega (arith, spent-append qs (q ∷ []), spent-cons q [], spent-nil)
+
+pub bill-nil : bill [] ≡ []
+unfolding bill flat
+bill-nil = refl
+
+pub bill-cons : (q : Pass) (qs : List Pass) → bill (q ∷ qs) ≡ charge q ++ bill qs
+unfolding bill flat
+bill-cons q qs = refl
+
+pub bill-snoc : (qs : List Pass) (q : Pass) → bill (qs ++ (q ∷ [])) ≡ bill qs ++ charge q
+bill-snoc [] q = bill-cons q [] ∙ ap (λ l. charge q ++ l) bill-nil ∙ ap (λ l. l ++ charge q) (sym bill-nil)
+bill-snoc (r ∷ qs) q = bill-cons r (qs ++ (q ∷ [])) ∙ ap (λ l. charge r ++ l) (bill-snoc qs q) ∙ ap (λ l. l ++ charge q) (sym (bill-cons r qs))
+
+pub length-bill : (qs : List Pass) → length (bill qs) ≡ 3 * length qs
+length-bill [] = ap length bill-nil
+length-bill (q ∷ qs) = ap length (bill-cons q qs) ∙ omega (arith, length-bill qs)
+
+-- ---- what is known of a pass
+
+pub record Within (n : ℕ) (q : Pass) : Type 0 where
+  pub left-low : q .left ≤ n
+  pub degree-low : q .degree ≤ 2 * q .left
+  pub cost : q .applications ≡ 2 * q .left - 1 + q .degree
+
+abbrev pub AllWithin : ℕ → List Pass → Type 0
+AllWithin n [] = Unit {0}
+AllWithin n (q ∷ qs) = Within n q × AllWithin n qs
+
+all-within-snoc : (n : ℕ) (qs : List Pass) (q : Pass) → AllWithin n qs → Within n q → AllWithin n (qs ++ (q ∷ []))
+all-within-snoc n [] q h w = (w, tt)
+all-within-snoc n (r ∷ qs) q h w = (h .0, all-within-snoc n qs q (h .1) w)
+
+module _ (p : ℕ) (A : Matrix) (two : 2 ≤ p) where
+  -- the record that a pass adds
+  last : List ℕ → Run → Pass
+  last u c =
+      let left = size A - c .found in
+      let t = degree p (passTerms p A u c) in
+      record { left = left; degree = t; applications = 2 * left - 1 + t }
+
+  last-within : (u : List ℕ) (c : Run) → Within (size A) (last u c)
+  unfolding last passTerms terms
+  last-within u c =
+      let left = size A - c .found in
+      record {
+        left-low = omega arith;
+        degree-low =
+            omega (arith, degree-within p two (passTerms p A u c), length-table (2 * left) (λ i. dot p u (power p A i (c .residual))));
+        cost = refl;
+      }
+
+  pass-adds : (u : List ℕ) (c : Run) → pass p A u c .passes ≡ c .passes ++ (last u c ∷ [])
+  unfolding pass last
+  pass-adds u c = refl
+
+  pub made-within : (u : List ℕ) (c r : Run) (q : Pass) → r .passes ≡ c .passes ++ (q ∷ []) → r ≡ pass p A u c → Within (size A) q
+  made-within u c r q e f = subst (Within (size A)) (sym same) (last-within u c)
+    where
+      at-end : (x : Pass) → getD (c .passes ++ (x ∷ [])) (length (c .passes) + 0) q ≡ x
+      at-end x = getD-append-add (c .passes) (x ∷ []) 0 q
+
+      same : q ≡ last u c
+      same =
+          sym (at-end q)
+          ∙ ap (λ l. getD l (length (c .passes) + 0) q) (sym e ∙ ap (λ (x : Run). x .passes) f ∙ pass-adds u c)
+          ∙ at-end (last u c)
+
+  pub run-within : (us : List (List ℕ)) (c : Run) → AllWithin (size A) (c .passes) → AllWithin (size A) (run p A us c .passes)
+  unfolding run
+  run-within [] c h = h
+  run-within (u ∷ us) c h = go (isZero (c .residual)) (run-within us (pass p A u c) next)
+    where
+      next : AllWithin (size A) (pass p A u c .passes)
+      next = subst (AllWithin (size A)) (sym (pass-adds u c)) (all-within-snoc (size A) (c .passes) (last u c) h (last-within u c))
+
+      go : (t : Bool) → AllWithin (size A) (run p A us (pass p A u c) .passes) → AllWithin (size A) (cond t c (run p A us (pass p A u c)) .passes)
+      go true later = h
+      go false later = later

@@ -12,14 +12,14 @@
 use mathlib.Core.Path.{_≡_}
 use mathlib.Core.Bool.{Bool, false, not, _&&_}
 use mathlib.Core.List.{List, [], _∷_, _++_}
-use Prim.Native.Nat.{ℕ, _+_, _*_}
+use Prim.Native.Nat.{ℕ, _+_, _*_, _/_}
 use lib.Dec.{eqb, ltb, leb}
-use lib.ListN.{length}
+use lib.ListN.{length, take}
 use Rattle.meaning.specs.List.{padded, overwrite}
 use Rattle.meaning.specs.Field.{isModulus, inverse}
 use Rattle.meaning.specs.Matrix.{Matrix, size, apply}
 use Rattle.meaning.specs.Recurrence.{degree, generator}
-use Rattle.meaning.specs.Solver.{solve, takes, isNull}
+use Rattle.meaning.specs.Solver.{bill, solve, takes, isNull}
 use Rattle.meaning.specs.ThirdCondition.{ThirdCondition, SameAnswer}
 use Rattle.meaning.specs.Text.{Document, document, inForm, System, system, write}
 use Rattle.meaning.specs.Answer.{answerText, refusedText}
@@ -117,6 +117,13 @@ polynomialAfter p A b words vector polynomial work =
     (padded (size A + 1) (solve p A b words .polynomial))
     polynomial
 
+-- three numbers for each pass, for as many passes as the slice has room for; no length of it is refused
+abbrev pub billAfter : ℕ → Matrix → List ℕ → List ℕ → List ℕ → List ℕ → List ℕ → List ℕ → List ℕ
+billAfter p A b words vector polynomial work slice =
+    unlessRefused (solverRefusal p A b words vector polynomial work)
+    (overwrite (bill (take (length slice / 3) (solve p A b words .passes))) slice)
+    slice
+
 -- the third condition of every run, and of every two runs on one system; proved with the solver's run
 abbrev pub EveryRun : Type 0
 EveryRun = (p : ℕ) (A : Matrix) (b words : List ℕ) → first (runChecks p A b words) ≡ 0 → ThirdCondition p A b words (solve p A b words)
@@ -184,14 +191,14 @@ writerAfter p A b out = unlessRefused (writerRefusal p A b out) (overwrite (writ
 
 -- ---- the text call and the program
 
--- "it takes n up to 128 and 1,024 entries"; "the answer slice has at least 4,608 bytes": room is that slice's length
+-- "it takes n up to 128 and 1,024 entries"; "the answer slice has at least 7,168 bytes": room is that slice's length
 unfoldable pub textRefusal : List ℕ → ℕ → ℕ
 textRefusal text room =
     let d = document text in
     first
     (check 1 (not (leb (length text) 24576))
     ∷ textChecks text
-    ++ (check 11 (not (leb (d .size) 128 && leb (d .count) 1024 && leb 4608 room)) ∷ []))
+    ++ (check 11 (not (leb (d .size) 128 && leb (d .count) 1024 && leb 7168 room)) ∷ []))
 
 -- "system text in, answer text out .. uses no random words"
 unfoldable pub solvedText : List ℕ → List ℕ
@@ -208,4 +215,4 @@ textAfter text answer = unlessRefused (textRefusal text (length answer)) (overwr
 
 -- "the program reads standard input and prints that text, or `refused`, number"; it lends the text call as much room as that asks for
 unfoldable pub programOutput : List ℕ → List ℕ
-programOutput text = unlessRefused (textRefusal text 4608) (solvedText text) (refusedText (textRefusal text 4608))
+programOutput text = unlessRefused (textRefusal text 7168) (solvedText text) (refusedText (textRefusal text 7168))

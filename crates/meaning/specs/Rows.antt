@@ -14,15 +14,15 @@ use Rattle.meaning.specs.List.{sum, table, all, every, chainFrom, chain,
 use Rattle.meaning.specs.Field.{isPrime, isModulus, plus, minus, times, inverse}
 use Rattle.meaning.specs.Matrix.{product, transposed, power, apply, Matrix, matrix}
 use Rattle.meaning.specs.Recurrence.{isMonic, recurs, start, discrepancy, update, step, steps, reversed, degree, generator, Steps}
-use Rattle.meaning.specs.Solver.{vectorCount, vectors, units, projections, dot, terms, multiply, Pass, begin, passTerms, pass, run, spent, verdict, close, solve, takes, isNull, Kind, solved, singular, passCount, applications}
-use Rattle.meaning.specs.Text.{digits, decimal, valueAfter, isNumeral, line, onFirst, parts, hasForm, formOf, lineOf, lines, saying, inForm, document, system, writeRow, writeElement, write}
-use Rattle.meaning.specs.Answer.{answerText, refusedText}
+use Rattle.meaning.specs.Solver.{vectorCount, vectors, units, projections, dot, terms, multiply, Pass, begin, passTerms, pass, run, spent, bill, verdict, close, solve, takes, isNull, Kind, solved, singular, passCount, applications}
+use Rattle.meaning.specs.Text.{digits, decimal, valueAfter, isNumeral, line, onFirst, parts, hasForm, formOf, lineOf, lineFields, lines, saying, inForm, document, system, writeRow, writeElement, write}
+use Rattle.meaning.specs.Answer.{passLines, answerText, refusedText}
 use Rattle.meaning.specs.Refusal.{first, elements, sizeTaken, startsTaken, columnsTaken, matrixChecks, wordsTaken, countTaken, before, placesTaken, documentChecks}
-use Rattle.meaning.specs.Calls.{fieldRefusal, operationRefusal, inverseRefusal, productRefusal, applyRefusal, recurrenceRefusal, systemChecks, runChecks, solverRefusal, takesRefusal, isNullRefusal, textChecks, readerRefusal, writerRefusal, textRefusal, solvedText, programOutput, operationAnswer, inverseAnswer, productAfter, applyAfter, recurrenceAnswer, recurrenceAfter, vectorAfter, polynomialAfter, takesAnswer, isNullAnswer, readerAnswer, readerAfter, writerAnswer, writerAfter, textAnswer}
+use Rattle.meaning.specs.Calls.{fieldRefusal, operationRefusal, inverseRefusal, productRefusal, applyRefusal, recurrenceRefusal, systemChecks, runChecks, solverRefusal, takesRefusal, isNullRefusal, textChecks, readerRefusal, writerRefusal, textRefusal, solvedText, programOutput, operationAnswer, inverseAnswer, productAfter, applyAfter, recurrenceAnswer, recurrenceAfter, vectorAfter, polynomialAfter, billAfter, takesAnswer, isNullAnswer, readerAnswer, readerAfter, writerAnswer, writerAfter, textAnswer}
 
 -- every definition open, so that the rows compute
 unfoldable compute : Unit {0}
-unfolding sum table all every chainFrom chain equal least select flat bytes isPrime isModulus plus minus times inverse product transposed power apply isMonic recurs start discrepancy update step steps reversed degree generator vectorCount vectors units projections dot terms multiply begin passTerms pass run spent verdict close solve takes isNull digits decimal valueAfter isNumeral line onFirst parts hasForm formOf lineOf lines saying inForm document system writeRow writeElement write answerText refusedText first elements sizeTaken startsTaken columnsTaken matrixChecks wordsTaken countTaken before placesTaken documentChecks fieldRefusal operationRefusal inverseRefusal productRefusal applyRefusal recurrenceRefusal systemChecks runChecks solverRefusal takesRefusal isNullRefusal textChecks readerRefusal writerRefusal textRefusal solvedText programOutput
+unfolding sum table all every chainFrom chain equal least select flat bytes isPrime isModulus plus minus times inverse product transposed power apply isMonic recurs start discrepancy update step steps reversed degree generator vectorCount vectors units projections dot terms multiply begin passTerms pass run spent bill verdict close solve takes isNull digits decimal valueAfter isNumeral line onFirst parts hasForm formOf lineOf lineFields lines saying inForm document system writeRow writeElement write passLines answerText refusedText first elements sizeTaken startsTaken columnsTaken matrixChecks wordsTaken countTaken before placesTaken documentChecks fieldRefusal operationRefusal inverseRefusal productRefusal applyRefusal recurrenceRefusal systemChecks runChecks solverRefusal takesRefusal isNullRefusal textChecks readerRefusal writerRefusal textRefusal solvedText programOutput
 compute = tt
 
 pub data Case : Type 0 where
@@ -30,6 +30,8 @@ pub data Case : Type 0 where
   solver-gives : (p : ℕ) (A : Matrix) (b words : List ℕ) → Kind → (vector f : List ℕ) (passes applications : ℕ) → Case
   -- its passes
   solver-makes : (p : ℕ) (A : Matrix) (b words : List ℕ) → List Pass → Case
+  -- its bill, in a slice of that many places
+  solver-bills : (p : ℕ) (A : Matrix) (b words : List ℕ) (room : ℕ) (slice : List ℕ) → Case
   -- the terms that the pass with u takes after the passes with us
   pass-takes : (p : ℕ) (A : Matrix) (b : List ℕ) (us : List (List ℕ)) (u terms : List ℕ) → Case
   -- the solver's refusal, for slices of these lengths (vector, polynomial, work)
@@ -67,6 +69,7 @@ Holds (solver-gives p A b words k x f n a) =
     _≡_ {A = ℕ × Kind × List ℕ × List ℕ × ℕ × ℕ}
     (first (runChecks p A b words), o .kind, o .vector, o .polynomial, passCount o, applications o) (0, k, x, f, n, a)
 Holds (solver-makes p A b words qs) = solve p A b words .passes ≡ qs
+Holds (solver-bills p A b words room slice) = billAfter p A b words (nines 2) (nines 3) (nines 48) (nines room) ≡ slice
 Holds (pass-takes p A b us u s) = passTerms p A u (run p A us (begin b)) ≡ s
 Holds (solver-refuses p A b words vector polynomial work k) =
     let x = nines vector in
@@ -123,7 +126,7 @@ Holds (writer-gives p A b room n after) =
     _≡_ {A = ℕ × List ℕ} (writerAnswer p A b out, writerAfter p A b out) (n, bytes after)
 Holds (text-gives text answer) =
     _≡_ {A = ℕ × List ℕ × List ℕ}
-    (textAnswer (bytes text) 4608, solvedText (bytes text), programOutput (bytes text))
+    (textAnswer (bytes text) 7168, solvedText (bytes text), programOutput (bytes text))
     (length (bytes answer), bytes answer, bytes answer)
 Holds (text-refuses text room k) = textAnswer (bytes text) room ≡ k
 Holds (sum-gives p a b k x) = _≡_ {A = ℕ × ℕ} (operationRefusal p a b, operationAnswer plus p a b) (k, x)
@@ -151,7 +154,7 @@ abbrev pub proved-cases : List Case
 proved-cases =
     text-gives
     "system\t7\t2\t3\na\t1\t1\t2\na\t1\t2\t1\na\t2\t2\t3\nb\t1\t1\nb\t2\t1\nend\n"
-    "answer\tsolved\t1\t1\t4\nf\t0\t4\nf\t1\t1\nx\t1\t5\nx\t2\t5\nend\n"
+    "answer\tsolved\t1\t1\t4\npass\t1\t2\t1\t4\nclose\t0\nf\t0\t4\nf\t1\t1\nx\t1\t5\nx\t2\t5\nend\n"
     ∷ solver-gives 7 diag23 (1 ∷ 1 ∷ []) [] solved (4 ∷ 5 ∷ []) (6 ∷ 2 ∷ 1 ∷ []) 2 7
     ∷ solver-gives 7 diag23 (1 ∷ 1 ∷ []) (1 ∷ 1 ∷ []) solved (4 ∷ 5 ∷ []) (6 ∷ 2 ∷ 1 ∷ []) 1 6
     ∷ solver-gives 7 diag23 (1 ∷ 1 ∷ []) (0 ∷ 0 ∷ []) solved (4 ∷ 5 ∷ []) (6 ∷ 2 ∷ 1 ∷ []) 3 10
@@ -197,6 +200,14 @@ more-cases =
     -- the passes one by one: what they leave to the next, and a pass of degree 0
     ∷ solver-makes 7 diag23 (1 ∷ 1 ∷ []) [] (made 2 1 4 ∷ made 1 1 2 ∷ [])
     ∷ solver-makes 7 diag23 (1 ∷ 1 ∷ []) (0 ∷ 0 ∷ []) (made 2 0 3 ∷ made 2 1 4 ∷ made 1 1 2 ∷ [])
+    -- .. and on the bill: whole passes only, what is behind them stays; nothing where there is no pass or the call is refused
+    ∷ solver-bills 7 diag23 (1 ∷ 1 ∷ []) (0 ∷ 0 ∷ []) 11 (2 ∷ 0 ∷ 3 ∷ 2 ∷ 1 ∷ 4 ∷ 1 ∷ 1 ∷ 2 ∷ 9 ∷ 9 ∷ [])
+    ∷ solver-bills 7 diag23 (1 ∷ 1 ∷ []) (0 ∷ 0 ∷ []) 8 (2 ∷ 0 ∷ 3 ∷ 2 ∷ 1 ∷ 4 ∷ 9 ∷ 9 ∷ [])
+    ∷ solver-bills 7 diag23 (1 ∷ 1 ∷ []) (0 ∷ 0 ∷ []) 3 (2 ∷ 0 ∷ 3 ∷ [])
+    ∷ solver-bills 7 diag23 (1 ∷ 1 ∷ []) (0 ∷ 0 ∷ []) 2 (9 ∷ 9 ∷ [])
+    ∷ solver-bills 7 diag23 (1 ∷ 1 ∷ []) (0 ∷ 0 ∷ []) 0 []
+    ∷ solver-bills 7 diag23 (0 ∷ 0 ∷ []) [] 4 (9 ∷ 9 ∷ 9 ∷ 9 ∷ [])
+    ∷ solver-bills 7 diag23 (1 ∷ 1 ∷ []) (0 ∷ []) 4 (9 ∷ 9 ∷ 9 ∷ 9 ∷ [])
     -- the terms of a pass after another: 2 × left, and not 2 × n
     ∷ pass-takes 2 (matrix (0 ∷ 0 ∷ 1 ∷ []) (1 ∷ []) (1 ∷ [])) (1 ∷ 1 ∷ []) ((1 ∷ 0 ∷ []) ∷ []) (0 ∷ 1 ∷ []) (1 ∷ 1 ∷ [])
     ∷ pass-takes 5 (matrix (0 ∷ 1 ∷ 2 ∷ 3 ∷ []) (0 ∷ 1 ∷ 2 ∷ []) (1 ∷ 2 ∷ 3 ∷ [])) (1 ∷ 1 ∷ 1 ∷ []) ((1 ∷ 0 ∷ 0 ∷ []) ∷ []) (0 ∷ 1 ∷ 0 ∷ []) (1 ∷ 2 ∷ 4 ∷ 3 ∷ [])
@@ -282,20 +293,28 @@ more-cases =
     -- the text call
     ∷ text-gives
     "system\t2\t2\t1\na\t2\t2\t1\nb\t1\t1\nb\t2\t1\nend\n"
-    "answer\tsingular\t2\t2\t7\nf\t0\t0\nf\t1\t1\nf\t2\t1\nw\t1\t1\nw\t2\t0\nend\n"
+    "answer\tsingular\t2\t2\t7\npass\t1\t2\t1\t4\npass\t2\t1\t1\t2\nclose\t1\nf\t0\t0\nf\t1\t1\nf\t2\t1\nw\t1\t1\nw\t2\t0\nend\n"
     ∷ text-gives
     "system\t3\t2\t1\na\t1\t2\t2\nend\n"
-    "answer\tsolved\t0\t0\t0\nf\t0\t1\nx\t1\t0\nx\t2\t0\nend\n"
+    "answer\tsolved\t0\t0\t0\nclose\t0\nf\t0\t1\nx\t1\t0\nx\t2\t0\nend\n"
     ∷ text-gives
     "system\t13\t1\t1\na\t1\t1\t5\nb\t1\t3\nend\n"
-    "answer\tsolved\t1\t1\t2\nf\t0\t8\nf\t1\t1\nx\t1\t11\nend\n"
+    "answer\tsolved\t1\t1\t2\npass\t1\t1\t1\t2\nclose\t0\nf\t0\t8\nf\t1\t1\nx\t1\t11\nend\n"
     ∷ text-gives
     "system\t5\t3\t3\na\t1\t1\t1\na\t2\t2\t2\na\t3\t3\t3\nb\t1\t1\nb\t2\t1\nb\t3\t1\nend\n"
-    "answer\tsolved\t3\t3\t14\nf\t0\t4\nf\t1\t1\nf\t2\t4\nf\t3\t1\nx\t1\t1\nx\t2\t3\nx\t3\t2\nend\n"
-    ∷ text-refuses "system\t7\t129\t0\nend\n" 4608 11
-    ∷ text-refuses "system\t7\t129\t0\nb\t1\t7\nend\n" 4608 7
-    ∷ text-refuses "system\t7\t4097\t0\nend\n" 4608 4
-    ∷ text-refuses "system\t7\t1\t0\nend\n" 4607 11
+    "answer\tsolved\t3\t3\t14\npass\t1\t3\t1\t6\npass\t2\t2\t1\t4\npass\t3\t1\t1\t2\nclose\t2\nf\t0\t4\nf\t1\t1\nf\t2\t4\nf\t3\t1\nx\t1\t1\nx\t2\t3\nx\t3\t2\nend\n"
+    -- diag(2,3) with b = (1,1), and with b = (0,1), where the first pass has degree 0
+    ∷ text-gives
+    "system\t7\t2\t2\na\t1\t1\t2\na\t2\t2\t3\nb\t1\t1\nb\t2\t1\nend\n"
+    "answer\tsolved\t2\t2\t7\npass\t1\t2\t1\t4\npass\t2\t1\t1\t2\nclose\t1\nf\t0\t6\nf\t1\t2\nf\t2\t1\nx\t1\t4\nx\t2\t5\nend\n"
+    ∷ text-gives
+    "system\t7\t2\t2\na\t1\t1\t2\na\t2\t2\t3\nb\t2\t1\nend\n"
+    "answer\tsolved\t1\t2\t7\npass\t1\t2\t0\t3\npass\t2\t2\t1\t4\nclose\t0\nf\t0\t4\nf\t1\t1\nx\t1\t0\nx\t2\t5\nend\n"
+    ∷ text-refuses "system\t7\t129\t0\nend\n" 7168 11
+    ∷ text-refuses "system\t7\t129\t0\nb\t1\t7\nend\n" 7168 7
+    ∷ text-refuses "system\t7\t4097\t0\nend\n" 7168 4
+    ∷ text-refuses "system\t7\t1\t0\nend\n" 7167 11
+    ∷ text-refuses "system\t7\t1\t0\nend\n" 4608 11
     ∷ text-refuses "system\t6\t1\t0\nend\n" 0 3
     -- the field
     ∷ sum-gives 7 5 6 0 4
@@ -312,4 +331,4 @@ more-cases =
 
 pub more-rows : AllHold more-cases
 unfolding compute
-more-rows = (refl, (refl, (refl, (refl, (refl, (refl, (refl, (refl, (refl, (refl, (refl, (refl, (refl, (refl, (refl, (refl, (refl, (refl, (refl, (refl, (refl, (refl, (refl, (refl, (refl, (refl, (refl, (refl, (refl, (refl, (refl, (refl, (refl, (refl, (refl, (refl, (refl, (refl, (refl, (refl, (refl, (refl, (refl, (refl, (refl, (refl, (refl, (refl, (refl, (refl, (refl, (refl, (refl, (refl, (refl, (refl, (refl, (refl, (refl, (refl, (refl, (refl, (refl, (refl, (refl, (refl, (refl, (refl, (refl, (refl, (refl, (refl, (refl, (refl, (refl, (refl, (refl, (refl, (refl, (refl, (refl, (refl, (refl, (refl, (refl, (refl, (refl, (refl, (refl, (refl, (refl, (refl, (refl, (refl, (refl, (refl, (refl, (refl, (refl, (refl, (refl, (refl, (refl, (refl, (refl, (refl, (refl, (refl, (refl, (refl, (refl, tt)))))))))))))))))))))))))))))))))))))))))))))))))))))))))))))))))))))))))))))))))))))))))))))))))))))))))))))))
+more-rows = (refl, (refl, (refl, (refl, (refl, (refl, (refl, (refl, (refl, (refl, (refl, (refl, (refl, (refl, (refl, (refl, (refl, (refl, (refl, (refl, (refl, (refl, (refl, (refl, (refl, (refl, (refl, (refl, (refl, (refl, (refl, (refl, (refl, (refl, (refl, (refl, (refl, (refl, (refl, (refl, (refl, (refl, (refl, (refl, (refl, (refl, (refl, (refl, (refl, (refl, (refl, (refl, (refl, (refl, (refl, (refl, (refl, (refl, (refl, (refl, (refl, (refl, (refl, (refl, (refl, (refl, (refl, (refl, (refl, (refl, (refl, (refl, (refl, (refl, (refl, (refl, (refl, (refl, (refl, (refl, (refl, (refl, (refl, (refl, (refl, (refl, (refl, (refl, (refl, (refl, (refl, (refl, (refl, (refl, (refl, (refl, (refl, (refl, (refl, (refl, (refl, (refl, (refl, (refl, (refl, (refl, (refl, (refl, (refl, (refl, (refl, (refl, (refl, (refl, (refl, (refl, (refl, (refl, (refl, (refl, (refl, tt)))))))))))))))))))))))))))))))))))))))))))))))))))))))))))))))))))))))))))))))))))))))))))))))))))))))))))))))))))))))))

@@ -14,16 +14,18 @@
 --     Kind, Outcome          solved or singular; what a run ends with
 --     passCount              "the passes", their number
 --     spent                  the applications of passes, summed
---     applications           "one for each product with A": those of the passes, "and D − 1 for G(A)b where D is at least 1"
+--     closeCost              what the end takes: "D − 1 for G(A)b where D is at least 1", else 0
+--     applications           "one for each product with A": those of the passes and of the end
+--     charge, bill           a pass in numbers, "left, degree t, applications of that pass"; the passes in numbers, one after the other
 --     close                  "when r is zero, let G = (F − F[0]) / z .."
 --     solve                  the whole run
 --     takes, isNull          the two checks of offered answers
 use mathlib.Core.Bool.{Bool, not, cond, _&&_}
-use mathlib.Core.List.{List, [], _∷_, _++_}
+use mathlib.Core.List.{List, [], _∷_, _++_, map}
 use Prim.Native.Nat.{ℕ, _+_, _-_, _*_, _/_, _%_}
 use lib.Dec.{eqb}
 use lib.ListN.{length, drop}
-use Rattle.meaning.specs.List.{at, sum, table, zeros, isZero, equal}
+use Rattle.meaning.specs.List.{at, sum, table, zeros, isZero, equal, flat}
 use Rattle.meaning.specs.Field.{minus, times, inverse}
 use Rattle.meaning.specs.Matrix.{Matrix, size, product, power, apply}
 use Rattle.meaning.specs.Recurrence.{degree, generator}
@@ -105,8 +107,17 @@ unfoldable pub spent : List Pass → ℕ
 spent [] = 0
 spent (q ∷ qs) = q .applications + spent qs
 
+abbrev pub closeCost : Outcome → ℕ
+closeCost o = o .degree - 1
+
 abbrev pub applications : Outcome → ℕ
-applications o = spent (o .passes) + (o .degree - 1)
+applications o = spent (o .passes) + closeCost o
+
+abbrev pub charge : Pass → List ℕ
+charge q = q .left ∷ q .degree ∷ q .applications ∷ []
+
+unfoldable pub bill : List Pass → List ℕ
+bill qs = flat (map charge qs)
 
 -- what F makes of b: "if D = 0, x is zero. If F[0] is not 0, the kind is solved and x = −G(A)b / F[0]. Otherwise .. G(A)b"
 unfoldable pub verdict : ℕ → Matrix → List ℕ → List ℕ → ℕ → Kind × List ℕ

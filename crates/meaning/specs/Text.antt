@@ -4,7 +4,8 @@
 --     line ws          "fields are parted by one tab, each line ends in byte 10"
 --     parts c l        l cut at each byte c
 --     Line             what a line says: its form and its numbers
---     lines text       the text cut into lines, and each of them into fields
+--     lineFields text  the text cut into lines, and each of them into fields
+--     lines text       what these lines say
 --     inForm text      the forms of the lines and "their order of letters"
 --     Document         what a text in form says
 --     system d         the system of a document: its starts, columns, values and b
@@ -80,8 +81,11 @@ unfoldable pub lineOf : List (List ℕ) → Line
 lineOf ws = record { form = formOf ws; numbers = map valueOf (drop 1 ws) }
 
 -- what stands after the last byte 10 is the last line: a text whose lines all end has `nothing` there
+unfoldable pub lineFields : List ℕ → List (List (List ℕ))
+lineFields text = map (parts 9) (parts 10 text)
+
 unfoldable pub lines : List ℕ → List Line
-lines text = map (λ l. lineOf (parts 9 l)) (parts 10 text)
+lines text = map lineOf (lineFields text)
 
 abbrev pub rank : Form → ℕ
 rank header = 0

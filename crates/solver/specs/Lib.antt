@@ -1,3 +1,4 @@
 -- what the contracts cite
+pub mod Bill
 pub mod Run
 pub mod Verdict

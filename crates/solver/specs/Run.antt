@@ -1,11 +1,12 @@
 -- The solver's run in its work slice, which is laid out as a pass has it (wiedemann's Pass).
 --     CheckedSystem, system-of  what the checks leave known of a system
 --     none, counted      the counts before the first pass, and after one more
+--     Fits               what bounds the counts and the numbers of a pass that is added to them
 --     begun              r = b, F = 1, D = 0 in the slice
 --     run-append         a run with projections after others
 --     run-more           one projection more, while r is not zero
 --     run-left           while r is not zero, less than n has been found
---     Midway             the run with the first j projections is what is held
+--     Midway             the run with the first j projections is what is held, and its passes stand on the bill
 --     midway-begin, midway-less, midway-state, midway-made, midway-next      at the start; r ≢ 0: a projection is left, a pass is not refused, and is made
 --     Finished, midway-end     r = 0: the whole run is what is held
 --     Closable, closable       what the end asks: F is monic of degree D ≤ n
@@ -31,7 +32,7 @@ use Rattle.laws.specs.Bool.{and-both, test-cases, never}
 use Rattle.laws.specs.List.{length-table, table-of}
 use Rattle.laws.specs.Recurrence.{monic-leading, degree-within}
 use Rattle.laws.specs.Refusal.{first-append-zero, numbered-matrix, numbered-system}
-use Rattle.laws.specs.Solver.{spent-nil, spent-snoc}
+use Rattle.laws.specs.Solver.{spent-nil, spent-snoc, made-within}
 use Rattle.algebra.specs.Ring.{Field}
 use Rattle.residue.specs.Prime.{Prime}
 use Rattle.residue.specs.Residue.{residues}
@@ -50,6 +51,7 @@ use Rattle.laws.specs.Lent.{lent, length-lent, part-lent, part-at, part-cons}
 use Rattle.checks.specs.Pass.{residualAt, passRefusal, refused-state, state-0}
 use Rattle.wiedemann.specs.Pass.{held, passOf, Passes}
 use Rattle.solver.specs.declared.Counts.{Counts}
+use Rattle.solver.specs.Bill.{billed, entered, billed-nil, billed-next}
 
 pub record CheckedSystem (p : ℕ) (A : Matrix) (b : List ℕ) : Type 0 where
   pub checked : first (matrixChecks p A) ≡ 0
@@ -72,6 +74,15 @@ none = record { degree = 0; passes = 0; applications = 0 }
 
 abbrev pub counted : Counts → CodePass → Counts
 counted c q = record { degree = c .degree + q .degree; passes = c .passes + 1; applications = c .applications + q .applications }
+
+-- what bounds the counts and the numbers of a pass that is added to them
+pub record Fits (c : Counts) (q : CodePass) : Type 0 where
+  pub degree-low : c .degree ≤ 4096
+  pub passes-low : c .passes < 65536
+  pub applications-low : c .applications < 4294967296
+  pub left-low : q .left ≤ 4096
+  pub found-low : q .degree ≤ 8192
+  pub cost-low : q .applications ≤ 16384
 
 -- b in r's place, which was lent, and 1 in F's first: the run's beginning
 pub begun : (W b : List ℕ) (from m : ℕ) (Y : List ℕ) → from ≡ residualAt (length b) → m ≡ length b → from + m ≤ length W → Y ≡ padded m b
@@ -144,8 +155,9 @@ module _ (p : ℕ) (h : Prime p) (A : Matrix) (b : List ℕ) where
         go (yes l) = l
         go (no l) = never (isZero (c .residual)) (full (omega (arith, l))) z
 
-pub record Midway (p : ℕ) (A : Matrix) (b words W : List ℕ) (j : ℕ) (c : Counts) : Type 0 where
+pub record Midway (p : ℕ) (A : Matrix) (b words B B′ W : List ℕ) (j : ℕ) (c : Counts) : Type 0 where
   pub made : List Pass
+  pub bill : B′ ≡ billed B made
   pub passes : c .passes ≡ length made
   pub used : length made ≡ j
   pub applications : c .applications ≡ spent made
@@ -154,11 +166,12 @@ pub record Midway (p : ℕ) (A : Matrix) (b words W : List ℕ) (j : ℕ) (c : C
   pub within : j ≤ length (projections p (size A) words)
   pub state : held (size A) W (c .degree) made ≡ run p A (take j (projections p (size A) words)) (begin b)
 
-pub midway-begin : {p : ℕ} {A : Matrix} {b words W : List ℕ} → CheckedSystem p A b → 16 * size A + 16 ≤ length W → held (size A) W 0 [] ≡ begin b
-    → Midway p A b words W 0 none
-midway-begin {p} {A} {b} {words} {W} s room e =
+pub midway-begin : {p : ℕ} {A : Matrix} {b words B W : List ℕ} → CheckedSystem p A b → 16 * size A + 16 ≤ length W → held (size A) W 0 [] ≡ begin b
+    → Midway p A b words B B W 0 none
+midway-begin {p} {A} {b} {words} {B} {W} s room e =
     record {
       made = [];
+      bill = sym (billed-nil B);
       passes = refl;
       used = refl;
       applications = sym spent-nil;
@@ -168,41 +181,17 @@ midway-begin {p} {A} {b} {words} {W} s room e =
       state = e ∙ sym (run-nil p (s .accepted .prime) A b (begin b));
     }
 
-pub record Finished (p : ℕ) (A : Matrix) (b words W : List ℕ) (c : Counts) : Type 0 where
+pub record Finished (p : ℕ) (A : Matrix) (b words B B′ W : List ℕ) (c : Counts) : Type 0 where
   pub made : List Pass
+  pub bill : B′ ≡ billed B made
   pub passes : c .passes ≡ length made
   pub applications : c .applications ≡ spent made
   pub few : c .applications ≤ 134217728
   pub room : 16 * size A + 16 ≤ length W
   pub state : held (size A) W (c .degree) made ≡ run p A (projections p (size A) words) (begin b)
 
--- what a pass costs
-pass-cost : (p : ℕ) (A : Matrix) (u : List ℕ) (c r : Run) (q : Pass) → r .passes ≡ c .passes ++ (q ∷ []) → r ≡ pass p A u c
-    → q .applications ≡ 2 * (size A - c .found) - 1 + (r .found - c .found)
-unfolding pass
-pass-cost p A u c r q e g =
-    omega (arith, ap spent e, spent-snoc (c .passes) q, ap (λ (x : Run). spent (x .passes)) g, spent-snoc (c .passes) last, ap (λ (x : Run). x .found) g)
-  where
-    t : ℕ
-    t = degree p (passTerms p A u c)
-
-    last : Pass
-    last = record { left = size A - c .found; degree = t; applications = 2 * (size A - c .found) - 1 + t }
-
--- what it finds: at most as much as it takes terms
-pass-short : (p : ℕ) (A : Matrix) (u : List ℕ) (c r : Run) → 2 ≤ p → r ≡ pass p A u c → r .found ≤ c .found + 2 * (size A - c .found)
-unfolding pass passTerms terms
-pass-short p A u c r l g =
-    let s = passTerms p A u c in
-    omega (
-      arith,
-      ap (λ (x : Run). x .found) g,
-      degree-within p l s,
-      length-table (2 * (size A - c .found)) (λ i. dot p u (power p A i (c .residual))),
-    )
-
-module _ {p : ℕ} {A : Matrix} {b words W : List ℕ} {j : ℕ} {c : Counts} (s : CheckedSystem p A b) (most : length (projections p (size A) words) ≤ 8192)
-    (m : Midway p A b words W j c) where
+module _ {p : ℕ} {A : Matrix} {b words B B′ W : List ℕ} {j : ℕ} {c : Counts} (s : CheckedSystem p A b) (most : length (projections p (size A) words) ≤ 8192)
+    (m : Midway p A b words B B′ W j c) where
   h : Prime p
   h = s .accepted .prime
 
@@ -272,43 +261,52 @@ module _ {p : ℕ} {A : Matrix} {b words W : List ℕ} {j : ℕ} {c : Counts} (s
   midway-made z t i W′ r k e said =
       let q = subst (λ x. Passes p A words i (c .degree) W x W′) e said in q .1 (sym (q .0) ∙ midway-state z t)
 
-  -- the counts that a pass adds, whatever its projection
+  -- the numbers that a pass adds, whatever its projection
   pub midway-fits : isZero (part (residualAt (size A)) (size A) W) ≡ false → (i : ℕ) (W′ : List ℕ) (r : Passed) (q : CodePass) → r ≡ Made q
-      → Passes p A words i (c .degree) W r W′
-      → (c .degree ≤ 4096) × (c .passes < 65536) × (c .applications < 4294967296) × (q .degree ≤ 8192) × (q .applications ≤ 16384)
+      → Passes p A words i (c .degree) W r W′ → Fits c q
   midway-fits z i W′ r q e said =
       let made = subst (λ x. Passes p A words i (c .degree) W x W′) e said in
       let sized = s .valid .sized in
       let u = getD (projections p (size A) words) i [] in
       let here = held (size A) W (c .degree) (m .made) in
       let there = held (size A) W′ (c .degree + q .degree) (m .made ++ (passOf q ∷ [])) in
-      let found : c .degree + q .degree ≤ c .degree + 2 * (size A - c .degree) = pass-short p A u here there (s .accepted .prime .two-le) (made .1 .run (m .made)) in
-      let cost : q .applications ≡ 2 * (size A - c .degree) - 1 + (c .degree + q .degree - c .degree) = pass-cost p A u here there (passOf q) refl (made .1 .run (m .made)) in
-      (omega (arith, below z, sized), omega (arith, m .passes, m .used, m .within, most), omega (arith, m .few, m .within, most), omega (arith, found, sized), omega (arith, cost, found, sized))
+      let within = made-within p A (s .accepted .prime .two-le) u here there (passOf q) refl (made .1 .run (m .made)) in
+      let low : q .left ≤ 4096 = omega (arith, within .left-low, sized) in
+      let short : q .degree ≤ 8192 = omega (arith, within .degree-low, low) in
+      record {
+        degree-low = omega (arith, below z, sized);
+        passes-low = omega (arith, m .passes, m .used, m .within, most);
+        applications-low = omega (arith, m .few, m .within, most);
+        left-low = low;
+        found-low = short;
+        cost-low = omega (arith, within .cost, within .degree-low, low);
+      }
 
   pub midway-next : isZero (part (residualAt (size A)) (size A) W) ≡ false → (W′ : List ℕ) (r : Passed) (q : CodePass) → r ≡ Made q
-      → Passes p A words j (c .degree) W r W′ → (length W′ ≡ length W) × Midway p A b words W′ (j + 1) (counted c q)
+      → Passes p A words j (c .degree) W r W′ → (length W′ ≡ length W) × Midway p A b words B (entered B′ j (passOf q)) W′ (j + 1) (counted c q)
   midway-next z W′ r q e said =
       let made = subst (λ x. Passes p A words j (c .degree) W x W′) e said in
       let fits = midway-fits z j W′ r q e said in (
         made .1 .same-length,
         record {
           made = m .made ++ (passOf q ∷ []);
+          bill = ap₂ (λ l k. entered l k (passOf q)) (m .bill) (sym (m .used)) ∙ billed-next B (m .made) (passOf q);
           passes = ap (λ k. k + 1) (m .passes) ∙ sym (length-append (m .made) (passOf q ∷ []));
           used = length-append (m .made) (passOf q ∷ []) ∙ ap (λ k. k + 1) (m .used);
           applications = ap (λ k. k + q .applications) (m .applications) ∙ sym (spent-snoc (m .made) (passOf q));
-          few = omega (arith, m .few, fits .4);
+          few = omega (arith, m .few, fits .cost-low);
           room = omega (arith, made .1 .same-length, m .room);
           within = omega (arith, midway-less z);
           state = made .1 .run (m .made) ∙ sym (next z);
         },
       )
 
-  pub midway-end : isZero (part (residualAt (size A)) (size A) W) ≡ true → Finished p A b words W c
+  pub midway-end : isZero (part (residualAt (size A)) (size A) W) ≡ true → Finished p A b words B B′ W c
   unfolding h us
   midway-end z =
       record {
         made = m .made;
+        bill = m .bill;
         passes = m .passes;
         applications = m .applications;
         few = omega (arith, m .few, m .within, most);
@@ -329,8 +327,8 @@ pub record Closable (p : ℕ) (A : Matrix) (W : List ℕ) (c : Counts) : Type 0 
   pub few : c .applications ≤ 134217728
   pub elements : (i : ℕ) → i ≤ c .degree → at W i < p
 
-pub closable : {p : ℕ} {A : Matrix} {b words W : List ℕ} {c : Counts} → CheckedSystem p A b → Finished p A b words W c → Closable p A W c
-closable {p} {A} {b} {words} {W} {c} s f =
+pub closable : {p : ℕ} {A : Matrix} {b words B B′ W : List ℕ} {c : Counts} → CheckedSystem p A b → Finished p A b words B B′ W c → Closable p A W c
+closable {p} {A} {b} {words} {B} {B′} {W} {c} s f =
     record {
       found = found;
       one = sym (place (c .degree) (omega arith)) ∙ ap (λ (q : Run). at (q .factor) (c .degree)) (f .state) ∙ ap (at (end .factor)) (ap (λ (q : Run). q .found) (f .state)) ∙ monic-leading p (end .found) (end .factor) (end-monic p h A b size-b reduced-b end stands zero-end);

@@ -26,7 +26,7 @@ use Rattle.meaning.specs.Matrix.{Matrix, size, apply}
 use Rattle.meaning.specs.Solver.{Run, Kind, solved, singular, Outcome, passCount, applications, verdict, close, solve}
 use Rattle.meaning.specs.ThirdCondition.{ThirdCondition, SameAnswer}
 use Rattle.meaning.specs.Refusal.{check, first, matrixChecks}
-use Rattle.meaning.specs.Calls.{applyRefusal, runChecks, solverRefusal, vectorAfter, polynomialAfter}
+use Rattle.meaning.specs.Calls.{applyRefusal, runChecks, solverRefusal, vectorAfter, polynomialAfter, billAfter}
 use Rattle.residue.specs.Inverse.{inverse-lt}
 use Rattle.bridge.specs.ThirdCondition.{everyRun, everyTwoRuns}
 use Rattle.solver.specs.declared.Counts.{Counts}
@@ -39,6 +39,7 @@ use Rattle.wiedemann.specs.Pass.{held}
 use Rattle.laws.specs.Bool.{and-both}
 use Rattle.laws.specs.List.{length-table, getD-table}
 use Rattle.laws.specs.Refusal.{first-nil, first-pass, first-append-none, first-append-zero, numbered-matrix, numbered-run, unlessRefused-none}
+use Rattle.solver.specs.Bill.{billed}
 use Rattle.solver.specs.Run.{CheckedSystem, Closable, Finished}
 
 pub record Counted (c : Counts) (o : Outcome) : Type 0 where
@@ -52,17 +53,18 @@ Says (Solved c) number o = (number ≡ 0) × (o .kind ≡ solved) × Counted c o
 Says (Singular c) number o = (number ≡ 0) × (o .kind ≡ singular) × Counted c o
 Says (Refused k) number o = (number ≡ k) × (k ≢ 0)
 
-pub record Leaves (p : ℕ) (A : Matrix) (b words vector polynomial work vector′ polynomial′ work′ : List ℕ) : Type 0 where
+pub record Leaves (p : ℕ) (A : Matrix) (b words vector polynomial bill work vector′ polynomial′ bill′ work′ : List ℕ) : Type 0 where
   pub vector-after : vector′ ≡ vectorAfter p A b words vector polynomial work
   pub polynomial-after : polynomial′ ≡ polynomialAfter p A b words vector polynomial work
+  pub bill-after : bill′ ≡ billAfter p A b words vector polynomial work bill
   -- "every lent slice keeps its contents"
   pub kept : solverRefusal p A b words vector polynomial work ≢ 0 → work′ ≡ work
   -- the third condition of every run
   pub condition : solverRefusal p A b words vector polynomial work ≡ 0 → ThirdCondition p A b words (solve p A b words)
 
-pub record Solves (p : ℕ) (A : Matrix) (b words vector polynomial work : List ℕ) (r : Verdict) (vector′ polynomial′ work′ : List ℕ) : Type 0 where
+pub record Solves (p : ℕ) (A : Matrix) (b words vector polynomial bill work : List ℕ) (r : Verdict) (vector′ polynomial′ bill′ work′ : List ℕ) : Type 0 where
   pub says : Says r (solverRefusal p A b words vector polynomial work) (solve p A b words)
-  pub leaves : Leaves p A b words vector polynomial work vector′ polynomial′ work′
+  pub leaves : Leaves p A b words vector polynomial bill work vector′ polynomial′ bill′ work′
 
 -- ---- the checks
 
@@ -87,10 +89,10 @@ pub same-answer : (p : ℕ) (A : Matrix) (b words v f w words₁ v₁ f₁ w₁ 
 same-answer p A b words v f w words₁ v₁ f₁ w₁ e e₁ =
     everyTwoRuns p A b words words₁ (run-passed p A b words v f w e) (run-passed p A b words₁ v₁ f₁ w₁ e₁)
 
-pub same-slices : {p : ℕ} {A : Matrix} {b words v f w words₁ v₁ f₁ w₁ v′ f′ w′ v₁′ f₁′ w₁′ : List ℕ} → Leaves p A b words v f w v′ f′ w′
-    → Leaves p A b words₁ v₁ f₁ w₁ v₁′ f₁′ w₁′ → solverRefusal p A b words v f w ≡ 0 → solverRefusal p A b words₁ v₁ f₁ w₁ ≡ 0
+pub same-slices : {p : ℕ} {A : Matrix} {b words v f B w words₁ v₁ f₁ B₁ w₁ v′ f′ B′ w′ v₁′ f₁′ B₁′ w₁′ : List ℕ} → Leaves p A b words v f B w v′ f′ B′ w′
+    → Leaves p A b words₁ v₁ f₁ B₁ w₁ v₁′ f₁′ B₁′ w₁′ → solverRefusal p A b words v f w ≡ 0 → solverRefusal p A b words₁ v₁ f₁ w₁ ≡ 0
     → (v′ ≡ v₁′) × (f′ ≡ f₁′)
-same-slices {p} {A} {b} {words} {v} {f} {w} {words₁} {v₁} {f₁} {w₁} s s₁ e e₁ =
+same-slices {p} {A} {b} {words} {v} {f} {B} {w} {words₁} {v₁} {f₁} {B₁} {w₁} s s₁ e e₁ =
     let same = same-answer p A b words v f w words₁ v₁ f₁ w₁ e e₁ in
     let here = solverRefusal p A b words v f w in
     let there = solverRefusal p A b words₁ v₁ f₁ w₁ in
@@ -119,8 +121,8 @@ kind-says (Solved c) number o e s = s .1
 kind-says (Singular c) number o e s = s .1
 kind-says (Refused k) number o e s = s .1 (sym (s .0) ∙ e)
 
-module _ (p : ℕ) (A : Matrix) (b words v f w words₁ v₁ f₁ w₁ : List ℕ) (r r₁ : Verdict) (v′ f′ w′ v₁′ f₁′ w₁′ : List ℕ) where
-  pub same-run : Solves p A b words v f w r v′ f′ w′ → Solves p A b words₁ v₁ f₁ w₁ r₁ v₁′ f₁′ w₁′ → solverRefusal p A b words v f w ≡ 0
+module _ (p : ℕ) (A : Matrix) (b words v f B w words₁ v₁ f₁ B₁ w₁ : List ℕ) (r r₁ : Verdict) (v′ f′ B′ w′ v₁′ f₁′ B₁′ w₁′ : List ℕ) where
+  pub same-run : Solves p A b words v f B w r v′ f′ B′ w′ → Solves p A b words₁ v₁ f₁ B₁ w₁ r₁ v₁′ f₁′ B₁′ w₁′ → solverRefusal p A b words v f w ≡ 0
       → solverRefusal p A b words₁ v₁ f₁ w₁ ≡ 0 → SameRun p A b r r₁ v′ v₁′ f′ f₁′
   same-run s s₁ e e₁ =
       record {
@@ -207,19 +209,21 @@ module _ {p : ℕ} {A : Matrix} {b W : List ℕ} {c : Counts} (s : CheckedSystem
         (first-pass 11 _ [] (and-both (eq-eqb (length out) (size A) places) (le-leb (2 * size A) (length work) (omega (arith, room, q .room)))) first-nil))
 
 -- what the whole run found
-pub record Found (p : ℕ) (A : Matrix) (b words : List ℕ) (r : Verdict) (vector polynomial : List ℕ) : Type 0 where
+pub record Found (p : ℕ) (A : Matrix) (b words bill : List ℕ) (r : Verdict) (vector polynomial bill′ : List ℕ) : Type 0 where
   pub says : Says r 0 (solve p A b words)
   pub vector-is : vector ≡ solve p A b words .vector
   pub polynomial-is : polynomial ≡ padded (size A + 1) (solve p A b words .polynomial)
+  pub bill-is : bill′ ≡ billed bill (solve p A b words .passes)
 
-pub closed : {p : ℕ} {A : Matrix} {b words W : List ℕ} {c : Counts} {r : Verdict} {vector polynomial : List ℕ} → Finished p A b words W c
-    → Closed p A b W c r vector polynomial → Found p A b words r vector polynomial
+pub closed : {p : ℕ} {A : Matrix} {b words B B′ W : List ℕ} {c : Counts} {r : Verdict} {vector polynomial : List ℕ} → Finished p A b words B B′ W c
+    → Closed p A b W c r vector polynomial → Found p A b words B r vector polynomial B′
 unfolding solve close
-closed {p} {A} {b} {words} {W} {c} {r} {vector} {polynomial} f q =
+closed {p} {A} {b} {words} {B} {B′} {W} {c} {r} {vector} {polynomial} f q =
     record {
       says = subst (λ o. Says r 0 o) outcome (go r (q .ends));
       vector-is = q .vector-is ∙ ap (λ (o : Outcome). o .vector) outcome;
       polynomial-is = q .polynomial-is ∙ ap (λ (o : Outcome). padded (size A + 1) (o .polynomial)) outcome;
+      bill-is = f .bill ∙ ap (λ (o : Outcome). billed B (o .passes)) outcome;
     }
   where
     here : Run
@@ -238,8 +242,8 @@ closed {p} {A} {b} {words} {W} {c} {r} {vector} {polynomial} f q =
 
 -- ---- the call
 
-module _ (p : ℕ) (A : Matrix) (b words v f w : List ℕ) where
-  pub refused : (k : ℕ) → solverRefusal p A b words v f w ≡ k → k ≢ 0 → Solves p A b words v f w (Refused k) v f w
+module _ (p : ℕ) (A : Matrix) (b words v f B w : List ℕ) where
+  pub refused : (k : ℕ) → solverRefusal p A b words v f w ≡ k → k ≢ 0 → Solves p A b words v f B w (Refused k) v f B w
   refused k e q =
       record {
         says = (e, q);
@@ -247,6 +251,7 @@ module _ (p : ℕ) (A : Matrix) (b words v f w : List ℕ) where
             record {
               vector-after = sym (ap (λ t. cond t (solve p A b words .vector) v) off);
               polynomial-after = sym (ap (λ t. cond t (padded (size A + 1) (solve p A b words .polynomial)) f) off);
+              bill-after = sym (ap (λ t. cond t (billed B (solve p A b words .passes)) B) off);
               kept = λ z. refl;
               condition = condition p A b words v f w;
             };
@@ -255,7 +260,7 @@ module _ (p : ℕ) (A : Matrix) (b words v f w : List ℕ) where
       off : eqb (solverRefusal p A b words v f w) 0 ≡ false
       off = ne-eqb (solverRefusal p A b words v f w) 0 (λ z. q (sym e ∙ z))
 
-  pub taken : {r : Verdict} {v′ f′ w′ : List ℕ} → solverRefusal p A b words v f w ≡ 0 → Found p A b words r v′ f′ → Solves p A b words v f w r v′ f′ w′
+  pub taken : {r : Verdict} {v′ f′ B′ w′ : List ℕ} → solverRefusal p A b words v f w ≡ 0 → Found p A b words B r v′ f′ B′ → Solves p A b words v f B w r v′ f′ B′ w′
   taken {r} e q =
       record {
         says = subst (λ k. Says r k (solve p A b words)) (sym e) (q .says);
@@ -263,6 +268,7 @@ module _ (p : ℕ) (A : Matrix) (b words v f w : List ℕ) where
             record {
               vector-after = q .vector-is ∙ sym (ap (λ t. cond t (solve p A b words .vector) v) on);
               polynomial-after = q .polynomial-is ∙ sym (ap (λ t. cond t (padded (size A + 1) (solve p A b words .polynomial)) f) on);
+              bill-after = q .bill-is ∙ sym (ap (λ t. cond t (billed B (solve p A b words .passes)) B) on);
               kept = λ z. absurd (z e);
               condition = condition p A b words v f w;
             };

@@ -18,8 +18,9 @@ ghost use Rattle.checks.specs.Valid.{Vector};
 ghost use Rattle.modular.specs.Modulus.{Multiplies};
 ghost use Rattle.laws.specs.Part.{part};
 ghost use Rattle.checks.specs.Pass.{residualAt};
-ghost use Rattle.wiedemann.specs.Pass.{held};
-ghost use Rattle.solver.specs.Run.{CheckedSystem, none, counted, Finished, Closable};
+ghost use Rattle.wiedemann.specs.Pass.{held, passOf};
+ghost use Rattle.solver.specs.Bill.{entered};
+ghost use Rattle.solver.specs.Run.{CheckedSystem, none, counted, Fits, Finished, Closable};
 ghost use Rattle.solver.specs.Verdict.{closing, Closed, Solves};
 use checks::Writing;
 use checks::residual_at;
@@ -103,9 +104,22 @@ fn is_settled(n: usize, work: &[u32]) -> bool
     is_zero(&work[from..to])
 }
 
+// Pass j, counted from 0, on the bill, if there is room for its left, degree and applications.
+fn enter(bill: &mut [u32], j: usize, q: Pass)
+    requires { ⌜ (j ≤ 8192) × (q .left ≤ 4096) × (q .degree ≤ 8192) × (q .applications ≤ 16384) ⌝ }
+    ensures { λ _. ⌜ now (bill .exit) ≡ entered (now (bill .entry)) j (passOf q) ⌝ }
+{
+    let from = 3 * j;
+    let to = from + 3;
+    if to <= bill.len() {
+        let charge = [q.left as u32, q.degree as u32, q.applications as u32];
+        write_padded(&charge, &mut bill[from..to]);
+    }
+}
+
 // The counts after a pass.
 fn count(c: Counts, q: Pass) -> Counts
-    requires { ⌜ (c .degree ≤ 4096) × (c .passes < 65536) × (c .applications < 4294967296) × (q .degree ≤ 8192) × (q .applications ≤ 16384) ⌝ }
+    requires { ⌜ Fits c q ⌝ }
     ensures { λ r. ⌜ r ≡ counted c q ⌝ }
 {
     Counts {
@@ -123,12 +137,13 @@ fn run(
     values: &[u32],
     b: &[u32],
     words: &[u32],
+    bill: &mut [u32],
     work: &mut [u32],
 ) -> Counts
     requires { ⌜ CheckedSystem (field .p) (matrix (now starts) (now columns) (now values)) (now b) ⌝ }
     requires { ⌜ (wordsTaken (length (now starts) - 1) (now words) ≡ true) × (16 * (length (now starts) - 1) + 16 ≤ length (now work)) ⌝ }
     ensures { λ c. ⌜ Finished (field .p) (matrix (now (starts .entry)) (now (columns .entry)) (now (values .entry)))
-        (now (b .entry)) (now (words .entry)) (now (work .exit)) c ⌝ }
+        (now (b .entry)) (now (words .entry)) (now (bill .entry)) (now (bill .exit)) (now (work .exit)) c ⌝ }
 {
     let n = starts.len() - 1;
     let mut c = begin(b, work);
@@ -139,6 +154,7 @@ fn run(
             return c;
         };
         c = count(c, q);
+        enter(bill, j, q);
         j += 1;
     }
     c
@@ -236,11 +252,12 @@ pub fn solve(
     words: &[u32],
     vector: &mut [u32],
     polynomial: &mut [u32],
+    bill: &mut [u32],
     work: &mut [u32],
 ) -> Verdict
     ensures { λ r. ⌜ Solves (field .p) (matrix (now (starts .entry)) (now (columns .entry)) (now (values .entry))) (now (b .entry))
-        (now (words .entry)) (now (vector .entry)) (now (polynomial .entry)) (now (work .entry)) r
-        (now (vector .exit)) (now (polynomial .exit)) (now (work .exit)) ⌝ }
+        (now (words .entry)) (now (vector .entry)) (now (polynomial .entry)) (now (bill .entry)) (now (work .entry)) r
+        (now (vector .exit)) (now (polynomial .exit)) (now (bill .exit)) (now (work .exit)) ⌝ }
 {
     let number = solver_refusal(
         field.p,
@@ -256,7 +273,7 @@ pub fn solve(
     if number != 0 {
         return Verdict::Refused(number);
     }
-    let c = run(field, starts, columns, values, b, words, work);
+    let c = run(field, starts, columns, values, b, words, bill, work);
     finish(
         field,
         starts,

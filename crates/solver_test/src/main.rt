@@ -1,6 +1,6 @@
-// Makes the calls of the solver that standard input lists, after their number. A call is six lists: its modulus and the places of its vector, polynomial
-// and work slices; starts, columns, values, b and words. A line of the output: the refusal's number; or 0, 1 where it solved and 0 where it found
-// the matrix singular, degree, passes and applications; then the vector and polynomial slices, each with two places behind it; and of the work
+// Makes the calls of the solver that standard input lists, after their number. A call is six lists: its modulus and the places of its vector, polynomial,
+// bill and work slices; starts, columns, values, b and words. A line of the output: the refusal's number; or 0, 1 where it solved and 0 where it found
+// the matrix singular, degree, passes and applications; then the vector, polynomial and bill slices, each with two places behind it; and of the work
 // slice what a call may not change, two places behind it and, where it refuses, all. vectors.py makes calls and output.
 use solver::Counts;
 use solver::Verdict;
@@ -41,9 +41,11 @@ fn call(memory: &[u32], from: usize) {
     let head = list(memory, from, 0);
     let places = place(head, 1);
     let coefficients = place(head, 2);
-    let room = place(head, 3);
+    let billed = place(head, 3);
+    let room = place(head, 4);
     let mut vector = test_io::lent();
     let mut polynomial = test_io::lent();
+    let mut bill = test_io::lent();
     let mut work = test_io::lent();
     let verdict = solver::solve(
         field::Field { p: at(head, 0) },
@@ -54,11 +56,13 @@ fn call(memory: &[u32], from: usize) {
         list(memory, from, 5),
         front(&mut vector, places),
         front(&mut polynomial, coefficients),
+        front(&mut bill, billed),
         front(&mut work, room),
     );
     let free = print_verdict(verdict, room);
     show(&vector, 0, places);
     show(&polynomial, 0, coefficients);
+    show(&bill, 0, billed);
     show(&work, free, room);
     test_io::end_line();
 }

@@ -22,7 +22,7 @@ use Rattle.meaning.specs.Text.{isDigit, isNumeral, valueAfter, valueOf, onFirst
 use Rattle.laws.specs.Bool.{and-left, and-right, and-both, and-false-left, and-false-right, test-cases, never, same-test}
 use Rattle.laws.specs.List.{every-nil, every-cons}
 use Rattle.text_laws.specs.Numeral.{value-nil, value-cons, digit-low, digit-high, numeral-digits, numeral-lead, numeral-bounded, numeral-of}
-use Rattle.text_laws.specs.Line.{free, free-head, free-tail, parts-nil, parts-cut, parts-other, parts-some, onFirst-cons}
+use Rattle.text_laws.specs.Line.{free, free-head, free-tail, parts-nil, parts-cut, parts-other, parts-some, onFirst-cons, lines-parts}
 
 -- what follows a place: its byte, and what follows that
 pub drop-here : (text : List ℕ) (i : ℕ) → i < length text → drop i text ≡ getD text i 0 ∷ drop (i + 1) text
@@ -195,10 +195,6 @@ cut-split : (c : ℕ) (l : List ℕ) → parts c l ≡ getD (parts c l) 0 [] ∷
 cut-split c l =
     let p = parts-some c l in
     p .2 ∙ sym (ap (λ r. getD r 0 [] ∷ drop 1 r) (p .2))
-
-lines-parts : (s : List ℕ) → lines s ≡ map (λ l. lineOf (parts 9 l)) (parts 10 s)
-unfolding lines
-lines-parts s = refl
 
 -- a text's lines: that of the place, and the later ones
 pub lines-here : (s : List ℕ) → lines s ≡ lineOf (headOf s ∷ fieldsOf s) ∷ map (λ l. lineOf (parts 9 l)) (later s)

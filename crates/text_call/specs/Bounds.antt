@@ -1,24 +1,24 @@
 -- How large a run's numbers are, and how long its answer's text is.
 --     termCost-bounded     the terms of k passes with left up to 128 cost at most 256 × k
---     Small p n o          an outcome's degree, passes and applications, and the lengths and elements of its two lists
+--     Small p n o          an outcome's degree, passes and applications, each pass, and the lengths and elements of its two lists
 --     run-small            the outcome of every run without words on a system of at most 128 rows
---     answer-fits          its text has at most 4,608 bytes
+--     answer-fits          its text has at most 7,168 bytes
 --     answer-long          every answer's text has more than 18
 use mathlib.Core.Path.{_≡_, refl, sym, ap, subst}
 use mathlib.Core.Bool.{Bool, true, false, cond}
-use mathlib.Core.List.{List, [], _∷_, _++_}
+use mathlib.Core.List.{List, [], _∷_, _++_, map}
 use Prim.Native.Nat.{ℕ, _+_, _-_, _*_, _≤_, _<_}
-use Rattle.laws.specs.Solver.{vectorCount-nil}
+use Rattle.laws.specs.Solver.{vectorCount-nil, AllWithin, run-within}
 use native.Mathlib.Decide.{ℕ-discrete}
 use native.Mathlib.Omega.{arith}
 use lib.ListN.{length, drop, length-append}
 use Rattle.meaning.specs.List.{at, table, isZero, flat, bytes}
 use Rattle.meaning.specs.Field.{times, minus, inverse}
 use Rattle.meaning.specs.Matrix.{Matrix, size, apply}
-use Rattle.meaning.specs.Solver.{Pass, Kind, solved, singular, Outcome, passCount, applications, projections, begin, run, verdict, close, solve}
+use Rattle.meaning.specs.Solver.{Pass, Kind, solved, singular, Outcome, passCount, applications, closeCost, charge, projections, begin, run, verdict, close, solve}
 use Rattle.meaning.specs.ThirdCondition.{termCost, ThirdCondition}
 use Rattle.meaning.specs.Text.{decimal, line}
-use Rattle.meaning.specs.Answer.{kindWord, vectorWord, answerText}
+use Rattle.meaning.specs.Answer.{kindWord, vectorWord, passLines, answerText}
 use Rattle.meaning.specs.Refusal.{first}
 use Rattle.meaning.specs.Calls.{runChecks}
 use Rattle.laws.specs.Recurrence.{monic-length, monic-elements}
@@ -31,7 +31,7 @@ use Rattle.bridge.specs.Run.{termCost-nil, termCost-cons, run-found}
 use Rattle.bridge.specs.ThirdCondition.{accepted, everyRun, verdict-zero, verdict-singular, verdict-solved}
 use Rattle.text_laws.specs.Numeral.{decimal-short, decimal-bounded, decimal-positive}
 use Rattle.text_laws.specs.Line.{length-line-last, length-line-more}
-use Rattle.text_laws.specs.Length.{length-line-three, length-flat-rows}
+use Rattle.text_laws.specs.Length.{length-line-three, length-line-four, length-flat-rows}
 
 pub termCost-bounded : (left : ℕ) (qs : List Pass) → left ≤ 128 → termCost left qs ≤ 256 * length qs
 termCost-bounded left [] h = omega (arith, termCost-nil left)
@@ -42,6 +42,7 @@ pub record Small (p n : ℕ) (o : Outcome) : Type 0 where
   pub degree-low : o .degree ≤ n
   pub passes-few : passCount o ≤ n
   pub applications-few : applications o ≤ 33023
+  pub passes-within : AllWithin n (o .passes)
   pub vector-length : length (o .vector) ≡ n
   pub vector-below : Reduced p (o .vector)
   pub polynomial-length : length (o .polynomial) ≡ o .degree + 1
@@ -81,7 +82,7 @@ module _ (p : ℕ) (A : Matrix) (b : List ℕ) (e : first (runChecks p A b []) �
       go false = omega (arith, termCost-bounded (size A) (o .passes) h)
 
   pub run-small : Small p (size A) o
-  unfolding solve close
+  unfolding solve close begin
   run-small =
       let a = accepted p A b [] e in
       let third = everyRun p A b [] e in
@@ -93,6 +94,7 @@ module _ (p : ℕ) (A : Matrix) (b : List ℕ) (e : first (runChecks p A b []) �
         degree-low = D;
         passes-few = few;
         applications-few = cost third few D;
+        passes-within = run-within p A (a .prime .two-le) (projections p (size A) []) (begin b) tt;
         vector-length = v .0;
         vector-below = v .1;
         polynomial-length = monic-length p (o .degree) (o .polynomial) (third .monic);
@@ -120,6 +122,35 @@ kindWord-high singular = omega arith
 length-letter : (w : List ℕ) (a b : ℕ) → length w ≡ 1 → a < 1000 → b ≤ 4294967295 → length (line (w ∷ decimal a ∷ decimal b ∷ [])) ≤ 17
 length-letter w a b e ha hb = omega (arith, length-line-three w (decimal a) (decimal b), decimal-short 2 a (omega arith), decimal-bounded b hb)
 
+-- a word of four letters and four numerals of up to three digits
+length-pass : (w : List ℕ) (a b c d : ℕ) → length w ≡ 4 → a < 1000 → b < 1000 → c < 1000 → d < 1000
+    → length (line (w ∷ decimal a ∷ decimal b ∷ decimal c ∷ decimal d ∷ [])) ≤ 21
+length-pass w a b c d e ha hb hc hd =
+    omega (
+      arith,
+      length-line-more w (decimal a) (decimal b ∷ decimal c ∷ decimal d ∷ []),
+      length-line-four (decimal a) (decimal b) (decimal c) (decimal d),
+      decimal-short 2 a (omega arith),
+      decimal-short 2 b (omega arith),
+      decimal-short 2 c (omega arith),
+      decimal-short 2 d (omega arith),
+    )
+
+length-passes : (k n : ℕ) (qs : List Pass) → n ≤ 128 → k + length qs ≤ 1000 → AllWithin n qs → length (passLines k qs) ≤ 21 * length qs
+unfolding passLines bytes
+length-passes k n [] hn hk w = omega arith
+length-passes k n (q ∷ qs) hn hk w =
+    let left : q .left ≤ 128 = omega (arith, w .0 .left-low) in
+    let t : q .degree ≤ 256 = omega (arith, w .0 .degree-low) in
+    let cost : q .applications < 1000 = omega (arith, w .0 .cost) in
+    let this = line (bytes "pass" ∷ decimal k ∷ map decimal (charge q)) in
+    omega (
+      arith,
+      length-append this (passLines (k + 1) qs),
+      length-pass (bytes "pass") k (q .left) (q .degree) (q .applications) refl (omega arith) (omega arith) (omega arith) cost,
+      length-passes (k + 1) n qs hn (omega arith) (w .1),
+    )
+
 length-lines : (n : ℕ) (g : ℕ → List ℕ) → ((i : ℕ) → i < n → length (g i) ≤ 17) → length (flat (table n g)) ≤ 17 * n
 length-lines n g h = omega (arith, length-flat-rows (λ i. i) 17 n g (λ i l. omega (arith, h i l)))
 
@@ -136,14 +167,22 @@ module _ (o : Outcome) where
   abbrev ends : List ℕ
   ends = line (bytes "end" ∷ [])
 
-  length-answer : length (answerText o) ≡ length head + length powers + length places + 4
+  abbrev passes : List ℕ
+  passes = passLines 1 (o .passes)
+
+  abbrev closes : List ℕ
+  closes = line (bytes "close" ∷ decimal (closeCost o) ∷ [])
+
+  length-answer : length (answerText o) ≡ length head + length passes + length closes + length powers + length places + 4
   unfolding answerText bytes
   length-answer =
       omega (
         arith,
-        length-append (head ++ powers ++ places) ends,
-        length-append (head ++ powers) places,
-        length-append head powers,
+        length-append (head ++ passes ++ closes ++ powers ++ places) ends,
+        length-append (head ++ passes ++ closes ++ powers) places,
+        length-append (head ++ passes ++ closes) powers,
+        length-append (head ++ passes) closes,
+        length-append head passes,
         length-line-last (bytes "end"),
       )
 
@@ -173,7 +212,7 @@ module _ (o : Outcome) where
       )
 
   module _ (p n : ℕ) (s : Small p n o) (hp : p ≤ 2147483647) (hn : n ≤ 128) where
-    pub answer-fits : length (answerText o) ≤ 4608
+    pub answer-fits : length (answerText o) ≤ 7168
     unfolding bytes
     answer-fits =
         let few = s .degree-low in
@@ -186,10 +225,20 @@ module _ (o : Outcome) where
         length-lines (length (o .vector)) (λ i. line (vectorWord (o .kind) ∷ decimal (i + 1) ∷ decimal (at (o .vector) i) ∷ []))
         (λ i l. length-letter (vectorWord (o .kind)) (i + 1) (at (o .vector) i) (length-vectorWord (o .kind)) (omega (arith, s .vector-length))
         (omega (arith, s .vector-below i l))) in
+        let closes-short : length closes ≤ 10 =
+        omega (
+          arith,
+          length-line-more (bytes "close") (decimal (closeCost o)) [],
+          length-line-last (decimal (closeCost o)),
+          decimal-short 2 (closeCost o) (omega arith),
+        ) in
         omega (
           arith,
           length-answer,
           length-head,
+          length-passes 1 n (o .passes) hn (omega (arith, s .passes-few)) (s .passes-within),
+          s .passes-few,
+          closes-short,
           kindWord-high (o .kind),
           decimal-short 2 D (omega arith),
           decimal-short 2 (passCount o) (omega (arith, s .passes-few)),

@@ -8,24 +8,26 @@
 --     run-checked              a run without words on a system that passes the checks
 --     size-system              the matrix of a document has its size
 --     system-checked, solved-small      the system of a text that is taken, and the bounds of its run
---     solved-fits, solved-long      the text of a system that is taken: at most 4,608 bytes, more than 18
+--     solved-fits, solved-long      the text of a system that is taken: at most 7,168 bytes, more than 18
 --     LengthOrNumber text room r      r is above 18 exactly where nothing is refused, and otherwise the refusal's number, 1 to 11
 --     answer-or-number         so is the number that the call returns
---     called                   what the call ensures, by its number and its slice
-use mathlib.Core.Path.{_≡_, refl, sym, ap, subst, _∙_}
+--     Called, called           what the call ensures: its number and its slice say the rest
+use mathlib.Core.Path.{_≡_, refl, sym, ap, ap₂, subst, _∙_}
 use mathlib.Core.Logic.{_⊎_, inl, inr}
 use mathlib.Core.Bool.{Bool, true, false, not, cond, _&&_}
 use mathlib.Core.List.{List, [], _∷_, _++_}
 use Prim.Native.Nat.{ℕ, zero, suc, _+_, _-_, _≤_, _<_}
 use native.Mathlib.Omega.{arith}
 use lib.Dec.{eqb, leb}
-use lib.ListN.{length}
+use lib.ListN.{length, take, drop}
+use lib.Seq.{take-at}
 use borrow.Author.Tests.{leb-true, le-leb, lt-leb, eq-eqb, ne-eqb}
 use Rattle.meaning.specs.List.{every, select, overwrite}
 use Rattle.meaning.specs.Matrix.{Matrix, size}
 use Rattle.meaning.specs.Text.{Document, document, System, system, row}
 use Rattle.meaning.specs.Refusal.{Check, check, first, unlessRefused, documentChecks, wordsTaken}
 use Rattle.meaning.specs.Solver.{solve}
+use Rattle.meaning.specs.Answer.{AddsUp}
 use Rattle.meaning.specs.Calls.{systemChecks, runChecks, textChecks, readerRefusal, textRefusal, solvedText, textAnswer, textAfter}
 use Rattle.laws.specs.Bool.{and-left, and-right, and-both, same-test}
 use Rattle.laws.specs.List.{length-table}
@@ -33,10 +35,11 @@ use Rattle.laws.specs.Refusal.{first-cons, first-nil, first-passed, first-pass,
 use Rattle.text_laws.specs.Accepted.{system-accepted, modulus-high}
 use Rattle.text_laws.specs.Lists.{every-head, every-tail}
 use Rattle.text_laws.specs.RoundTrip.{systemOf, read-and-written}
+use Rattle.text_laws.specs.Bill.{answer-adds-up}
 use Rattle.text_call.specs.Bounds.{Small, run-small, answer-fits, answer-long}
 
 unfoldable pub byReader : List ℕ → ℕ → ℕ → ℕ
-byReader text room r = cond (leb (length text) 24576) (cond (eqb r 0) (cond (leb 4608 room) 0 11) r) 1
+byReader text room r = cond (leb (length text) 24576) (cond (eqb r 0) (cond (leb 7168 room) 0 11) r) 1
 
 -- a check 11 after others, cut in two
 eleven : (k : ℕ) (m r : Bool)
@@ -92,15 +95,15 @@ module _ (text : List ℕ) where
     unfolding textRefusal readerRefusal byReader
     text-by-reader room =
         let k = first (textChecks text) in
-        let rest = first (textChecks text ++ (check 11 (not (small && leb 4608 room)) ∷ [])) in
+        let rest = first (textChecks text ++ (check 11 (not (small && leb 7168 room)) ∷ [])) in
         let reader = readerRefusal text starts columns values right in
         let by-reader : reader ≡ cond (eqb k 0) (cond (not small) 11 0) k =
         then-eleven (leb (d .size + 1) (length starts) && leb (d .count) (length columns) && leb (d .count) (length values) && leb (d .size) (length right))
         ∙ ap (λ t. cond (eqb k 0) (cond (not t) 11 0) k) room-small in
-        let later : rest ≡ cond (eqb reader 0) (cond (leb 4608 room) 0 11) reader =
-        then-eleven (small && leb 4608 room) ∙ eleven k small (leb 4608 room)
-        ∙ ap (λ r. cond (eqb r 0) (cond (leb 4608 room) 0 11) r) (sym by-reader) in
-        first-cons (check 1 (not (leb (length text) 24576))) (textChecks text ++ (check 11 (not (small && leb 4608 room)) ∷ []))
+        let later : rest ≡ cond (eqb reader 0) (cond (leb 7168 room) 0 11) reader =
+        then-eleven (small && leb 7168 room) ∙ eleven k small (leb 7168 room)
+        ∙ ap (λ r. cond (eqb r 0) (cond (leb 7168 room) 0 11) r) (sym by-reader) in
+        first-cons (check 1 (not (leb (length text) 24576))) (textChecks text ++ (check 11 (not (small && leb 7168 room)) ∷ []))
         ∙ one (leb (length text) 24576) rest
         ∙ ap (λ x. cond (leb (length text) 24576) x 1) later
 
@@ -127,23 +130,23 @@ text-given text answer e =
 module _ (text : List ℕ) (room r : ℕ) where
   pub byReader-long : 24576 < length text → byReader text room r ≡ 1
   unfolding byReader
-  byReader-long h = ap (λ t. cond t (cond (eqb r 0) (cond (leb 4608 room) 0 11) r) 1) (lt-leb (length text) 24576 h)
+  byReader-long h = ap (λ t. cond t (cond (eqb r 0) (cond (leb 7168 room) 0 11) r) 1) (lt-leb (length text) 24576 h)
 
   module _ (h : length text ≤ 24576) where
-    within-limit : byReader text room r ≡ cond (eqb r 0) (cond (leb 4608 room) 0 11) r
+    within-limit : byReader text room r ≡ cond (eqb r 0) (cond (leb 7168 room) 0 11) r
     unfolding byReader
-    within-limit = ap (λ t. cond t (cond (eqb r 0) (cond (leb 4608 room) 0 11) r) 1) (le-leb (length text) 24576 h)
+    within-limit = ap (λ t. cond t (cond (eqb r 0) (cond (leb 7168 room) 0 11) r) 1) (le-leb (length text) 24576 h)
 
     pub byReader-refused : 1 ≤ r → byReader text room r ≡ r
-    byReader-refused p = within-limit ∙ ap (λ t. cond t (cond (leb 4608 room) 0 11) r) (ne-eqb r 0 (λ z. omega arith))
+    byReader-refused p = within-limit ∙ ap (λ t. cond t (cond (leb 7168 room) 0 11) r) (ne-eqb r 0 (λ z. omega arith))
 
-    pub byReader-short : r ≡ 0 → room < 4608 → byReader text room r ≡ 11
+    pub byReader-short : r ≡ 0 → room < 7168 → byReader text room r ≡ 11
     byReader-short e l =
-        within-limit ∙ ap (λ t. cond t (cond (leb 4608 room) 0 11) r) (eq-eqb r 0 e) ∙ ap (λ t. cond t 0 11) (lt-leb 4608 room l)
+        within-limit ∙ ap (λ t. cond t (cond (leb 7168 room) 0 11) r) (eq-eqb r 0 e) ∙ ap (λ t. cond t 0 11) (lt-leb 7168 room l)
 
-    pub byReader-taken : r ≡ 0 → 4608 ≤ room → byReader text room r ≡ 0
+    pub byReader-taken : r ≡ 0 → 7168 ≤ room → byReader text room r ≡ 0
     byReader-taken e l =
-        within-limit ∙ ap (λ t. cond t (cond (leb 4608 room) 0 11) r) (eq-eqb r 0 e) ∙ ap (λ t. cond t 0 11) (le-leb 4608 room l)
+        within-limit ∙ ap (λ t. cond t (cond (leb 7168 room) 0 11) r) (eq-eqb r 0 e) ∙ ap (λ t. cond t 0 11) (le-leb 7168 room l)
 
 -- ---- what is taken
 
@@ -159,23 +162,23 @@ pub record TextTaken (text : List ℕ) : Type 0 where
   pub rows : document text .size ≤ 128
   pub entries : document text .count ≤ 1024
 
-pub text-taken : (text : List ℕ) (room : ℕ) → textRefusal text room ≡ 0 → TextTaken text × (4608 ≤ room)
+pub text-taken : (text : List ℕ) (room : ℕ) → textRefusal text room ≡ 0 → TextTaken text × (7168 ≤ room)
 unfolding textRefusal
 text-taken text room e =
     let n = document text .size in
     let k = document text .count in
-    let last = check 11 (not (leb n 128 && leb k 1024 && leb 4608 room)) ∷ [] in
+    let last = check 11 (not (leb n 128 && leb k 1024 && leb 7168 room)) ∷ [] in
     let one = first-passed 1 (leb (length text) 24576) (textChecks text ++ last) (omega arith) e in
     let both = first-append-zero (textChecks text) last (numbered-text text) (one .1) in
-    let small = first-passed 11 (leb n 128 && leb k 1024 && leb 4608 room) [] (omega arith) (both .1) .0 in
-    let two = and-left (leb n 128 && leb k 1024) (leb 4608 room) small in (
+    let small = first-passed 11 (leb n 128 && leb k 1024 && leb 7168 room) [] (omega arith) (both .1) .0 in
+    let two = and-left (leb n 128 && leb k 1024) (leb 7168 room) small in (
       record {
         fits = leb-true (length text) 24576 (one .0);
         read = both .0;
         rows = leb-true n 128 (and-left (leb n 128) (leb k 1024) two);
         entries = leb-true k 1024 (and-right (leb n 128) (leb k 1024) two);
       },
-      leb-true 4608 room (and-right (leb n 128 && leb k 1024) (leb 4608 room) small),
+      leb-true 7168 room (and-right (leb n 128 && leb k 1024) (leb 7168 room) small),
     )
 
 pub size-system : (d : Document) → size (system d .matrix) ≡ d .size
@@ -194,7 +197,7 @@ module _ (text : List ℕ) (t : TextTaken text) where
       run-small (s .modulus) (s .matrix) (s .right) (run-checked (s .modulus) (s .matrix) (s .right) system-checked)
       (omega (arith, size-system (document text), t .rows))
 
-  pub solved-fits : length (solvedText text) ≤ 4608
+  pub solved-fits : length (solvedText text) ≤ 7168
   unfolding solvedText
   solved-fits =
       answer-fits (solve (s .modulus) (s .matrix) (s .right) []) (s .modulus) (size (s .matrix)) solved-small
@@ -222,7 +225,7 @@ unfolding textRefusal textChecks documentChecks every
 text-high text room =
     let d = document text in
     first-high 11
-    (check 1 (not (leb (length text) 24576)) ∷ textChecks text ++ (check 11 (not (leb (d .size) 128 && leb (d .count) 1024 && leb 4608 room)) ∷ []))
+    (check 1 (not (leb (length text) 24576)) ∷ textChecks text ++ (check 11 (not (leb (d .size) 128 && leb (d .count) 1024 && leb 7168 room)) ∷ []))
     refl
 
 abbrev pub LengthOrNumber : List ℕ → ℕ → ℕ → Type 0
@@ -237,7 +240,30 @@ answer-or-number text room = go (textRefusal text room) (text-high text room)
     go zero h = inl (refl, solved-long text)
     go (suc r) h = inr (omega arith, h, ap (λ t. cond t (length (solvedText text)) (suc r)) (ne-eqb (suc r) 0 (λ z. omega arith)))
 
-pub called : (text answer : List ℕ) (r : ℕ) (after : List ℕ) → (r ≡ textAnswer text (length answer)) × (after ≡ textAfter text answer)
-    → (r ≡ textAnswer text (length answer)) × ((after ≡ textAfter text answer) × LengthOrNumber text (length answer) r)
+-- what the call answers and leaves
+pub record Called (text answer : List ℕ) (r : ℕ) (after : List ℕ) : Type 0 where
+  pub number : r ≡ textAnswer text (length answer)
+  pub slice : after ≡ textAfter text answer
+  -- "the answer's length, always above 18, or the refusal's number"
+  pub which : LengthOrNumber text (length answer) r
+  -- request (i): "the printed applications must equal the sum over these lines"
+  pub adds-up : textRefusal text (length answer) ≡ 0 → AddsUp (take r after)
+
+solved-adds-up : (text : List ℕ) → AddsUp (solvedText text)
+unfolding solvedText
+solved-adds-up text = answer-adds-up (solve (systemOf text .modulus) (systemOf text .matrix) (systemOf text .right) [])
+
+pub called : (text answer : List ℕ) (r : ℕ) (after : List ℕ) → (r ≡ textAnswer text (length answer)) × (after ≡ textAfter text answer) → Called text answer r after
 called text answer r after e =
-    (e .0, (e .1, subst (LengthOrNumber text (length answer)) (sym (e .0)) (answer-or-number text (length answer))))
+    record {
+      number = e .0;
+      slice = e .1;
+      which = subst (LengthOrNumber text (length answer)) (sym (e .0)) (answer-or-number text (length answer));
+      adds-up =
+          λ none.
+          let given = text-given text answer none in
+          let T = solvedText text in
+          let whole : take r after ≡ T =
+          ap₂ take (e .0 ∙ sym (given .0)) (e .1 ∙ sym (given .1)) ∙ take-at T (drop (length T) answer) (length T) refl in
+          subst AddsUp (sym whole) (solved-adds-up text);
+    }

@@ -6,9 +6,9 @@
 --     read-loaded                    .. after the reader took a text
 --     refused-number                 where the reader refuses, its number is from 1
 --     read-outcome                   the answer's text is the text call's
---     verdictText, degreeOf          the answer's text and the degree, of what the solver says
+--     verdictText, degreeOf, passesOf      the answer's text, the degree and the passes, of what the solver says
 --     verdict-solved, verdict-singular, verdict-refused      .. by its cases
---     said-answer, said-degree       .. where it says an outcome: answerText
+--     said-answer, said-low          .. where it says an outcome: answerText; at most n
 --     Ran                            what a run leaves in the arrays
 --     loaded-rows, loaded-small      the size, and the run's bounds
 --     ran-answer                     the answer's text, of what a run leaves
@@ -27,7 +27,7 @@ use Rattle.meaning.specs.Matrix.{Matrix, matrix, size}
 use Rattle.meaning.specs.Text.{Document, document, system, row, decimal, line}
 use Rattle.meaning.specs.Solver.{Outcome, passCount, applications, solve}
 use Rattle.meaning.specs.Refusal.{check, first, unlessRefused}
-use Rattle.meaning.specs.Answer.{answerText}
+use Rattle.meaning.specs.Answer.{passLines, answerText}
 use Rattle.meaning.specs.Calls.{systemChecks, runChecks, textChecks, solverRefusal, readerRefusal, readerAnswer, readerAfter, solvedText}
 use Rattle.laws.specs.Bool.{and-right, and-both}
 use Rattle.laws.specs.List.{length-table, getD-table}
@@ -37,10 +37,11 @@ use Rattle.text_laws.specs.RoundTrip.{systemOf, read-and-written, text-accepted
 use Rattle.solver.specs.declared.Counts.{Counts}
 use Rattle.solver.specs.declared.Verdict.{Verdict}
 use Rattle.solver.specs.declared.Verdict.the-variants.{Solved, Singular, Refused}
+use Rattle.solver.specs.Bill.{billed, billed-all}
 use Rattle.solver.specs.Verdict.{Says, Solves}
 use Rattle.text_call.specs.Bounds.{Small, run-small}
 use Rattle.text_call.specs.Checks.{run-checked}
-use Rattle.text_call.specs.AnswerText.{elementLines, elementLines-ext, textOf, answer-solved, answer-singular}
+use Rattle.text_call.specs.AnswerText.{elementLines, elementLines-ext, billLines, bill-lines, textOf, answer-solved, answer-singular}
 
 abbrev pub loadedMatrix : ℕ → ℕ → List ℕ → List ℕ → List ℕ → Matrix
 loadedMatrix n count starts columns values = matrix (take (n + 1) starts) (take count columns) (take count values)
@@ -188,64 +189,71 @@ refused-number text starts columns values right (suc k) e z = omega arith
 
 -- ---- the answer, of what the solver says
 
-unfoldable pub verdictText : Verdict → List ℕ → List ℕ → List ℕ
-verdictText (Solved c) polynomial vector = textOf (bytes "answer\tsolved") (bytes "x") (c .degree) (c .passes) (c .applications) polynomial vector
-verdictText (Singular c) polynomial vector = textOf (bytes "answer\tsingular") (bytes "w") (c .degree) (c .passes) (c .applications) polynomial vector
-verdictText (Refused k) polynomial vector = []
+unfoldable pub verdictText : Verdict → List ℕ → List ℕ → List ℕ → List ℕ
+verdictText (Solved c) B polynomial vector = textOf (bytes "answer\tsolved") (bytes "x") (c .degree) (c .passes) (c .applications) B polynomial vector
+verdictText (Singular c) B polynomial vector = textOf (bytes "answer\tsingular") (bytes "w") (c .degree) (c .passes) (c .applications) B polynomial vector
+verdictText (Refused k) B polynomial vector = []
 
 abbrev pub degreeOf : Verdict → ℕ
 degreeOf (Solved c) = c .degree
 degreeOf (Singular c) = c .degree
 degreeOf (Refused k) = 0
 
-module _ (polynomial vector : List ℕ) where
+abbrev pub passesOf : Verdict → ℕ
+passesOf (Solved c) = c .passes
+passesOf (Singular c) = c .passes
+passesOf (Refused k) = 0
+
+module _ (B polynomial vector : List ℕ) where
   pub verdict-solved : (r : Verdict) (c : Counts) → r ≡ Solved c
-      → textOf (bytes "answer\tsolved") (bytes "x") (c .degree) (c .passes) (c .applications) polynomial vector ≡ verdictText r polynomial vector
+      → textOf (bytes "answer\tsolved") (bytes "x") (c .degree) (c .passes) (c .applications) B polynomial vector ≡ verdictText r B polynomial vector
   unfolding verdictText
-  verdict-solved r c e = ap (λ v. verdictText v polynomial vector) (sym e)
+  verdict-solved r c e = ap (λ v. verdictText v B polynomial vector) (sym e)
 
   pub verdict-singular : (r : Verdict) (c : Counts) → r ≡ Singular c
-      → textOf (bytes "answer\tsingular") (bytes "w") (c .degree) (c .passes) (c .applications) polynomial vector ≡ verdictText r polynomial vector
+      → textOf (bytes "answer\tsingular") (bytes "w") (c .degree) (c .passes) (c .applications) B polynomial vector ≡ verdictText r B polynomial vector
   unfolding verdictText
-  verdict-singular r c e = ap (λ v. verdictText v polynomial vector) (sym e)
+  verdict-singular r c e = ap (λ v. verdictText v B polynomial vector) (sym e)
 
-  pub verdict-refused : (r : Verdict) (k : ℕ) → r ≡ Refused k → [] ≡ verdictText r polynomial vector
+  pub verdict-refused : (r : Verdict) (k : ℕ) → r ≡ Refused k → [] ≡ verdictText r B polynomial vector
   unfolding verdictText
-  verdict-refused r k e = ap (λ v. verdictText v polynomial vector) (sym e)
+  verdict-refused r k e = ap (λ v. verdictText v B polynomial vector) (sym e)
 
 module _ (p n : ℕ) (o : Outcome) (s : Small p n o) where
-  -- the polynomial's zeros after F are not written
-  same-text : (head w : List ℕ) (degree passed applied : ℕ) → degree ≡ o .degree → passed ≡ passCount o → applied ≡ applications o
-      → textOf head w degree passed applied (padded (n + 1) (o .polynomial)) (o .vector)
-      ≡ textOf head w (o .degree) (passCount o) (applications o) (o .polynomial) (o .vector)
-  unfolding textOf
-  same-text head w degree passed applied ed eq ea =
-      ap (λ D. textOf head w D passed applied (padded (n + 1) (o .polynomial)) (o .vector)) ed
-      ∙ ap₂ (λ q a. textOf head w (o .degree) q a (padded (n + 1) (o .polynomial)) (o .vector)) eq ea
-      ∙ ap (λ f. line (head ∷ decimal (o .degree) ∷ decimal (passCount o) ∷ decimal (applications o) ∷ []) ++ f ++ elementLines w 1 (o .vector) (length (o .vector)) ++ line (bytes "end" ∷ []))
-      (elementLines-ext (bytes "f") 0 (padded (n + 1) (o .polynomial)) (o .polynomial) (o .degree + 1)
-      (λ i l. getD-table (n + 1) (λ i. at (o .polynomial) i) i 0 (omega (arith, s .degree-low))))
+  module _ (B : List ℕ) (h : billLines B (passCount o) ≡ passLines 1 (o .passes)) where
+    -- the polynomial's zeros after F are not written
+    same-text : (head w : List ℕ) (degree passed applied : ℕ) → degree ≡ o .degree → passed ≡ passCount o → applied ≡ applications o
+        → textOf head w degree passed applied B (padded (n + 1) (o .polynomial)) (o .vector)
+        ≡ textOf head w (o .degree) (passCount o) (applications o) B (o .polynomial) (o .vector)
+    unfolding textOf
+    same-text head w degree passed applied ed eq ea =
+        ap (λ D. textOf head w D passed applied B (padded (n + 1) (o .polynomial)) (o .vector)) ed
+        ∙ ap₂ (λ q a. textOf head w (o .degree) q a B (padded (n + 1) (o .polynomial)) (o .vector)) eq ea
+        ∙ ap (λ f. line (head ∷ decimal (o .degree) ∷ decimal (passCount o) ∷ decimal (applications o) ∷ []) ++ billLines B (passCount o) ++ line (bytes "close" ∷ decimal (o .degree - 1) ∷ []) ++ f ++ elementLines w 1 (o .vector) (length (o .vector)) ++ line (bytes "end" ∷ []))
+        (elementLines-ext (bytes "f") 0 (padded (n + 1) (o .polynomial)) (o .polynomial) (o .degree + 1)
+        (λ i l. getD-table (n + 1) (λ i. at (o .polynomial) i) i 0 (omega (arith, s .degree-low))))
 
-  pub said-answer : (r : Verdict) → Says r 0 o → verdictText r (padded (n + 1) (o .polynomial)) (o .vector) ≡ answerText o
-  unfolding verdictText
-  said-answer (Solved c) t =
-      same-text (bytes "answer\tsolved") (bytes "x") (c .degree) (c .passes) (c .applications) (t .2 .degree) (t .2 .passes) (t .2 .applications)
-      ∙ sym (answer-solved o (t .1))
-  said-answer (Singular c) t =
-      same-text (bytes "answer\tsingular") (bytes "w") (c .degree) (c .passes) (c .applications) (t .2 .degree) (t .2 .passes) (t .2 .applications)
-      ∙ sym (answer-singular o (t .1))
-  said-answer (Refused k) t = absurd (t .1 (sym (t .0)))
+    pub said-answer : (r : Verdict) → Says r 0 o → verdictText r B (padded (n + 1) (o .polynomial)) (o .vector) ≡ answerText o
+    unfolding verdictText
+    said-answer (Solved c) t =
+        same-text (bytes "answer\tsolved") (bytes "x") (c .degree) (c .passes) (c .applications) (t .2 .degree) (t .2 .passes) (t .2 .applications)
+        ∙ sym (answer-solved o B h (t .1))
+    said-answer (Singular c) t =
+        same-text (bytes "answer\tsingular") (bytes "w") (c .degree) (c .passes) (c .applications) (t .2 .degree) (t .2 .passes) (t .2 .applications)
+        ∙ sym (answer-singular o B h (t .1))
+    said-answer (Refused k) t = absurd (t .1 (sym (t .0)))
 
-  pub said-degree : (r : Verdict) → Says r 0 o → degreeOf r ≤ n
-  said-degree (Solved c) t = omega (arith, t .2 .degree, s .degree-low)
-  said-degree (Singular c) t = omega (arith, t .2 .degree, s .degree-low)
-  said-degree (Refused k) t = omega arith
+  pub said-low : (r : Verdict) → Says r 0 o → (degreeOf r ≤ n) × (passesOf r ≤ n)
+  said-low (Solved c) t = (omega (arith, t .2 .degree, s .degree-low), omega (arith, t .2 .passes, s .passes-few))
+  said-low (Singular c) t = (omega (arith, t .2 .degree, s .degree-low), omega (arith, t .2 .passes, s .passes-few))
+  said-low (Refused k) t = (omega arith, omega arith)
 
 -- what a run leaves in the arrays
-pub record Ran (p n count : ℕ) (starts columns values right : List ℕ) (r : Verdict) (vector polynomial : List ℕ) : Type 0 where
+pub record Ran (p n count : ℕ) (starts columns values right : List ℕ) (r : Verdict) (vector polynomial B : List ℕ) : Type 0 where
   pub says : Says r 0 (outcomeOf p n count starts columns values right)
   pub vector-of : take n vector ≡ outcomeOf p n count starts columns values right .vector
   pub polynomial-of : take (n + 1) polynomial ≡ padded (n + 1) (outcomeOf p n count starts columns values right .polynomial)
+  pub bill-of : billLines B (passCount (outcomeOf p n count starts columns values right)) ≡ passLines 1 (outcomeOf p n count starts columns values right .passes)
 
 module _ (p n count : ℕ) (starts columns values right : List ℕ) (l : Loaded p n count starts columns values right) where
   abbrev o : Outcome
@@ -261,17 +269,15 @@ module _ (p n count : ℕ) (starts columns values right : List ℕ) (l : Loaded 
       (run-checked p (loadedMatrix n count starts columns values) (take n right) (l .checked))
       (omega (arith, loaded-rows, l .rows)))
 
-  module _ (r : Verdict) (vector polynomial : List ℕ) (s : Ran p n count starts columns values right r vector polynomial) where
-    pub ran-answer : (f x : List ℕ) → f ≡ take (n + 1) polynomial → x ≡ take n vector → (degreeOf r < length f) × (verdictText r f x ≡ answerText o)
-    ran-answer f x ef ex = (
-      omega (
-        arith,
-        said-degree p n o loaded-small r (s .says),
-        ap length (ef ∙ s .polynomial-of),
-        length-table (n + 1) (λ i. at (o .polynomial) i),
-      ),
-      ap₂ (λ g y. verdictText r g y) (ef ∙ s .polynomial-of) (ex ∙ s .vector-of) ∙ said-answer p n o loaded-small r (s .says),
-    )
+  module _ (r : Verdict) (vector polynomial B : List ℕ) (s : Ran p n count starts columns values right r vector polynomial B) where
+    pub ran-answer : (f x : List ℕ) → f ≡ take (n + 1) polynomial → x ≡ take n vector → length B ≡ 384
+        → (degreeOf r < length f) × (3 * passesOf r ≤ length B) × (verdictText r B f x ≡ answerText o)
+    ran-answer f x ef ex eb =
+        let low = said-low p n o loaded-small r (s .says) in (
+          omega (arith, low .0, ap length (ef ∙ s .polynomial-of), length-table (n + 1) (λ i. at (o .polynomial) i)),
+          omega (arith, low .1, eb, l .rows),
+          ap₂ (λ g y. verdictText r B g y) (ef ∙ s .polynomial-of) (ex ∙ s .vector-of) ∙ said-answer p n o loaded-small B (s .bill-of) r (s .says),
+        )
 
   -- nothing is refused where the vector, the polynomial and the work slice are as long as stated
   pub loaded-taken : (vector polynomial work : List ℕ) → length vector ≡ n → length polynomial ≡ n + 1 → 16 * n + 16 ≤ length work
@@ -290,20 +296,24 @@ module _ (p n count : ℕ) (starts columns values right : List ℕ) (l : Loaded 
       first-nil
 
   -- so a call of the solver on the arrays' leading parts gives the outcome
-  pub loaded-solved : {t k u b words v f w v′ f′ w′ : List ℕ} {r : Verdict} → Solves p (matrix t k u) b words v f w r v′ f′ w′
+  pub loaded-solved : {t k u b words v f B w v′ f′ B′ w′ : List ℕ} {r : Verdict} → Solves p (matrix t k u) b words v f B w r v′ f′ B′ w′
       → t ≡ take (n + 1) starts → k ≡ take count columns → u ≡ take count values → b ≡ take n right → words ≡ []
-      → length v ≡ n → length f ≡ n + 1 → 16 * n + 16 ≤ length w
-      → Says r 0 o × (v′ ≡ o .vector) × (f′ ≡ padded (n + 1) (o .polynomial))
-  loaded-solved {t} {k} {u} {b} {words} {v} {f} {w} {v′} {f′} {w′} {r} h et ek eu eb ew lv lf lw =
+      → length v ≡ n → length f ≡ n + 1 → length B ≡ 384 → 16 * n + 16 ≤ length w
+      → Says r 0 o × (v′ ≡ o .vector) × (f′ ≡ padded (n + 1) (o .polynomial)) × (billLines B′ (passCount o) ≡ passLines 1 (o .passes))
+  loaded-solved {t} {k} {u} {b} {words} {v} {f} {B} {w} {v′} {f′} {B′} {w′} {r} h et ek eu eb ew lv lf lb lw =
       let A = loadedMatrix n count starts columns values in
-      let on-starts = subst (λ x. Solves p (matrix x k u) b words v f w r v′ f′ w′) et h in
-      let on-columns = subst (λ x. Solves p (matrix (take (n + 1) starts) x u) b words v f w r v′ f′ w′) ek on-starts in
-      let on-values = subst (λ x. Solves p (matrix (take (n + 1) starts) (take count columns) x) b words v f w r v′ f′ w′) eu on-columns in
-      let on-right = subst (λ x. Solves p A x words v f w r v′ f′ w′) eb on-values in
-      let call = subst (λ x. Solves p A (take n right) x v f w r v′ f′ w′) ew on-right in
-      let none = loaded-taken v f w lv lf lw in (
+      let on-starts = subst (λ x. Solves p (matrix x k u) b words v f B w r v′ f′ B′ w′) et h in
+      let on-columns = subst (λ x. Solves p (matrix (take (n + 1) starts) x u) b words v f B w r v′ f′ B′ w′) ek on-starts in
+      let on-values = subst (λ x. Solves p (matrix (take (n + 1) starts) (take count columns) x) b words v f B w r v′ f′ B′ w′) eu on-columns in
+      let on-right = subst (λ x. Solves p A x words v f B w r v′ f′ B′ w′) eb on-values in
+      let call = subst (λ x. Solves p A (take n right) x v f B w r v′ f′ B′ w′) ew on-right in
+      let none = loaded-taken v f w lv lf lw in
+      let room : 3 * passCount o ≤ length B = omega (arith, loaded-small .passes-few, l .rows, lb) in (
         subst (λ z. Says r z o) none (call .says),
         call .leaves .vector-after ∙ unlessRefused-none (solverRefusal p A (take n right) [] v f w) (o .vector) v none,
         call .leaves .polynomial-after ∙ unlessRefused-none (solverRefusal p A (take n right) [] v f w) (padded (size A + 1) (o .polynomial)) f none
             ∙ ap (λ z. padded (z + 1) (o .polynomial)) loaded-rows,
+        ap (λ x. billLines x (passCount o))
+            (call .leaves .bill-after ∙ unlessRefused-none (solverRefusal p A (take n right) [] v f w) (billed B (o .passes)) B none ∙ billed-all B (o .passes) room)
+            ∙ bill-lines (o .passes) (drop (3 * passCount o) B),
       )

@@ -35,7 +35,7 @@ abbrev pub inputRoom : ℕ
 inputRoom = 24577
 
 abbrev pub enough : List ℕ → ℕ → List ℕ → Bool
-enough buffer read out = leb inputRoom (length buffer) && leb read (length buffer) && leb 4608 (length out)
+enough buffer read out = leb inputRoom (length buffer) && leb read (length buffer) && leb 7168 (length out)
 
 -- whole: the buffer holds the input's first bytes, as many as it has room for
 pub record Printed (buffer : List ℕ) (read : ℕ) (out : List ℕ) (r : ℕ) (after : List ℕ) : Type 0 where
@@ -51,14 +51,14 @@ pub long-refused : (text : List ℕ) (room : ℕ) → 24576 < length text → te
 unfolding textRefusal
 long-refused text room h =
     let d = document text in
-    let later = textChecks text ++ (check 11 (not (leb (d .size) 128 && leb (d .count) 1024 && leb 4608 room)) ∷ []) in
+    let later = textChecks text ++ (check 11 (not (leb (d .size) 128 && leb (d .count) 1024 && leb 7168 room)) ∷ []) in
     first-cons (check 1 (not (leb (length text) 24576))) later ∙ ap (λ t. cond (not t) 1 (first later)) (lt-leb (length text) 24576 h)
 
 long-output : (text : List ℕ) → 24576 < length text → programOutput text ≡ refusedText 1
 unfolding programOutput
 long-output text h =
-    let one = long-refused text 4608 h in
-    ap (λ k. cond k (solvedText text) (refusedText (textRefusal text 4608))) (ne-eqb (textRefusal text 4608) 0 (λ z. omega (arith, one, z)))
+    let one = long-refused text 7168 h in
+    ap (λ k. cond k (solvedText text) (refusedText (textRefusal text 7168))) (ne-eqb (textRefusal text 7168) 0 (λ z. omega (arith, one, z)))
     ∙ ap refusedText one
 
 pub cut-input : (buffer : List ℕ) (read : ℕ) (input : List ℕ) → inputRoom ≤ length buffer → read ≡ min (length input) (length buffer)
@@ -88,16 +88,16 @@ shown-as : {text out : List ℕ} {r s : ℕ} {a b : List ℕ} → Shown text out
 shown-as {text} {out} {r} {s} {a} {b} p e f =
     subst (λ x. Shown text out s x) f (subst (λ k. Shown text out k a) e p)
 
-module _ (text out : List ℕ) (h : 4608 ≤ length out) where
-  room-enough : textRefusal text (length out) ≡ textRefusal text 4608
+module _ (text out : List ℕ) (h : 7168 ≤ length out) where
+  room-enough : textRefusal text (length out) ≡ textRefusal text 7168
   unfolding textRefusal
   room-enough =
       let d = document text in
       ap (λ t. first (check 1 (not (leb (length text) 24576)) ∷ textChecks text ++ (check 11 (not (leb (d .size) 128 && leb (d .count) 1024 && t)) ∷ [])))
-      (le-leb 4608 (length out) h ∙ sym (le-leb 4608 4608 (omega arith)))
+      (le-leb 7168 (length out) h ∙ sym (le-leb 7168 7168 (omega arith)))
 
   -- w was put at the front
-  shown : (w : List ℕ) → programOutput text ≡ w → length w ≤ 4608 → Shown text out (length w) (overwrite w out)
+  shown : (w : List ℕ) → programOutput text ≡ w → length w ≤ 7168 → Shown text out (length w) (overwrite w out)
   shown w e l =
       record {
         length-of = sym (ap length e);
@@ -117,7 +117,7 @@ module _ (text out : List ℕ) (h : 4608 ≤ length out) where
         go (inl t) =
             let call = text-given text out (t .0) in
             let is : programOutput text ≡ solvedText text =
-            ap (λ k. cond k (solvedText text) (refusedText (textRefusal text 4608))) (eq-eqb (textRefusal text 4608) 0 (sym room-enough ∙ t .0)) in
+            ap (λ k. cond k (solvedText text) (refusedText (textRefusal text 7168))) (eq-eqb (textRefusal text 7168) 0 (sym room-enough ∙ t .0)) in
             shown-as (shown (solvedText text) is (solved-fits text (text-taken text (length out) (t .0) .0)))
             (call .0 ∙ sym en) (call .1 ∙ sym ea)
         go (inr t) = absurd (omega (arith, t .1, t .2, en))
@@ -133,7 +133,7 @@ module _ (text out : List ℕ) (h : 4608 ≤ length out) where
             let short : length (refusedText number) ≤ 11 = omega (arith, length-refused number, decimal-short 1 number (omega (arith, t .1, is))) in
             let as-before : out ≡ after = text-refused text out refusal refl (t .0) .1 ∙ sym ea in
             let says : programOutput text ≡ refusedText number =
-            ap (λ k. cond k (solvedText text) (refusedText (textRefusal text 4608))) (ne-eqb (textRefusal text 4608) 0 (λ z. omega (arith, t .0, room-enough, z)))
+            ap (λ k. cond k (solvedText text) (refusedText (textRefusal text 7168))) (ne-eqb (textRefusal text 7168) 0 (λ z. omega (arith, t .0, room-enough, z)))
             ∙ ap refusedText (sym (is ∙ room-enough)) in
             let put = wrote-start p (omega (arith, short)) in
             shown-as (shown (refusedText number) says (omega (arith, short))) (sym (put .0))
@@ -153,21 +153,21 @@ module _ (buffer : List ℕ) (read : ℕ) (out : List ℕ) where
 
   pub printed-short-buffer : length buffer < inputRoom → Printed buffer read out 0 out
   printed-short-buffer h =
-      none (and-false-left (leb 4608 (length out)) (and-false-left (leb read (length buffer)) (lt-leb inputRoom (length buffer) h)))
+      none (and-false-left (leb 7168 (length out)) (and-false-left (leb read (length buffer)) (lt-leb inputRoom (length buffer) h)))
 
   pub printed-over-read : length buffer < read → Printed buffer read out 0 out
   printed-over-read h =
-      none (and-false-left (leb 4608 (length out)) (and-false-right (leb inputRoom (length buffer)) (lt-leb read (length buffer) h)))
+      none (and-false-left (leb 7168 (length out)) (and-false-right (leb inputRoom (length buffer)) (lt-leb read (length buffer) h)))
 
-  pub printed-short-out : length out < 4608 → Printed buffer read out 0 out
+  pub printed-short-out : length out < 7168 → Printed buffer read out 0 out
   printed-short-out h =
-      none (and-false-right (leb inputRoom (length buffer) && leb read (length buffer)) (lt-leb 4608 (length out) h))
+      none (and-false-right (leb inputRoom (length buffer) && leb read (length buffer)) (lt-leb 7168 (length out) h))
 
-  pub printed-shown : inputRoom ≤ length buffer → read ≤ length buffer → 4608 ≤ length out
+  pub printed-shown : inputRoom ≤ length buffer → read ≤ length buffer → 7168 ≤ length out
       → (r : ℕ) (after : List ℕ) → Shown (take read buffer) out r after → Printed buffer read out r after
   printed-shown hb hr ho r after s =
       let yes : enough buffer read out ≡ true =
-      and-both (and-both (le-leb inputRoom (length buffer) hb) (le-leb read (length buffer) hr)) (le-leb 4608 (length out) ho) in
+      and-both (and-both (le-leb inputRoom (length buffer) hb) (le-leb read (length buffer) hr)) (le-leb 7168 (length out) ho) in
       record {
         length-of = s .length-of ∙ sym (ap (λ t. cond t (length (programOutput (take read buffer))) 0) yes);
         slice = s .slice ∙ sym (ap (λ t. cond t (overwrite (programOutput (take read buffer)) out) out) yes);

@@ -7,12 +7,11 @@ use solver::solve;
 use system_reader::Reading;
 use system_reader::read;
 ghost use mathlib.Core.Path.{_≡_};
-ghost use Prim.Native.Nat.{_+_, _≤_, _<_};
+ghost use Prim.Native.Nat.{_+_, _*_, _≤_, _<_};
 ghost use lib.ListN.{length};
-ghost use Rattle.meaning.specs.Calls.{textAnswer, textAfter};
 ghost use Rattle.line_writer.specs.Written.{Wrote};
-ghost use Rattle.text_call.specs.Checks.{LengthOrNumber};
-ghost use Rattle.text_call.specs.Loaded.{Loaded, loadedText, Ran, verdictText, degreeOf};
+ghost use Rattle.text_call.specs.Checks.{Called};
+ghost use Rattle.text_call.specs.Loaded.{Loaded, loadedText, Ran, verdictText, degreeOf, passesOf};
 
 // Solves the system in the leading parts of the arrays.
 fn run(
@@ -25,11 +24,12 @@ fn run(
     right: &[u32],
     vector: &mut [u32],
     polynomial: &mut [u32],
+    bill: &mut [u32],
     work: &mut [u32],
 ) -> Verdict
     requires { ⌜ Loaded p n count (now starts) (now columns) (now values) (now right) ⌝ }
-    requires { ⌜ (length (now vector) ≡ 128) × (length (now polynomial) ≡ 129) × (length (now work) ≡ 2064) ⌝ }
-    ensures { λ r. ⌜ Ran p n count (now (starts .entry)) (now (columns .entry)) (now (values .entry)) (now (right .entry)) r (now (vector .exit)) (now (polynomial .exit)) ⌝ }
+    requires { ⌜ (length (now vector) ≡ 128) × (length (now polynomial) ≡ 129) × (length (now bill) ≡ 384) × (length (now work) ≡ 2064) ⌝ }
+    ensures { λ r. ⌜ Ran p n count (now (starts .entry)) (now (columns .entry)) (now (values .entry)) (now (right .entry)) r (now (vector .exit)) (now (polynomial .exit)) (now (bill .exit)) ⌝ }
 {
     let z: usize = 0;
     let m = n + 1;
@@ -42,23 +42,29 @@ fn run(
         &[],
         &mut vector[z..n],
         &mut polynomial[z..m],
+        bill,
         work,
     )
 }
 
 // The answer's text of a verdict; nothing of a refusal.
-fn put_verdict(answer: &mut [u8], verdict: Verdict, polynomial: &[u32], vector: &[u32]) -> usize
-    requires { ⌜ degreeOf verdict < length (now polynomial) ⌝ }
-    ensures { λ r. ⌜ Wrote (now (answer .entry)) 0 (verdictText verdict (now (polynomial .entry)) (now (vector .entry))) r (now (answer .exit)) ⌝ }
+fn put_verdict(
+    answer: &mut [u8],
+    verdict: Verdict,
+    bill: &[u32],
+    polynomial: &[u32],
+    vector: &[u32],
+) -> usize
+    requires { ⌜ (degreeOf verdict < length (now polynomial)) × (3 * passesOf verdict ≤ length (now bill)) ⌝ }
+    ensures { λ r. ⌜ Wrote (now (answer .entry)) 0 (verdictText verdict (now (bill .entry)) (now (polynomial .entry)) (now (vector .entry))) r (now (answer .exit)) ⌝ }
 {
     match verdict {
         Verdict::Solved(c) => put_answer(
             answer,
             b"answer\tsolved",
             b"x",
-            c.degree,
-            c.passes,
-            c.applications,
+            c,
+            bill,
             polynomial,
             vector,
         ),
@@ -66,9 +72,8 @@ fn put_verdict(answer: &mut [u8], verdict: Verdict, polynomial: &[u32], vector: 
             answer,
             b"answer\tsingular",
             b"w",
-            c.degree,
-            c.passes,
-            c.applications,
+            c,
+            bill,
             polynomial,
             vector,
         ),
@@ -88,10 +93,11 @@ fn put_solved(
     right: &[u32],
     vector: &mut [u32],
     polynomial: &mut [u32],
+    bill: &mut [u32],
     work: &mut [u32],
 ) -> usize
     requires { ⌜ Loaded p n count (now starts) (now columns) (now values) (now right) ⌝ }
-    requires { ⌜ (length (now vector) ≡ 128) × (length (now polynomial) ≡ 129) × (length (now work) ≡ 2064) ⌝ }
+    requires { ⌜ (length (now vector) ≡ 128) × (length (now polynomial) ≡ 129) × (length (now bill) ≡ 384) × (length (now work) ≡ 2064) ⌝ }
     ensures { λ r. ⌜ Wrote (now (answer .entry)) 0 (loadedText p n count (now (starts .entry)) (now (columns .entry)) (now (values .entry)) (now (right .entry))) r (now (answer .exit)) ⌝ }
 {
     let verdict = run(
@@ -104,11 +110,12 @@ fn put_solved(
         right,
         vector,
         polynomial,
+        bill,
         work,
     );
     let z: usize = 0;
     let m = n + 1;
-    put_verdict(answer, verdict, &polynomial[z..m], &vector[z..n])
+    put_verdict(answer, verdict, bill, &polynomial[z..m], &vector[z..n])
 }
 
 // The text call, on arrays for 128 rows and 1,024 entries.
@@ -121,13 +128,12 @@ pub(crate) fn answer_text(
     right: &mut [u32],
     vector: &mut [u32],
     polynomial: &mut [u32],
+    bill: &mut [u32],
     work: &mut [u32],
 ) -> u64
     requires { ⌜ (length (now starts) ≡ 129) × (length (now columns) ≡ 1024) × (length (now values) ≡ 1024) × (length (now right) ≡ 128) ⌝ }
-    requires { ⌜ (length (now vector) ≡ 128) × (length (now polynomial) ≡ 129) × (length (now work) ≡ 2064) ⌝ }
-    ensures { λ r. ⌜ r ≡ textAnswer (now (text .entry)) (length (now (answer .entry))) ⌝ }
-    ensures { λ _. ⌜ now (answer .exit) ≡ textAfter (now (text .entry)) (now (answer .entry)) ⌝ }
-    ensures { λ r. ⌜ LengthOrNumber (now (text .entry)) (length (now (answer .entry))) r ⌝ }
+    requires { ⌜ (length (now vector) ≡ 128) × (length (now polynomial) ≡ 129) × (length (now bill) ≡ 384) × (length (now work) ≡ 2064) ⌝ }
+    ensures { λ r. ⌜ Called (now (text .entry)) (now (answer .entry)) r (now (answer .exit)) ⌝ }
 {
     if text.len() > 24576 {
         return 1;
@@ -136,7 +142,7 @@ pub(crate) fn answer_text(
     match reading {
         Reading::Refused(number) => number as u64,
         Reading::Read(p, n, count) => {
-            if answer.len() < 4608 {
+            if answer.len() < 7168 {
                 return 11;
             }
             put_solved(
@@ -150,6 +156,7 @@ pub(crate) fn answer_text(
                 right,
                 vector,
                 polynomial,
+                bill,
                 work,
             ) as u64
         }

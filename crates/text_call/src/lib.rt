@@ -11,16 +11,13 @@ use line_writer::put_line;
 ghost use mathlib.Core.Path.{_≡_};
 ghost use Prim.Native.Nat.{_≤_};
 ghost use lib.ListN.{length};
-ghost use Rattle.meaning.specs.Calls.{textAnswer, textAfter};
-ghost use Rattle.text_call.specs.Checks.{LengthOrNumber};
+ghost use Rattle.text_call.specs.Checks.{Called};
 ghost use Rattle.text_call.specs.Program.{Shown, Printed};
 
 // The number is the answer's length, which is always above 18, or the refusal's. The arrays take 128 rows and 1,024 entries.
 #[no_mangle]
 pub extern "C" fn filzeur_text(text: &[u8], answer: &mut [u8]) -> u64
-    ensures { λ r. ⌜ r ≡ textAnswer (now (text .entry)) (length (now (answer .entry))) ⌝ }
-    ensures { λ _. ⌜ now (answer .exit) ≡ textAfter (now (text .entry)) (now (answer .entry)) ⌝ }
-    ensures { λ r. ⌜ LengthOrNumber (now (text .entry)) (length (now (answer .entry))) r ⌝ }
+    ensures { λ r. ⌜ Called (now (text .entry)) (now (answer .entry)) r (now (answer .exit)) ⌝ }
 {
     let mut starts = [0u32; 129];
     let mut columns = [0u32; 1024];
@@ -28,6 +25,7 @@ pub extern "C" fn filzeur_text(text: &[u8], answer: &mut [u8]) -> u64
     let mut right = [0u32; 128];
     let mut vector = [0u32; 128];
     let mut polynomial = [0u32; 129];
+    let mut bill = [0u32; 384];
     let mut work = [0u32; 2064];
     answer_text(
         text,
@@ -38,13 +36,14 @@ pub extern "C" fn filzeur_text(text: &[u8], answer: &mut [u8]) -> u64
         &mut right,
         &mut vector,
         &mut polynomial,
+        &mut bill,
         &mut work,
     )
 }
 
 // What the program prints for a text, at the front of the slice: the answer's text, or `refused` and the number.
 fn show(text: &[u8], out: &mut [u8]) -> usize
-    requires { ⌜ 4608 ≤ length (now out) ⌝ }
+    requires { ⌜ 7168 ≤ length (now out) ⌝ }
     ensures { λ r. ⌜ Shown (now (text .entry)) (now (out .entry)) r (now (out .exit)) ⌝ }
 {
     let number = filzeur_text(text, out);
@@ -55,7 +54,7 @@ fn show(text: &[u8], out: &mut [u8]) -> usize
     }
 }
 
-// What the program prints where the first `read` bytes of the buffer were read, at the front of a slice of at least 4,608 bytes. The buffer
+// What the program prints where the first `read` bytes of the buffer were read, at the front of a slice of at least 7,168 bytes. The buffer
 // has at least 24,577, one more than a text may have, so that a text that was cut is refused as the whole would be. Where one of these
 // is shorter, or more was read than the buffer has, the slice stays as it is, and the answer is 0.
 pub fn output(buffer: &[u8], read: usize, out: &mut [u8]) -> usize
@@ -67,7 +66,7 @@ pub fn output(buffer: &[u8], read: usize, out: &mut [u8]) -> usize
     if buffer.len() < read {
         return 0;
     }
-    if out.len() < 4608 {
+    if out.len() < 7168 {
         return 0;
     }
     let z: usize = 0;

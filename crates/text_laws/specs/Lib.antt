@@ -5,6 +5,7 @@
 --     Coordinates          the document of a system
 --     WriteRead, ReadWrite system and document are inverse, and one passes the checks if the other does
 --     Length               how long a system's text is
+--     Bill                 the applications on an answer's text add up
 pub mod Lists
 pub mod Tables
 pub mod Numeral
@@ -16,5 +17,6 @@ pub mod Coordinates
 pub mod WriteRead
 pub mod ReadWrite
 pub mod Length
+pub mod Bill
 pub mod RoundTrip
 pub mod RoundTripCalls

@@ -14,19 +14,20 @@
 --     line-last, line-more, length-line-last, length-line-more      a line field by field, and its length
 --     line-two-words       a line whose first word is two, with a tab between them
 --     line-parts           line (parts 9 l) ≡ l ++ (10 ∷ [])
---     lines-parts, lines-nil, lines-cut      the text cut into lines
+--     lineFields-nil, lineFields-line      the text cut into lines and fields: fields without bytes 9 and 10 are found again
+--     lines-parts, lines-nil, lines-cut      what these lines say
 --     lines-line           lines (line (w ∷ ws) ++ text) ≡ lineOf (w ∷ ws) ∷ lines text for fields without bytes 9 and 10
 use mathlib.Core.Path.{_≡_, refl, sym, ap, ap₂, _∙_}
 use mathlib.Core.Logic.{_⊎_, inl, inr}
 use mathlib.Core.Bool.{Bool, true, false, not, cond}
-use mathlib.Core.List.{List, [], _∷_, _++_, map, append-assoc, append-nil}
+use mathlib.Core.List.{List, [], _∷_, _++_, map, map-map, append-assoc, append-nil}
 use Prim.Native.Nat.{ℕ, suc, _+_, _<_}
 use native.Mathlib.Omega.{arith}
 use lib.Dec.{eqb}
 use lib.ListN.{length, length-append}
 use borrow.Author.Tests.{eqb-true, eq-eqb, ne-eqb, not-true}
 use Rattle.meaning.specs.List.{every, flat}
-use Rattle.meaning.specs.Text.{isDigit, line, onFirst, parts, lineOf, lines}
+use Rattle.meaning.specs.Text.{isDigit, line, onFirst, parts, lineFields, lineOf, lines}
 use Rattle.laws.specs.Bool.{test-cases}
 use Rattle.text_laws.specs.Lists.{flat-nil, flat-cons, every-join, every-head, every-tail, every-more, every-weaken}
 use Rattle.text_laws.specs.Numeral.{digit-low}
@@ -165,22 +166,42 @@ joined-free c d w (v ∷ ws) h e =
     ∙ every-join (λ x. not (eqb x d)) w (c ∷ joined c (v ∷ ws)) (every-head (free d) w (v ∷ ws) e)
     (every-more (λ x. not (eqb x d)) c (joined c (v ∷ ws)) (ap not h) (joined-free c d v ws h (every-tail (free d) w (v ∷ ws) e)))
 
-pub lines-parts : (text : List ℕ) → lines text ≡ map (λ l. lineOf (parts 9 l)) (parts 10 text)
-unfolding lines
-lines-parts text = refl
+-- ---- the text cut into lines, and these into fields
 
-pub lines-nil : lines [] ≡ lineOf ([] ∷ []) ∷ []
-lines-nil = lines-parts [] ∙ ap (map (λ l. lineOf (parts 9 l))) (parts-nil 10) ∙ ap (λ w. lineOf w ∷ []) (parts-nil 9)
+lineFields-parts : (text : List ℕ) → lineFields text ≡ map (parts 9) (parts 10 text)
+unfolding lineFields
+lineFields-parts text = refl
+
+pub lineFields-nil : lineFields [] ≡ ([] ∷ []) ∷ []
+lineFields-nil = lineFields-parts [] ∙ ap (map (parts 9)) (parts-nil 10) ∙ ap (λ w. w ∷ []) (parts-nil 9)
 
 -- a line of bytes other than 10, then more lines
+lineFields-cut : (l text : List ℕ) → free 10 l ≡ true → lineFields (l ++ 10 ∷ text) ≡ parts 9 l ∷ lineFields text
+lineFields-cut l text e =
+    lineFields-parts (l ++ 10 ∷ text) ∙ ap (map (parts 9)) (parts-more 10 l text e) ∙ ap (λ r. parts 9 l ∷ r) (sym (lineFields-parts text))
+
+pub lineFields-line : (w : List ℕ) (ws : List (List ℕ)) (text : List ℕ) → every (free 9) (w ∷ ws) ≡ true → every (free 10) (w ∷ ws) ≡ true
+    → lineFields (line (w ∷ ws) ++ text) ≡ (w ∷ ws) ∷ lineFields text
+lineFields-line w ws text e f =
+    ap (λ l. lineFields (l ++ text)) (line-joined w ws) ∙ ap lineFields (append-assoc (joined 9 (w ∷ ws)) (10 ∷ []) text)
+    ∙ lineFields-cut (joined 9 (w ∷ ws)) text (joined-free 9 10 w ws refl f)
+    ∙ ap (λ r. r ∷ lineFields text) (parts-joined 9 w ws e)
+
+lines-fields : (text : List ℕ) → lines text ≡ map lineOf (lineFields text)
+unfolding lines
+lines-fields text = refl
+
+pub lines-parts : (text : List ℕ) → lines text ≡ map (λ l. lineOf (parts 9 l)) (parts 10 text)
+lines-parts text = lines-fields text ∙ ap (map lineOf) (lineFields-parts text) ∙ map-map lineOf (parts 9) (parts 10 text)
+
+pub lines-nil : lines [] ≡ lineOf ([] ∷ []) ∷ []
+lines-nil = lines-fields [] ∙ ap (map lineOf) lineFields-nil
+
 pub lines-cut : (l text : List ℕ) → free 10 l ≡ true → lines (l ++ 10 ∷ text) ≡ lineOf (parts 9 l) ∷ lines text
 lines-cut l text e =
-    lines-parts (l ++ 10 ∷ text) ∙ ap (map (λ l. lineOf (parts 9 l))) (parts-more 10 l text e)
-    ∙ ap (λ r. lineOf (parts 9 l) ∷ r) (sym (lines-parts text))
+    lines-fields (l ++ 10 ∷ text) ∙ ap (map lineOf) (lineFields-cut l text e) ∙ ap (λ r. lineOf (parts 9 l) ∷ r) (sym (lines-fields text))
 
 pub lines-line : (w : List ℕ) (ws : List (List ℕ)) (text : List ℕ) → every (free 9) (w ∷ ws) ≡ true → every (free 10) (w ∷ ws) ≡ true
     → lines (line (w ∷ ws) ++ text) ≡ lineOf (w ∷ ws) ∷ lines text
 lines-line w ws text e f =
-    ap (λ l. lines (l ++ text)) (line-joined w ws) ∙ ap lines (append-assoc (joined 9 (w ∷ ws)) (10 ∷ []) text)
-    ∙ lines-cut (joined 9 (w ∷ ws)) text (joined-free 9 10 w ws refl f)
-    ∙ ap (λ r. lineOf r ∷ lines text) (parts-joined 9 w ws e)
+    lines-fields (line (w ∷ ws) ++ text) ∙ ap (map lineOf) (lineFields-line w ws text e f) ∙ ap (λ r. lineOf (w ∷ ws) ∷ r) (sym (lines-fields text))

@@ -23,26 +23,26 @@ same-length-3 c = search needs
 
 returns : tie.Need-returns
 returns c =
-    let a = c .before .before .before .before .before .before .before .before .before .before .before .before .before .args in
-    refused (a .field .p) (matrix (now (a .starts)) (now (a .columns)) (now (a .values))) (now (a .b)) (now (a .words)) (now (a .vector)) (now (a .polynomial)) (now (a .work))
-    (c .before .solver-refusal .result) (sym (c .before .solver-refusal .ensures)) (c .if1 .taken)
+    let a = c .before .before .before .before .before .before .before .before .before .before .before .before .before .before .args in
+    let A = matrix (now (a .starts)) (now (a .columns)) (now (a .values)) in
+    refused (a .field .p) A (now (a .b)) (now (a .words)) (now (a .vector)) (now (a .polynomial)) (now (a .bill)) (now (a .work)) (c .before .solver-refusal .result) (sym (c .before .solver-refusal .ensures)) (c .if1 .taken)
 
 run-requires : tie.Need-run-requires
 run-requires c κs =
-    let a = c .before .before .before .before .before .before .before .before .before .before .before .before .before .before .args in
+    let a = c .before .before .before .before .before .before .before .before .before .before .before .before .before .before .before .before .args in
     let A = matrix (now (a .starts)) (now (a .columns)) (now (a .values)) in
-    let passed = sym (c .before .before .solver-refusal .ensures) ∙ c .before .if1 .left in
+    let passed = sym (c .before .before .before .solver-refusal .ensures) ∙ c .before .before .if1 .left in
     let t = call-accepted (a .field .p) A (now (a .b)) (now (a .words)) (now (a .vector)) (now (a .polynomial)) (now (a .work)) passed in
     (system-of (a .field .p) A (now (a .b)) (now (a .words)) (run-passed (a .field .p) A (now (a .b)) (now (a .words)) (now (a .vector)) (now (a .polynomial)) (now (a .work)) passed), (t .run .words-taken, t .room))
 
 finish-requires : tie.Need-finish-requires
 finish-requires c κs =
-    let a = c .before .before .before .before .before .before .before .before .before .before .before .before .before .before .before .before .before .before .before .before .args in
+    let a = c .before .before .before .before .before .before .before .before .before .before .before .before .before .before .before .before .before .before .before .before .before .before .before .before .args in
     let A = matrix (now (a .starts)) (now (a .columns)) (now (a .values)) in
-    let passed = sym (c .before .before .before .before .before .before .before .before .solver-refusal .ensures) ∙ c .before .before .before .before .before .before .before .if1 .left in
+    let passed = sym (c .before .before .before .before .before .before .before .before .before .before .before .solver-refusal .ensures) ∙ c .before .before .before .before .before .before .before .before .before .before .if1 .left in
     let t = call-accepted (a .field .p) A (now (a .b)) (now (a .words)) (now (a .vector)) (now (a .polynomial)) (now (a .work)) passed in
     let system = system-of (a .field .p) A (now (a .b)) (now (a .words)) (run-passed (a .field .p) A (now (a .b)) (now (a .words)) (now (a .vector)) (now (a .polynomial)) (now (a .work)) passed) in
-    (system, (closable system (c .before .before .before .before .before .run .ensures), (t .vector-size, t .polynomial-size)))
+    (system, (closable system (c .before .before .before .before .before .before .before .run .ensures), (t .vector-size, t .polynomial-size)))
 
 same-length-4 : tie.Need-same-length-4
 same-length-4 c = search needs
@@ -53,14 +53,15 @@ same-length-5 c = search needs
 same-length-6 : tie.Need-same-length-6
 same-length-6 c = search needs
 
+same-length-7 : tie.Need-same-length-7
+same-length-7 c = search needs
+
 returns-2 : tie.Need-returns-2
 returns-2 c =
-    let a = c .before .before .before .before .before .before .before .before .before .before .before .before .before .before .before .before .before .before .before .before .before .before .before .before .before .before .before .args in
+    let a = c .before .before .before .before .before .before .before .before .before .before .before .before .before .before .before .before .before .before .before .before .before .before .before .before .before .before .before .before .before .before .before .args in
     let A = matrix (now (a .starts)) (now (a .columns)) (now (a .values)) in
-    let passed = sym (c .before .before .before .before .before .before .before .before .before .before .before .before .before .before .before .solver-refusal .ensures) ∙ c .before .before .before .before .before .before .before .before .before .before .before .before .before .before .if1 .left in
-    let t = call-accepted (a .field .p) A (now (a .b)) (now (a .words)) (now (a .vector)) (now (a .polynomial)) (now (a .work)) passed in
-    taken (a .field .p) A (now (a .b)) (now (a .words)) (now (a .vector)) (now (a .polynomial)) (now (a .work)) passed
-    (closed (c .before .before .before .before .before .before .before .before .before .before .before .before .run .ensures) (c .before .before .before .before .before .before .finish .ensures))
+    let passed = sym (c .before .before .before .before .before .before .before .before .before .before .before .before .before .before .before .before .before .before .solver-refusal .ensures) ∙ c .before .before .before .before .before .before .before .before .before .before .before .before .before .before .before .before .before .if1 .left in
+    taken (a .field .p) A (now (a .b)) (now (a .words)) (now (a .vector)) (now (a .polynomial)) (now (a .bill)) (now (a .work)) passed (closed (c .before .before .before .before .before .before .before .before .before .before .before .before .before .before .run .ensures) (c .before .before .before .before .before .before .finish .ensures))
 
 pub solve-spec : {M : Type 1} → statement M
 solve-spec =
@@ -76,4 +77,5 @@ solve-spec =
     same-length-4
     same-length-5
     same-length-6
+    same-length-7
     returns-2)

@@ -29,7 +29,7 @@ returns c =
     let d = f .before .before .before .before in
     let a = d .args in
     let call = f .filzeur-text in
-    shown-answer (a .text .now) (a .out .now) (d .pre) (call .result) (call .last .1 .0) (call .ensures .0) (call .ensures .1 .0) (c .if1 .taken)
+    shown-answer (a .text .now) (a .out .now) (d .pre) (call .result) (call .last .1 .0) (call .ensures .number) (call .ensures .slice) (c .if1 .taken)
 
 same-length-2 : tie.Need-same-length-2
 same-length-2 c = c .before .before .put-line .kept .0 ∙ c .before .before .before .before .before .before .before .before .before .filzeur-text .kept .1 .0
@@ -42,7 +42,7 @@ returns-2 c =
     let a = d .args in
     let call = f .filzeur-text in
     let p = c .before .before .put-line in
-    shown-refused (a .text .now) (a .out .now) (d .pre) (call .result) (call .last .1 .0) (call .ensures .0) (call .ensures .1 .0) (omega (arith, t .if1 .left))
+    shown-refused (a .text .now) (a .out .now) (d .pre) (call .result) (call .last .1 .0) (call .ensures .number) (call .ensures .slice) (omega (arith, t .if1 .left))
     (p .result) (p .last .0) (wrote-as (refused-line (call .result)) (wrote-line (p .ensures .0) (p .ensures .1)))
 
 pub show-spec : {M : Type 1} → statement M

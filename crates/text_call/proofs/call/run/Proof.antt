@@ -25,7 +25,7 @@ part-solve-start : tie.Need-part-solve-start
 part-solve-start c = low _
 
 part-solve-end : tie.Need-part-solve-end
-part-solve-end c = c .before .before .before .before .before .before .before .pre .0 .in-starts
+part-solve-end c = c .before .before .before .before .before .before .before .before .pre .0 .in-starts
 
 mul-solve-2 : tie.Need-mul-solve-2
 mul-solve-2 c = none-fits
@@ -37,7 +37,7 @@ part-solve-start-2 : tie.Need-part-solve-start-2
 part-solve-start-2 c = low _
 
 part-solve-end-2 : tie.Need-part-solve-end-2
-part-solve-end-2 c = c .before .before .before .before .before .before .before .before .pre .0 .in-columns
+part-solve-end-2 c = c .before .before .before .before .before .before .before .before .before .pre .0 .in-columns
 
 mul-solve-3 : tie.Need-mul-solve-3
 mul-solve-3 c = none-fits
@@ -49,7 +49,7 @@ part-solve-start-3 : tie.Need-part-solve-start-3
 part-solve-start-3 c = low _
 
 part-solve-end-3 : tie.Need-part-solve-end-3
-part-solve-end-3 c = c .before .before .before .before .before .before .before .before .before .pre .0 .in-values
+part-solve-end-3 c = c .before .before .before .before .before .before .before .before .before .before .pre .0 .in-values
 
 mul-solve-4 : tie.Need-mul-solve-4
 mul-solve-4 c = none-fits
@@ -61,7 +61,7 @@ part-solve-start-4 : tie.Need-part-solve-start-4
 part-solve-start-4 c = low _
 
 part-solve-end-4 : tie.Need-part-solve-end-4
-part-solve-end-4 c = c .before .before .before .before .before .before .before .before .before .before .pre .0 .in-right
+part-solve-end-4 c = c .before .before .before .before .before .before .before .before .before .before .before .pre .0 .in-right
 
 slice-aggregate-solve : tie.Need-slice-aggregate-solve
 slice-aggregate-solve c = search needs
@@ -76,7 +76,7 @@ part-solve-start-5 : tie.Need-part-solve-start-5
 part-solve-start-5 c = low _
 
 part-solve-end-5 : tie.Need-part-solve-end-5
-part-solve-end-5 c = within (c .before .before .before .before .before .before .before .before .before .before .before .before .pre .0 .rows) (c .before .before .before .before .before .before .before .before .before .before .before .before .pre .1 .0)
+part-solve-end-5 c = within (c .before .before .before .before .before .before .before .before .before .before .before .before .before .pre .0 .rows) (c .before .before .before .before .before .before .before .before .before .before .before .before .before .pre .1 .0)
 
 mul-solve-6 : tie.Need-mul-solve-6
 mul-solve-6 c = none-fits
@@ -88,7 +88,7 @@ part-solve-start-6 : tie.Need-part-solve-start-6
 part-solve-start-6 c = low _
 
 part-solve-end-6 : tie.Need-part-solve-end-6
-part-solve-end-6 c = within-next (c .before .before .before .before .before .before .before .before .before .before .before .before .before .pre .0 .rows) (c .before .before .before .before .before .before .before .before .before .before .before .before .before .pre .1 .1)
+part-solve-end-6 c = within-next (c .before .before .before .before .before .before .before .before .before .before .before .before .before .before .pre .0 .rows) (c .before .before .before .before .before .before .before .before .before .before .before .before .before .before .pre .1 .1)
 
 solve-requires : tie.Need-solve-requires
 solve-requires c κs = search needs
@@ -102,40 +102,46 @@ same-length-2 c = search needs
 same-length-3 : tie.Need-same-length-3
 same-length-3 c = search needs
 
+same-length-4 : tie.Need-same-length-4
+same-length-4 c = search needs
+
 returns : tie.Need-returns
 returns c =
-    let p = c .before .before .before .before .before .before .before .before .before .before .before .before .before .before .before .before .before .before .before .before .before .before .args .p in
-    let n = c .before .before .before .before .before .before .before .before .before .before .before .before .before .before .before .before .before .before .before .before .before .before .args .n in
-    let count = c .before .before .before .before .before .before .before .before .before .before .before .before .before .before .before .before .before .before .before .before .before .before .args .count in
-    let starts = c .before .before .before .before .before .before .before .before .before .before .before .before .before .before .before .before .before .before .before .before .before .before .args .starts .now in
-    let columns = c .before .before .before .before .before .before .before .before .before .before .before .before .before .before .before .before .before .before .before .before .before .before .args .columns .now in
-    let values = c .before .before .before .before .before .before .before .before .before .before .before .before .before .before .before .before .before .before .before .before .before .before .args .values .now in
-    let right = c .before .before .before .before .before .before .before .before .before .before .before .before .before .before .before .before .before .before .before .before .before .before .args .right .now in
-    let vector = c .before .before .before .before .before .before .before .before .before .before .before .before .before .before .before .before .before .before .before .before .before .before .args .vector .now in
-    let polynomial = c .before .before .before .before .before .before .before .before .before .before .before .before .before .before .before .before .before .before .before .before .before .before .args .polynomial .now in
-    let loaded = c .before .before .before .before .before .before .before .before .before .before .before .before .before .before .before .before .before .before .before .before .before .before .pre .0 in
+    let d = c .before .before .before .before .before .before .before .before .before .before .before .before .before .before .before .before .before .before .before .before .before .before .before .before .before .before in
+    let call = c .before .before .before .before .before .before .before .before .solve in
+    let p = d .args .p in
+    let n = d .args .n in
+    let count = d .args .count in
+    let starts = d .args .starts .now in
+    let columns = d .args .columns .now in
+    let values = d .args .values .now in
+    let right = d .args .right .now in
+    let vector = d .args .vector .now in
+    let polynomial = d .args .polynomial .now in
+    let loaded = d .pre .0 in
     let rows = loaded .rows in
-    let lengths = c .before .before .before .before .before .before .before .before .before .before .before .before .before .before .before .before .before .before .before .before .before .before .pre .1 in
+    let lengths = d .pre .1 in
     let m = whole (n + 1) in
     let k = whole n in
     let e = whole count in
     let in-vector = subst (λ i. i ≤ length vector) (sym k) (within rows (lengths .0)) in
     let in-polynomial = subst (λ i. i ≤ length polynomial) (sym m) (within-next rows (lengths .1)) in
     let solved =
-    loaded-solved p n count starts columns values right loaded (c .before .before .before .before .before .before .solve .ensures) (ap (λ i. take i starts) m) (ap (λ i. take i columns) e)
+    loaded-solved p n count starts columns values right loaded (call .ensures) (ap (λ i. take i starts) m) (ap (λ i. take i columns) e)
     (ap (λ i. take i values) e) (ap (λ i. take i right) k) refl
     (length-take-le (n - 0) vector in-vector ∙ k)
     (length-take-le (n + 1 - 0) polynomial in-polynomial ∙ m)
-    (work-room rows (lengths .2)) in
+    (lengths .2)
+    (work-room rows (lengths .3)) in
     let small = loaded-small p n count starts columns values right loaded in
     record {
       says = solved .0;
-      vector-of =
-          take-at (c .before .before .before .before .before .before .solve .last .1 .1 .1 .1 .1 .1 .0) _ n (ap length (solved .1) ∙ small .vector-length) ∙ solved .1;
+      vector-of = take-at (call .last .1 .1 .1 .1 .1 .1 .0) _ n (ap length (solved .1) ∙ small .vector-length) ∙ solved .1;
       polynomial-of =
-          take-at (c .before .before .before .before .before .before .solve .last .1 .1 .1 .1 .1 .1 .1 .0) _ (n + 1)
+          take-at (call .last .1 .1 .1 .1 .1 .1 .1 .0) _ (n + 1)
           (ap length (solved .2) ∙ length-table (n + 1) (λ i. at (outcomeOf p n count starts columns values right .polynomial) i))
           ∙ solved .2;
+      bill-of = solved .3;
     }
 
 pub run-spec : {M : Type 1} → statement M
@@ -172,4 +178,5 @@ run-spec =
     same-length
     same-length-2
     same-length-3
+    same-length-4
     returns)
