@@ -109,11 +109,13 @@ fn enter(bill: &mut [u32], j: usize, q: Pass)
     requires { ⌜ (j ≤ 8192) × (q .left ≤ 4096) × (q .degree ≤ 8192) × (q .applications ≤ 16384) ⌝ }
     ensures { λ _. ⌜ now (bill .exit) ≡ entered (now (bill .entry)) j (passOf q) ⌝ }
 {
+    let left = q.left as u32;
+    let degree = q.degree as u32;
+    let applications = q.applications as u32;
     let from = 3 * j;
     let to = from + 3;
     if to <= bill.len() {
-        let charge = [q.left as u32, q.degree as u32, q.applications as u32];
-        write_padded(&charge, &mut bill[from..to]);
+        write_padded(&[left, degree, applications], &mut bill[from..to]);
     }
 }
 

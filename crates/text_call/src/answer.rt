@@ -36,11 +36,12 @@ fn put_passes(out: &mut [u8], at: usize, bill: &[u32], passes: u64) -> usize
     let mut next = at;
     let mut i: u64 = 0;
     while i < passes {
+        let number = i + 1;
         let from = 3 * i as usize;
         let left = bill[from] as u64;
         let degree = bill[from + 1] as u64;
         let applications = bill[from + 2] as u64;
-        next = put_line(out, next, b"pass", &[i + 1, left, degree, applications]);
+        next = put_line(out, next, b"pass", &[number, left, degree, applications]);
         i += 1;
     }
     next

@@ -7,20 +7,20 @@ use borrow.Author.Needs.{needs}
 use Rattle.solver.proofs.enter.Statement.{statement}
 use Rattle.solver.proofs.enter.Tie as tie
 
+cast-left : tie.Need-cast-left
+cast-left c = search needs
+
+cast-degree : tie.Need-cast-degree
+cast-degree c = search needs
+
+cast-applications : tie.Need-cast-applications
+cast-applications c = search needs
+
 mul-from : tie.Need-mul-from
 mul-from c = search needs
 
 add-to : tie.Need-add-to
 add-to c = search needs
-
-cast-t9 : tie.Need-cast-t9
-cast-t9 c = search needs
-
-cast-t10 : tie.Need-cast-t10
-cast-t10 c = search needs
-
-cast-t11 : tie.Need-cast-t11
-cast-t11 c = search needs
 
 slice-aggregate-write-padded : tie.Need-slice-aggregate-write-padded
 slice-aggregate-write-padded c = search needs
@@ -46,22 +46,23 @@ same-length c = search needs
 returns : tie.Need-returns
 returns c =
     let a = c .before .before .before .before .before .before .before .before .before .before .args in
-    entered-lent (now (a .bill)) (a .j) (passOf (a .q)) (c .before .before .before .before .before .before .before .before .if1 .taken) (3 * a .j + 3 - 3 * a .j) (c .before .before .write-padded .last .1 .0) (omega arith) (c .before .before .write-padded .ensures)
+    entered-lent (now (a .bill)) (a .j) (passOf (a .q)) (omega (arith, c .before .before .before .before .before .if1 .taken)) (3 * a .j + 3 - 3 * a .j) (c .before .before .write-padded .last .1 .0) (omega arith)
+    (c .before .before .write-padded .ensures)
 
 returns-2 : tie.Need-returns-2
 returns-2 c =
-    let a = c .before .before .args in
+    let a = c .before .before .before .before .before .args in
     entered-full (now (a .bill)) (a .j) (passOf (a .q)) (omega (arith, c .if1 .left))
 
 pub enter-spec : {M : Type 1} → statement M
 enter-spec =
     tie.close
     (tie.spec
+    cast-left
+    cast-degree
+    cast-applications
     mul-from
     add-to
-    cast-t9
-    cast-t10
-    cast-t11
     slice-aggregate-write-padded
     mul-write-padded
     sub-write-padded

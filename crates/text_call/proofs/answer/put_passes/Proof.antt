@@ -21,6 +21,9 @@ loop-holds c =
     let a = c .before .before .args in
     (omega arith, wrote-rows-none (a .out .now) (a .at) (billLine 1 (a .bill .now)) (omega arith))
 
+add-number : tie.Need-add-number Inv-loop μ-loop
+add-number c = search needs
+
 mul-from : tie.Need-mul-from Inv-loop μ-loop
 mul-from c = search needs
 
@@ -59,9 +62,6 @@ cast-applications c = omega (arith, c .shared-slice-known4 .given (3 * c .before
 
 slice-aggregate-put-line : tie.Need-slice-aggregate-put-line Inv-loop μ-loop
 slice-aggregate-put-line c = search needs
-
-add-t24 : tie.Need-add-t24 Inv-loop μ-loop
-add-t24 c = search needs
 
 slice-aggregate-put-line-2 : tie.Need-slice-aggregate-put-line-2 Inv-loop μ-loop
 slice-aggregate-put-line-2 c = search needs
@@ -102,6 +102,7 @@ put-passes-spec =
     Inv-loop
     μ-loop
     loop-holds
+    add-number
     mul-from
     mul-left
     shared-slice-read-left
@@ -115,7 +116,6 @@ put-passes-spec =
     shared-slice-read-applications
     cast-applications
     slice-aggregate-put-line
-    add-t24
     slice-aggregate-put-line-2
     put-line-requires
     add-i
