@@ -12,14 +12,14 @@
 use mathlib.Core.Path.{_≡_}
 use mathlib.Core.Bool.{Bool, false, not, _&&_}
 use mathlib.Core.List.{List, [], _∷_, _++_}
-use Prim.Native.Nat.{ℕ, _+_, _*_, _/_}
+use Prim.Native.Nat.{ℕ, _+_, _*_}
 use lib.Dec.{eqb, ltb, leb}
-use lib.ListN.{length, take}
+use lib.ListN.{length}
 use Rattle.meaning.specs.List.{padded, overwrite}
 use Rattle.meaning.specs.Field.{isModulus, inverse}
 use Rattle.meaning.specs.Matrix.{Matrix, size, apply}
 use Rattle.meaning.specs.Recurrence.{degree, generator}
-use Rattle.meaning.specs.Solver.{bill, solve, takes, isNull}
+use Rattle.meaning.specs.Solver.{billed, solve, takes, isNull}
 use Rattle.meaning.specs.ThirdCondition.{ThirdCondition, SameAnswer}
 use Rattle.meaning.specs.Text.{Document, document, inForm, System, system, write}
 use Rattle.meaning.specs.Answer.{answerText, refusedText}
@@ -117,12 +117,10 @@ polynomialAfter p A b words vector polynomial work =
     (padded (size A + 1) (solve p A b words .polynomial))
     polynomial
 
--- three numbers for each pass, for as many passes as the slice has room for; no length of it is refused
+-- request (i); no length of the bill is a reason to refuse
 abbrev pub billAfter : ℕ → Matrix → List ℕ → List ℕ → List ℕ → List ℕ → List ℕ → List ℕ → List ℕ
-billAfter p A b words vector polynomial work slice =
-    unlessRefused (solverRefusal p A b words vector polynomial work)
-    (overwrite (bill (take (length slice / 3) (solve p A b words .passes))) slice)
-    slice
+billAfter p A b words vector polynomial work bill =
+    unlessRefused (solverRefusal p A b words vector polynomial work) (billed bill (solve p A b words .passes)) bill
 
 -- the third condition of every run, and of every two runs on one system; proved with the solver's run
 abbrev pub EveryRun : Type 0
@@ -191,7 +189,7 @@ writerAfter p A b out = unlessRefused (writerRefusal p A b out) (overwrite (writ
 
 -- ---- the text call and the program
 
--- "it takes n up to 128 and 1,024 entries"; "the answer slice has at least 7,168 bytes": room is that slice's length
+-- "it takes n up to 128 and 1,024 entries"; request (i): "the answer slice now needs 7,168 bytes": room is that slice's length
 unfoldable pub textRefusal : List ℕ → ℕ → ℕ
 textRefusal text room =
     let d = document text in

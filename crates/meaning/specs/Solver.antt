@@ -16,7 +16,8 @@
 --     spent                  the applications of passes, summed
 --     closeCost              what the end takes: "D − 1 for G(A)b where D is at least 1", else 0
 --     applications           "one for each product with A": those of the passes and of the end
---     charge, bill           a pass in numbers, "left, degree t, applications of that pass"; the passes in numbers, one after the other
+--     charge, bill           request (i): a pass in numbers, "left, degree t, applications of that pass"; the passes in numbers, one after the other
+--     billed B qs            the slice that held B, with these numbers at its front, for as many passes as it has room for
 --     close                  "when r is zero, let G = (F − F[0]) / z .."
 --     solve                  the whole run
 --     takes, isNull          the two checks of offered answers
@@ -24,8 +25,8 @@ use mathlib.Core.Bool.{Bool, not, cond, _&&_}
 use mathlib.Core.List.{List, [], _∷_, _++_, map}
 use Prim.Native.Nat.{ℕ, _+_, _-_, _*_, _/_, _%_}
 use lib.Dec.{eqb}
-use lib.ListN.{length, drop}
-use Rattle.meaning.specs.List.{at, sum, table, zeros, isZero, equal, flat}
+use lib.ListN.{length, take, drop}
+use Rattle.meaning.specs.List.{at, sum, table, zeros, isZero, equal, flat, overwrite}
 use Rattle.meaning.specs.Field.{minus, times, inverse}
 use Rattle.meaning.specs.Matrix.{Matrix, size, product, power, apply}
 use Rattle.meaning.specs.Recurrence.{degree, generator}
@@ -118,6 +119,9 @@ charge q = q .left ∷ q .degree ∷ q .applications ∷ []
 
 unfoldable pub bill : List Pass → List ℕ
 bill qs = flat (map charge qs)
+
+abbrev pub billed : List ℕ → List Pass → List ℕ
+billed B qs = overwrite (bill (take (length B / 3) qs)) B
 
 -- what F makes of b: "if D = 0, x is zero. If F[0] is not 0, the kind is solved and x = −G(A)b / F[0]. Otherwise .. G(A)b"
 unfoldable pub verdict : ℕ → Matrix → List ℕ → List ℕ → ℕ → Kind × List ℕ

@@ -1,10 +1,9 @@
--- The bill in its slice.
---     billed B qs          the slice that held B, with three numbers for each of the passes qs, for as many as there is room for
+-- The bill in its slice (meaning's billed), pass by pass.
 --     entered B j q        B with pass j's numbers, if there is room for them
 --     entered-lent, entered-full      .. by its cases
 --     billed-nil, billed-next, billed-all      no pass; one more; room for all
 --     length-billed        the slice keeps its length
-use mathlib.Core.Path.{_≡_, refl, sym, ap, ap₂, _∙_, subst}
+use mathlib.Core.Path.{_≡_, refl, sym, ap, ap₂, _∙_}
 use mathlib.Core.Logic.{_⊎_, inl, inr}
 use mathlib.Core.Bool.{true, false, cond}
 use mathlib.Core.List.{List, [], _∷_, _++_, append-assoc}
@@ -15,15 +14,12 @@ use lib.ListN.{length, take, drop, length-take, length-append, length-drop}
 use lib.Seq.{take-all, take-at, take-append-le, drop-at, drop-drop}
 use borrow.Author.Tests.{leb-true, leb-false, le-leb, lt-leb}
 use Rattle.meaning.specs.List.{at, padded, overwrite}
-use Rattle.meaning.specs.Solver.{Pass, charge, bill}
+use Rattle.meaning.specs.Solver.{Pass, charge, bill, billed}
 use Rattle.laws.specs.Bool.{test-cases}
 use Rattle.laws.specs.List.{table-of}
 use Rattle.laws.specs.Part.{part, length-part}
 use Rattle.laws.specs.Solver.{bill-nil, bill-snoc, length-bill}
 use Rattle.laws.specs.Lent.{lent}
-
-abbrev pub billed : List ℕ → List Pass → List ℕ
-billed B qs = overwrite (bill (take (length B / 3) qs)) B
 
 abbrev pub entered : List ℕ → ℕ → Pass → List ℕ
 entered B j q = cond (leb (3 * j + 3) (length B)) (lent B (3 * j) 3 (charge q)) B

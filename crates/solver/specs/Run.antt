@@ -22,15 +22,15 @@ use native.Mathlib.Omega.{arith}
 use lib.ListN.{length, take, drop, getD, set, length-set, length-append, take-append-drop}
 use lib.Seq.{take-suc, take-all, getD-set-same, getD-set-other}
 use Rattle.meaning.specs.List.{at, isZero, padded}
-use Rattle.meaning.specs.Matrix.{Matrix, size, power}
+use Rattle.meaning.specs.Matrix.{Matrix, size}
 use Rattle.meaning.specs.Refusal.{check, first, elements, matrixChecks, wordsTaken}
 use Rattle.meaning.specs.Calls.{systemChecks, runChecks}
 use Rattle.meaning.specs.Recurrence.{degree}
-use Rattle.meaning.specs.Solver.{Pass, Run, projections, dot, terms, begin, spent, passTerms, pass, run}
+use Rattle.meaning.specs.Solver.{Pass, Run, projections, begin, spent, billed, pass, run}
 use Rattle.laws.specs.Accepted.{run-accepted}
 use Rattle.laws.specs.Bool.{and-both, test-cases, never}
 use Rattle.laws.specs.List.{length-table, table-of}
-use Rattle.laws.specs.Recurrence.{monic-leading, degree-within}
+use Rattle.laws.specs.Recurrence.{monic-leading}
 use Rattle.laws.specs.Refusal.{first-append-zero, numbered-matrix, numbered-system}
 use Rattle.laws.specs.Solver.{spent-nil, spent-snoc, made-within}
 use Rattle.algebra.specs.Ring.{Field}
@@ -51,7 +51,7 @@ use Rattle.laws.specs.Lent.{lent, length-lent, part-lent, part-at, part-cons}
 use Rattle.checks.specs.Pass.{residualAt, passRefusal, refused-state, state-0}
 use Rattle.wiedemann.specs.Pass.{held, passOf, Passes}
 use Rattle.solver.specs.declared.Counts.{Counts}
-use Rattle.solver.specs.Bill.{billed, entered, billed-nil, billed-next}
+use Rattle.solver.specs.Bill.{entered, billed-nil, billed-next}
 
 pub record CheckedSystem (p : ℕ) (A : Matrix) (b : List ℕ) : Type 0 where
   pub checked : first (matrixChecks p A) ≡ 0

@@ -22,8 +22,8 @@ use lib.Seq.{take-all, getD-drop}
 use borrow.Author.Tests.{eq-eqb, ne-eqb, le-leb}
 use Rattle.meaning.specs.List.{at, padded}
 use Rattle.meaning.specs.Field.{inverse}
-use Rattle.meaning.specs.Matrix.{Matrix, size, apply}
-use Rattle.meaning.specs.Solver.{Run, Kind, solved, singular, Outcome, passCount, applications, verdict, close, solve}
+use Rattle.meaning.specs.Matrix.{Matrix, size}
+use Rattle.meaning.specs.Solver.{Run, Kind, solved, singular, Outcome, passCount, applications, billed, verdict, close, solve}
 use Rattle.meaning.specs.ThirdCondition.{ThirdCondition, SameAnswer}
 use Rattle.meaning.specs.Refusal.{check, first, matrixChecks}
 use Rattle.meaning.specs.Calls.{applyRefusal, runChecks, solverRefusal, vectorAfter, polynomialAfter, billAfter}
@@ -39,7 +39,6 @@ use Rattle.wiedemann.specs.Pass.{held}
 use Rattle.laws.specs.Bool.{and-both}
 use Rattle.laws.specs.List.{length-table, getD-table}
 use Rattle.laws.specs.Refusal.{first-nil, first-pass, first-append-none, first-append-zero, numbered-matrix, numbered-run, unlessRefused-none}
-use Rattle.solver.specs.Bill.{billed}
 use Rattle.solver.specs.Run.{CheckedSystem, Closable, Finished}
 
 pub record Counted (c : Counts) (o : Outcome) : Type 0 where

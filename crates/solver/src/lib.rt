@@ -1,8 +1,8 @@
 // The solver: passes with the random words and then the unit vectors until r is zero, and what F makes of b then. Its work slice is laid out as the
-// pass has it (wiedemann::pass); the vector and polynomial slices are written at the very end.
+// pass has it (wiedemann::pass); the bill is written pass by pass, the vector and polynomial slices at the very end.
 //
-// The contracts cite the crate meaning (Solver: the run and its end; Calls: what a call refuses, answers and leaves), specs/Run.antt (what the work slice
-// holds between two passes) and specs/Verdict.antt (what an answer says, and the third condition).
+// The contracts cite the crate meaning (Solver: the run and its end; Calls: what a call refuses, answers and leaves), specs/Bill.antt (the bill, pass by
+// pass), specs/Run.antt (what the work slice holds between two passes) and specs/Verdict.antt (what an answer says, and the third condition).
 ghost use mathlib.Core.Path.{_≡_};
 ghost use mathlib.Core.Bool.{true};
 ghost use mathlib.Core.List.{[]};
@@ -244,7 +244,8 @@ fn finish(
 }
 
 // Solves Ax = b, or finds a vector that is not zero and that A takes to zero, by passes with the random words and then the unit vectors. Whatever
-// the words are, kind, vector and polynomial are those of A and b.
+// the words are, kind, vector and polynomial are those of A and b. The bill gets three numbers for each pass, left, degree and applications, for as many
+// passes as it has room for; it may be empty.
 pub fn solve(
     field: Field,
     starts: &[u32],

@@ -25,7 +25,7 @@ use borrow.Author.Tests.{leb-true, le-leb, eq-eqb}
 use Rattle.meaning.specs.List.{at, padded, overwrite, bytes, select}
 use Rattle.meaning.specs.Matrix.{Matrix, matrix, size}
 use Rattle.meaning.specs.Text.{Document, document, system, row, decimal, line}
-use Rattle.meaning.specs.Solver.{Outcome, passCount, applications, solve}
+use Rattle.meaning.specs.Solver.{Outcome, passCount, applications, billed, solve}
 use Rattle.meaning.specs.Refusal.{check, first, unlessRefused}
 use Rattle.meaning.specs.Answer.{passLines, answerText}
 use Rattle.meaning.specs.Calls.{systemChecks, runChecks, textChecks, solverRefusal, readerRefusal, readerAnswer, readerAfter, solvedText}
@@ -37,7 +37,7 @@ use Rattle.text_laws.specs.RoundTrip.{systemOf, read-and-written, text-accepted
 use Rattle.solver.specs.declared.Counts.{Counts}
 use Rattle.solver.specs.declared.Verdict.{Verdict}
 use Rattle.solver.specs.declared.Verdict.the-variants.{Solved, Singular, Refused}
-use Rattle.solver.specs.Bill.{billed, billed-all}
+use Rattle.solver.specs.Bill.{billed-all}
 use Rattle.solver.specs.Verdict.{Says, Solves}
 use Rattle.text_call.specs.Bounds.{Small, run-small}
 use Rattle.text_call.specs.Checks.{run-checked}

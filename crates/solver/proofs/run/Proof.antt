@@ -1,7 +1,7 @@
 use Rattle.solver.specs.Bill.{length-billed}
 use Rattle.solver.specs.Run.{Midway, midway-begin, midway-less, midway-made, midway-fits, midway-next, midway-end}
 use Rattle.laws.specs.Solver.{length-projections, vectorCount-few}
-use Rattle.wiedemann.specs.Pass.{held, Passes}
+use Rattle.wiedemann.specs.Pass.{held}
 use Rattle.meaning.specs.Matrix.{matrix}
 use Rattle.meaning.specs.Refusal.{wordsTaken}
 use Rattle.meaning.specs.Solver.{projections, begin}

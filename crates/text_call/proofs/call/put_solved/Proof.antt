@@ -1,7 +1,6 @@
 -- `call::put_solved` meets its contract: the run, and then its text.
 use mathlib.Core.Path.{_∙_, ap}
 use Prim.Native.Nat.{_+_, _-_}
-use native.Mathlib.Omega.{arith}
 use lib.ListN.{take}
 use Rattle.line_writer.specs.Written.{wrote-as}
 use Rattle.text_call.specs.Loaded.{ran-answer}

@@ -1,7 +1,6 @@
 -- `call::run` meets its contract.
 use mathlib.Core.Path.{refl, sym, ap, subst, _∙_}
 use Prim.Native.Nat.{_+_, _-_, _≤_}
-use native.Mathlib.Omega.{arith}
 use lib.ListN.{length, take}
 use lib.Seq.{take-at, length-take-le}
 use Rattle.meaning.specs.List.{at}
