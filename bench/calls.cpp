@@ -68,4 +68,9 @@ void text(Case &c) {
 
 } // namespace
 
-extern "C" const Calls our_calls{field, product, transposed, apply, recurrence, solve, write, text};
+#ifndef FILZEUR_VERSION
+#define FILZEUR_VERSION 1
+#endif
+
+extern "C" const Calls our_calls{FILZEUR_VERSION, field, product, transposed, apply,
+                                 recurrence,      solve, write,   text};

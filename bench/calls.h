@@ -24,6 +24,7 @@ struct Case {
 };
 
 struct Calls {
+    int version; // FILZEUR_VERSION of the header
     void (*field)(Case &);
     void (*product)(Case &);
     void (*transposed)(Case &);

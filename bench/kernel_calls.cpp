@@ -1,4 +1,5 @@
 // The C of kernel.c in the place of a library's g(A)v, for turns.cpp.
+#include "../host/filzeur.h"
 #include "calls.h"
 #include "kernel.h"
 
@@ -13,4 +14,4 @@ void apply(Case &c) {
 
 } // namespace
 
-extern "C" const Calls our_calls{nullptr, nullptr, nullptr, apply, nullptr, nullptr, nullptr, nullptr};
+extern "C" const Calls our_calls{FILZEUR_VERSION, nullptr, nullptr, nullptr, apply, nullptr, nullptr, nullptr, nullptr};

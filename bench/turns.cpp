@@ -81,24 +81,24 @@ void race(std::vector<Library> &libraries, Call call, Case &c) {
                 library.best = std::min(library.best, turn(library.places[place]->*call, c, repeats));
 }
 
-// The text call's answer without its bill, which the libraries of a version 1 header don't print.
-std::string unbilled(const std::string &answer) {
-    std::istringstream lines(answer);
-    std::string kept;
-    for (std::string line; std::getline(lines, line);)
-        if (line.rfind("pass\t", 0) != 0 && line.rfind("close\t", 0) != 0)
-            kept += line + '\n';
-    return kept;
-}
-
-// What a call leaves where nothing was there before.
-auto left_by(void (*call)(Case &), Case &c) {
-    for (Vector *slice : {&c.out, &c.vector, &c.f, &c.generator})
+// What a call leaves where nothing was there before. The bill and the answer's text only if asked for: they are not
+// the same in all versions.
+auto left_by(void (*call)(Case &), Case &c, bool billed) {
+    for (Vector *slice : {&c.out, &c.vector, &c.f, &c.bill, &c.generator})
         std::fill(slice->begin(), slice->end(), 0);
     call(c);
     const Case::Numbers &n = c.numbers;
-    return std::make_tuple(c.out, c.vector, c.f, c.generator, unbilled(c.answer.substr(0, n.length)), n.refusal,
-                           n.kind, n.degree, n.passes, n.applications);
+    return std::make_tuple(c.out, c.vector, c.f, c.generator, billed ? c.bill : Vector(),
+                           c.answer.substr(0, billed ? n.length : 0), n.refusal, n.kind, n.degree, n.passes,
+                           n.applications);
+}
+
+// Whether the two leave the same.
+bool same(const std::vector<Library> &libraries, Call call, Case &c) {
+    const Calls &one = *libraries[0].places[0], &other = *libraries[1].places[0];
+    bool billed = one.version == other.version;
+    auto first = left_by(one.*call, c, billed);
+    return left_by(other.*call, c, billed) == first;
 }
 
 // ---- the table
@@ -132,12 +132,10 @@ void row(std::vector<Library> &libraries, const std::string &name, Call call, Ca
             fprintf(stderr, "%s: the %s library has no such call\n", name.c_str(), library.name.c_str());
             return;
         }
-    auto first = left_by(libraries[0].places[0]->*call, c);
-    if (c.numbers.refusal != 0)
-        fprintf(stderr, "%s: refused by %s with %d\n", name.c_str(), libraries[0].name.c_str(),
-                static_cast<int>(c.numbers.refusal));
-    if (left_by(libraries[1].places[0]->*call, c) != first)
+    if (!same(libraries, call, c))
         fprintf(stderr, "%s: the results are not the same\n", name.c_str());
+    if (c.numbers.refusal != 0)
+        fprintf(stderr, "%s: refused with %d\n", name.c_str(), static_cast<int>(c.numbers.refusal));
     race(libraries, call, c);
     double ratio = libraries[1].best / libraries[0].best;
     printf("| %s | %s | %s | %.3f |\n", name.c_str(), shown(libraries[0].best).c_str(),
@@ -197,7 +195,7 @@ void beside_c(std::vector<Library> &libraries) {
         s.g = some_vector(random, 257, p);
         Vector v = some_vector(random, n, p);
         Case c(s, v, v);
-        if (left_by(libraries[0].places[0]->apply, c) != left_by(libraries[1].places[0]->apply, c))
+        if (!same(libraries, &Calls::apply, c))
             fprintf(stderr, "%zu × %zu: the results are not the same\n", n, k);
         race(libraries, &Calls::apply, c);
         for (const Library &library : libraries)

@@ -23,6 +23,8 @@
 #include <iterator>
 #include <string>
 #include <string_view>
+#include <tuple>
+#include <type_traits>
 #include <utility>
 #include <variant>
 #include <vector>
@@ -165,6 +167,26 @@ struct Answer {
     // the run.
     std::vector<Pass> bill = {};
 };
+
+// Structured bindings of an Answer have the names that stand before the bill: code that binds six is older than it.
+namespace detail {
+template <class A> auto before_bill(A &a) {
+    return std::tie(a.kind, a.degree, a.passes, a.applications, a.vector, a.polynomial);
+}
+} // namespace detail
+
+template <std::size_t I> auto &get(Answer &a) { return std::get<I>(detail::before_bill(a)); }
+template <std::size_t I> const auto &get(const Answer &a) { return std::get<I>(detail::before_bill(a)); }
+template <std::size_t I> auto &&get(Answer &&a) { return std::move(get<I>(a)); }
+
+} // namespace filzeur
+
+template <> struct std::tuple_size<filzeur::Answer> : std::integral_constant<std::size_t, 6> {};
+template <std::size_t I> struct std::tuple_element<I, filzeur::Answer> {
+    using type = std::remove_reference_t<decltype(filzeur::get<I>(std::declval<filzeur::Answer &>()))>;
+};
+
+namespace filzeur {
 
 namespace detail {
 

@@ -13,6 +13,7 @@
 namespace {
 
 using filzeur::Kind;
+using filzeur::Polynomial;
 using filzeur::System;
 using filzeur::Vector;
 using tests::check;
@@ -242,11 +243,21 @@ void bill_lengths(const System &system, const std::vector<std::uint32_t> &words)
     }
 }
 
-// Code from before the bill: six initialisers, and passes is their number.
+// Code from before the bill: six initialisers, six names bound, and passes is their number.
 void earlier_code() {
     filzeur::Answer answer{Kind::solved, 1, 2, 7, {0, 5}, {4, 1}};
     std::uint64_t passes = answer.passes;
     check(passes == 2 && answer.bill.empty(), "an answer made without a bill");
+    const auto &[kind, degree, number, applications, vector, polynomial] = answer;
+    check(kind == Kind::solved && degree == 1 && number == 2 && applications == 7 && &vector == &answer.vector &&
+              polynomial == Polynomial{4, 1},
+          "six names of an answer");
+    auto [k, d, n, a, x, f] = filzeur::solve({{7}, {{0, 1, 2}, {0, 1}, {2, 3}}, {1, 1}}).value();
+    check(k == Kind::solved && d == 2 && n == 2 && a == 7 && x == Vector{4, 5} && f == Polynomial{6, 2, 1},
+          "six names of a run");
+    auto &[k2, d2, n2, a2, x2, f2] = answer;
+    k2 = Kind::singular, d2 = n2 = a2 = 0, x2 = f2 = {};
+    check(answer.kind == Kind::singular && answer.passes == 0 && answer.vector.empty(), "six names, written through");
 }
 
 // The third condition: the verdict by dense elimination, and the same verdict for all words.
