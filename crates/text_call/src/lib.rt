@@ -1,7 +1,7 @@
 // The text call: system text in, answer text out.
 //
 // The contracts cite the crate meaning (Answer: the answer's text; Calls: what the call refuses, answers and leaves), specs/AnswerText.antt
-// (the answer's lines), specs/Loaded.antt (a system in the arrays), specs/Checks.antt (what the number says) and specs/Program.antt (what
+// (the answer's lines), specs/Loaded.antt (a system in the arrays), specs/Checks.antt (what the call ensures) and specs/Program.antt (what
 // the program prints).
 mod answer;
 mod call;
