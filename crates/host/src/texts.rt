@@ -12,7 +12,6 @@ ghost use Rattle.system_reader.specs.Answers.{valuesOfSystem, rightOfSystem, mo
 ghost use Rattle.system_writer.specs.Answers.{refusalOfWritten, lengthOfWritten};
 ghost use Rattle.text_call.specs.Checks.{Called};
 ghost use Rattle.host.specs.Answers.{systemOf, lengthOf};
-ghost use lib.ListN.{length};
 
 #[repr(C)]
 pub struct System {

@@ -8,7 +8,7 @@ ghost use mathlib.Core.Bool.{true};
 ghost use mathlib.Core.List.{[]};
 ghost use Prim.Native.Nat.{_+_, _-_, _*_, _≤_, _<_};
 ghost use lib.ListN.{length};
-ghost use Rattle.meaning.specs.List.{at, table, padded, isZero};
+ghost use Rattle.meaning.specs.List.{at, table, isZero};
 ghost use Rattle.meaning.specs.Field.{minus, times};
 ghost use Rattle.meaning.specs.Matrix.{matrix, apply};
 ghost use Rattle.meaning.specs.Refusal.{wordsTaken};

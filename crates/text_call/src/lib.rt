@@ -8,7 +8,6 @@ mod call;
 
 use call::answer_text;
 use line_writer::put_line;
-ghost use mathlib.Core.Path.{_≡_};
 ghost use Prim.Native.Nat.{_≤_};
 ghost use lib.ListN.{length};
 ghost use Rattle.text_call.specs.Checks.{Called};
