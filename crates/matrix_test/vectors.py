@@ -24,7 +24,7 @@ def matrix_refusal(p, starts, columns, values):
     n = len(starts) - 1
     if not prime(p):
         return 3
-    if not 1 <= n <= 4096:
+    if not 0 <= n <= 4096:
         return 4
     if starts[0] != 0 or any(a > b for a, b in zip(starts, starts[1:])) or starts[n] != len(columns) or len(columns) != len(values) \
             or len(columns) > 65536:
@@ -229,7 +229,6 @@ for p in (0, 1, 4, 6, 49, 2147483646, 2147483649, 4294967295, 2147117569):
     with_fault(p=p)
     with_fault(p=p, starts=[], values=[0], **late)
 with_fault(starts=[], columns=[], values=[], v=[], b=[], out=0, work=0)
-with_fault(starts=[0], columns=[], values=[], v=[], b=[], out=0, work=0)
 for starts in ([1, 2, 3], [0, 4, 3], [0, 2, 2], [0, 2, 4], [0, 3, 2], [0, 4294967295, 3]):
     with_fault(starts=starts)
     with_fault(starts=starts, columns=[5, 1, 1], values=[0, 1, 3], **late)
@@ -262,6 +261,18 @@ with_fault(work=0)
 with_fault(work=3)
 with_fault(work=5)
 with_fault(out=3, work=3)
+
+# no rows: g has one coefficient, the empty vector is taken to itself, and it is no null vector
+for p in PRIMES:
+    case(p, [], 1)
+empty = dict(starts=[0], columns=[], values=[], g=[6], v=[], b=[], out=0, work=0)
+for changes in ({}, dict(g=[0]), dict(work=1), dict(work=5)):
+    with_fault(**{**empty, **changes})
+for changes in (dict(p=6, out=1), dict(starts=[]), dict(starts=[], columns=[0], values=[0]), dict(starts=[1]), dict(starts=[4294967295]),
+                dict(columns=[0], values=[1]), dict(starts=[1], columns=[0], values=[1]), dict(columns=[0]), dict(values=[0]),
+                dict(v=[0]), dict(v=[7], out=1), dict(b=[0]), dict(b=[7]), dict(v=[1], b=[1], out=1, work=2), dict(g=[]), dict(g=[1, 1]),
+                dict(g=[7, 7], out=1), dict(g=[7]), dict(g=[7], out=1), dict(out=1), dict(out=1, work=1), dict(out=3)):
+    with_fault(**{**empty, **changes})
 
 
 def make():

@@ -59,7 +59,7 @@ def add(p, starts, columns, values, b, words, vector=None, polynomial=None, work
     vector = n if vector is None else vector
     polynomial = n + 1 if polynomial is None else polynomial
     work = 16 * n + 16 if work is None else work
-    every_pass = 3 * (n + len(words) // max(n, 1))
+    every_pass = 3 * (n + reference.vectors_of(n, words))
     bill = bill_dice.choice((0, 1, 2, 3, 4, 5, 8, every_pass, every_pass, every_pass)) if bill is None else bill
     calls.append([[p, vector, polynomial, bill, work], starts, columns, values, b, words])
     lent = [[FREE] * places for places in (vector, polynomial, bill)]
@@ -129,7 +129,6 @@ for count in (128, 127, 130, 126):
     add(7, *diag, [1, 1], [dice.randrange(4294967296) for _ in range(count)])
 # what is refused, with the number of the first check
 add(7, [], [], [], [], [], 0, 1, 16)
-add(7, [0], [], [], [], [], 0, 1, 16)
 add(7, [1, 1, 2], [0, 1], [2, 3], [1, 1], [])
 add(7, [0, 2, 1], [0, 1], [2, 3], [1, 1], [])
 add(7, [0, 1, 1], [0, 1], [2, 3], [1, 1], [])
@@ -159,6 +158,25 @@ for bill in (*range(13), 100):
     add(5, [0, 1, 2, 2], [0, 1], [2, 3], [1, 1, 1], [], bill=bill)
     add(7, *diag, [1, 1], [1], bill=bill)
     add(7, *diag, [1, 1], [], 2, 3, 47, bill)
+# no rows: solved with f = 1 and no pass, the bill stays; no words but the empty ones are taken, and the lengths follow from n = 0
+empty = ([0], [], [])
+for p in (2, 3, 7, 65537, 2147483647):
+    add(p, *empty, [], [], bill=3)
+for bill in (0, 1, 2, 3, 7, 100):
+    add(7, *empty, [], [], bill=bill)
+    add(7, *empty, [], [], work=17, bill=bill)
+    add(7, *empty, [], [1], bill=bill)
+    add(7, *empty, [], [], work=15, bill=bill)
+for words in ([0], [1, 2], [3] * 64, [3] * 65):
+    add(7, *empty, [], words, 1, 0, 0, 3)
+for matrix in (([], [], []), ([], [0], [1]), ([1], [], []), ([4294967295], [], []), ([0], [0], [1]), ([1], [0], [1]), ([0], [0], []), ([0], [], [1])):
+    add(7, *matrix, [], [], 0, 1, 16, 3)
+    add(7, *matrix, [7], [1], 1, 0, 15, 3)
+    add(6, *matrix, [7], [1], 1, 0, 15, 3)
+add(7, *empty, [0], [], bill=3)
+add(7, *empty, [7], [1], 1, 0, 0, 3)
+for lengths in ((1, 1, 16), (0, 0, 16), (0, 2, 16), (0, 1, 0), (1, 2, 0)):
+    add(7, *empty, [], [], *lengths, 3)
 # random systems, singular and not; many small ones over small fields, where restarts are common
 for p, count, most in ((2, 110, 24), (3, 90, 24), (7, 60, 24), (65537, 40, 20), (2147483647, 40, 20)):
     for _ in range(count):

@@ -86,6 +86,29 @@ for passes, text in (
         add(text, letter=letter)
         assert answers[-1].count(b'\npass\t') == passes and answers[-1].count(b'\nclose\t') == 1
 
+# no rows: no pass, f = 1 and no line of a vector; with a line of an entry or of b, with another count
+for p in (2, 7, 2147483647):
+    for letter in 'co':
+        add(text_of(p, 0, [], []), letter=letter)
+        assert answers[-1].endswith(b'\nanswer\tsolved\t0\t0\t0\nclose\t0\nf\t0\t1\nend\n')
+for number, text in (
+    (2, text_of(7, '00', [], [])),
+    (3, text_of(9, 0, [], [], 1)),
+    (5, text_of(7, 0, [], [], 1)),
+    (5, text_of(7, 0, [(1, 1, 1)], [], 0)),
+    (6, text_of(7, 0, [(1, 1, 1)], [])),
+    (6, text_of(7, 0, [(0, 0, 7)], [])),
+    (6, text_of(7, 0, [], [(1, 1)])),
+    (6, text_of(7, 0, [], [(0, 7)])),
+):
+    add(text)
+    assert answers[-1].startswith(b' %d ' % number)
+    add(text, 7167)
+    add(text, letter='o')
+for room in (0, 38, 7167, 7169):
+    add(text_of(7, 0, [], []), room)
+    add(text_of(7, 0, [], []), room, 'o')
+
 # each size from 1 to 128; systems solved and singular, with restarts over small fields
 for n in range(1, 129):
     p = dice.choice((2, 3, 7, 65537, 2147483647))
@@ -145,7 +168,7 @@ for room in (0, 1, 18, 69, 4608, 7167, 7168, 7169, 7300):
 for text in (
     first[:-1],
     text_of(9, 2, diag, []),
-    text_of(7, 0, [], []),
+    text_of(7, 4097, [], []),
     text_of(7, 2, diag, [], 3),
     text_of(7, 2, diag[::-1], []),
     text_of(7, 2, diag, [(1, 7)]),

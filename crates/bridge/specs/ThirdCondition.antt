@@ -14,13 +14,14 @@
 --     thirdCondition, sameAnswer      the third condition; two such runs agree
 -- Of `solve`:
 --     projections-zero     the words' projections are such a list
---     Accepted p A b, accepted-of, accepted      what the checks of a system, and of a run, say to the theory: p is prime, n ≥ 1, b has n elements, all below p
+--     Accepted p A b, accepted-of, accepted      what the checks of a system, and of a run, say to the theory: p is prime, b has n elements, all below p
 --     everyRun             the third condition of every run, whatever the words
 --     everyTwoRuns         every two runs on one system give the same kind, vector and polynomial, whatever their words
+--     everyEmptyRun        every run on size 0 ends with the empty vector and f = 1, and makes no pass
 use mathlib.Core.Path.{_≡_, refl, sym, ap, ap₂, fun-ext, subst, _∙_}
 use mathlib.Core.Logic.{_≢_, _⊎_, inl, inr, _↔_}
 use mathlib.Core.Bool.{true, false, cond}
-use mathlib.Core.List.{List}
+use mathlib.Core.List.{List, []}
 use Prim.Native.Nat.{ℕ, zero, suc, _+_, _-_, _*_, _%_, _≤_, _<_}
 use native.Mathlib.Numerals.{add-one}
 use native.Mathlib.Decide.{ℕ-discrete}
@@ -28,16 +29,16 @@ use native.Mathlib.Omega.{arith}
 use lib.ListN.{length, drop, length-drop}
 use lib.Seq.{getD-drop}
 use borrow.Author.Tests.{eq-eqb, ne-eqb}
-use Rattle.meaning.specs.List.{at, sum as sumℕ, table, zeros, isZero}
+use Rattle.meaning.specs.List.{at, sum as sumℕ, table, zeros, every, isZero}
 use Rattle.meaning.specs.Field.{minus, times, inverse}
 use Rattle.meaning.specs.Matrix.{Matrix, size, product, power, apply}
 use Rattle.meaning.specs.Recurrence.{isMonic}
-use Rattle.meaning.specs.Solver.{vectorCount, vectors, projections, Run, begin, run, Kind, solved, singular, spent, applications, verdict, close, solve}
+use Rattle.meaning.specs.Solver.{vectorCount, vectors, projections, Run, begin, run, Kind, solved, singular, spent, applications, verdict, close, solve, nothingLeft}
 use Rattle.meaning.specs.ThirdCondition.{inSpan, termCost, ThirdCondition, SameAnswer}
 use Rattle.meaning.specs.Refusal.{first}
-use Rattle.meaning.specs.Calls.{runChecks, EveryRun, EveryTwoRuns}
+use Rattle.meaning.specs.Calls.{runChecks, EveryRun, EveryTwoRuns, EveryEmptyRun}
 use Rattle.laws.specs.Bool.{test-cases, never}
-use Rattle.laws.specs.List.{length-table}
+use Rattle.laws.specs.List.{length-table, length-none}
 use Rattle.laws.specs.Accepted.{AcceptedSystem, run-accepted}
 use Rattle.laws.specs.Solver.{length-projections, spent-nil}
 use Rattle.algebra.specs.Ring.{Ring, Field, ring-laws}
@@ -388,3 +389,15 @@ everyTwoRuns p A b words words′ e e′ =
   where
     a : Accepted p A b
     a = accepted p A b words e
+
+empty-close : (p : ℕ) (A : Matrix) → size A ≡ 0 → close p A [] (begin []) ≡ nothingLeft
+unfolding close begin verdict table
+empty-close p A none = rw none refl
+
+pub everyEmptyRun : EveryEmptyRun
+unfolding solve begin every
+everyEmptyRun p A b words e none =
+    let a = accepted p A b words e in
+    let us = projections p (size A) words in
+    ap (λ v. close p A v (run p A us (begin v))) (length-none b (a .size-b ∙ none))
+    ∙ ap (close p A []) (run-rest p (a .prime) A [] us (begin []) refl) ∙ empty-close p A none

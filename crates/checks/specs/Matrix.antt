@@ -16,13 +16,13 @@ use mathlib.Core.Logic.{_≢_}
 use mathlib.Core.Bool.{Bool, true, _&&_, _||_, not}
 use mathlib.Core.List.{List, [], _∷_, _++_, append-assoc}
 use Prim.Native.Nat.{ℕ, zero, suc, _+_, _-_, _*_, _≤_, _<_}
-use native.Mathlib.Nat.{add-zero, sub-self, add-sub-of-le}
+use native.Mathlib.Nat.{add-zero, sub-self, add-sub-of-le, pos-of-ne-zero}
 use native.Mathlib.Decide.{decLt}
 use native.Mathlib.Numerals.{add-one}
 use native.Mathlib.Omega.{arith}
 use lib.Dec.{eqb, ltb, leb}
 use lib.ListN.{length}
-use borrow.Author.Tests.{ltb-true, leb-true, eqb-true, lt-ltb, le-leb, lt-leb, ne-eqb}
+use borrow.Author.Tests.{ltb-true, leb-true, eqb-true, eqb-false, lt-ltb, le-leb, lt-leb, ne-eqb, not-true}
 use Rattle.meaning.specs.List.{at, all, allFrom}
 use Rattle.meaning.specs.Field.{isModulus}
 use Rattle.meaning.specs.Matrix.{Matrix, matrix, size}
@@ -113,24 +113,22 @@ module _ (n from end : ℕ) (columns : List ℕ) where
 
 -- ---- each check by what the code asks
 
-pub size-range : (n : ℕ) → not (eqb n 0) && (leb 1 (n - 1) && leb (n - 1) 4096) ≡ leb 2 n && leb n 4097
-size-range n = same-test (not (eqb n 0) && (leb 1 (n - 1) && leb (n - 1) 4096)) (leb 2 n && leb n 4097) to from
+pub size-range : (n : ℕ) → not (eqb n 0) && leb (n - 1) 4096 ≡ leb 1 n && leb n 4097
+size-range n = same-test (not (eqb n 0) && leb (n - 1) 4096) (leb 1 n && leb n 4097) to from
   where
-    to : not (eqb n 0) && (leb 1 (n - 1) && leb (n - 1) 4096) ≡ true → leb 2 n && leb n 4097 ≡ true
+    to : not (eqb n 0) && leb (n - 1) 4096 ≡ true → leb 1 n && leb n 4097 ≡ true
     to e =
-        let h = and-right (not (eqb n 0)) (leb 1 (n - 1) && leb (n - 1) 4096) e in
-        let low = leb-true 1 (n - 1) (and-left (leb 1 (n - 1)) (leb (n - 1) 4096) h) in
-        let high = leb-true (n - 1) 4096 (and-right (leb 1 (n - 1)) (leb (n - 1) 4096) h) in
-        and-both (le-leb 2 n (omega (arith, low))) (le-leb n 4097 (omega (arith, high)))
+        let some = eqb-false n 0 (not-true (eqb n 0) (and-left (not (eqb n 0)) (leb (n - 1) 4096) e)) in
+        let high = leb-true (n - 1) 4096 (and-right (not (eqb n 0)) (leb (n - 1) 4096) e) in
+        and-both (le-leb 1 n (pos-of-ne-zero some)) (le-leb n 4097 (omega (arith, high)))
 
-    from : leb 2 n && leb n 4097 ≡ true → not (eqb n 0) && (leb 1 (n - 1) && leb (n - 1) 4096) ≡ true
+    from : leb 1 n && leb n 4097 ≡ true → not (eqb n 0) && leb (n - 1) 4096 ≡ true
     from e =
-        let low = leb-true 2 n (and-left (leb 2 n) (leb n 4097) e) in
-        let high = leb-true n 4097 (and-right (leb 2 n) (leb n 4097) e) in
-        and-both (ap not (ne-eqb n 0 (λ q. omega (arith, low, q))))
-        (and-both (le-leb 1 (n - 1) (omega (arith, low))) (le-leb (n - 1) 4096 (omega (arith, high))))
+        let low = leb-true 1 n (and-left (leb 1 n) (leb n 4097) e) in
+        let high = leb-true n 4097 (and-right (leb 1 n) (leb n 4097) e) in
+        and-both (ap not (ne-eqb n 0 (λ q. omega (arith, low, q)))) (le-leb (n - 1) 4096 (omega (arith, high)))
 
-pub length-sizeTaken : (starts columns values : List ℕ) → sizeTaken (matrix starts columns values) ≡ leb 2 (length starts) && leb (length starts) 4097
+pub length-sizeTaken : (starts columns values : List ℕ) → sizeTaken (matrix starts columns values) ≡ leb 1 (length starts) && leb (length starts) 4097
 unfolding sizeTaken
 length-sizeTaken starts columns values = size-range (length starts)
 
@@ -184,16 +182,16 @@ system-accepted p A b e =
 
 -- the starts' number, where the code has the number of the checks
 pub matrix-sized : (p : ℕ) (A : Matrix) {number : ℕ} → number ≡ first (matrixChecks p A) → number ≡ 0
-    → (2 ≤ length (A .starts)) × (length (A .starts) ≤ 4097)
+    → (1 ≤ length (A .starts)) × (length (A .starts) ≤ 4097)
 matrix-sized p A e z =
     let a = matrix-accepted p A (zero-by e z) in
-    (omega (arith, a .size-low), omega (arith, a .size-high))
+    (omega (arith, a .start-count), omega (arith, a .size-high))
 
 pub system-sized : (p : ℕ) (A : Matrix) (b : List ℕ) {number : ℕ} → number ≡ first (systemChecks p A b) → number ≡ 0
-    → (2 ≤ length (A .starts)) × (length (A .starts) ≤ 4097)
+    → (1 ≤ length (A .starts)) × (length (A .starts) ≤ 4097)
 system-sized p A b e z =
     let a = laws.system-accepted p A b (zero-by e z) in
-    (omega (arith, a .size-low), omega (arith, a .size-high))
+    (omega (arith, a .start-count), omega (arith, a .size-high))
 
 -- a product's checks are the system's, and then its slice's
 module _ (p : ℕ) (A : Matrix) (v out : List ℕ) where

@@ -1,19 +1,20 @@
 -- The solver's checks in their order (meaning's Calls).
 --     slicesTaken            11: the slices are as long as stated
 --     solver-refused, solver-passed      they are the system's, and then 10 and 11
---     words-none, words-multiple, words-broken      10 by a quotient, for any n
+--     words-none                         10 without rows
+--     words-multiple, words-broken       10 with some, by a quotient
 use mathlib.Core.Path.{_≡_, sym, ap, _∙_}
 use mathlib.Core.Logic.{_≢_}
-use mathlib.Core.Bool.{true, not}
+use mathlib.Core.Bool.{not}
 use mathlib.Core.List.{List, [], _∷_, _++_, append-assoc}
-use Prim.Native.Nat.{ℕ, _*_, _/_, _%_, _≤_}
-use native.Mathlib.Nat.{zero-mod, div-add-mod', mul-le-mul}
+use Prim.Native.Nat.{ℕ, _*_, _/_, _%_, _<_}
+use native.Mathlib.Nat.{div-add-mod', mul-le-mul}
 use native.Mathlib.Omega.{arith}
 use lib.Dec.{eqb, leb}
 use lib.ListN.{length}
-use borrow.Author.Tests.{eq-eqb, ne-eqb, le-leb, eqb-true, leb-true}
-use Rattle.laws.specs.Bool.{and-both, and-right, and-false-left, same-test}
-use Rattle.laws.specs.Solver.{vectorCount-div, vectorCount-few}
+use borrow.Author.Tests.{eq-eqb, ne-eqb, le-leb, leb-true}
+use Rattle.laws.specs.Bool.{and-both, and-false-left, same-test}
+use Rattle.laws.specs.Solver.{vectorCount-div, words-empty, words-some, vectorCount-few}
 use Rattle.meaning.specs.Matrix.{Matrix, size}
 use Rattle.meaning.specs.Refusal.{Check, check, first, wordsTaken}
 use Rattle.meaning.specs.Calls.{systemChecks, runChecks, solverRefusal}
@@ -39,26 +40,19 @@ module _ (p : ℕ) (A : Matrix) (b words v f w : List ℕ) where
 
 -- ---- 10 by a quotient
 
-module _ (n : ℕ) (words : List ℕ) where
-  words-fit : length words % n ≡ 0 → length words ≤ 64 * n → wordsTaken n words ≡ true
-  unfolding wordsTaken
-  words-fit q l = and-both (eq-eqb (length words % n) 0 q) (le-leb (length words) (64 * n) l)
+pub words-none : (n : ℕ) (words : List ℕ) → n ≡ 0 → eqb (length words) 0 ≡ wordsTaken n words
+words-none n words e = sym (ap (λ k. wordsTaken k words) e ∙ words-empty words)
 
-  pub words-none : n ≡ 0 → eqb (length words) 0 ≡ wordsTaken n words
-  unfolding wordsTaken
-  words-none e =
-      same-test (eqb (length words) 0) (wordsTaken n words)
-      (λ h. let none = eqb-true (length words) 0 h in words-fit (ap (λ k. k % n) none ∙ zero-mod n) (omega (arith, none)))
-      (λ h. eq-eqb (length words) 0 (omega (arith, e, leb-true (length words) (64 * n) (and-right (eqb (length words % n) 0) (leb (length words) (64 * n)) h))))
-
+module _ (n : ℕ) (words : List ℕ) (some : 0 < n) where
   pub words-multiple : length words % n ≡ 0 → leb (length words / n) 64 ≡ wordsTaken n words
   words-multiple e =
       same-test (leb (length words / n) 64) (wordsTaken n words)
-      (λ h. words-fit e
-      (omega (arith, div-add-mod' (length words) n, e, mul-le-mul {n₁ = length words / n} {m₁ = n} {n₂ = 64} {m₂ = n} (leb-true (length words / n) 64 h) (omega arith))))
-      (λ h. le-leb (length words / n) 64 (omega (arith, vectorCount-div n words, vectorCount-few n words h)))
+      (λ h. words-some words n some
+      ∙ and-both (eq-eqb (length words % n) 0 e)
+      (le-leb (length words) (64 * n)
+      (omega (arith, div-add-mod' (length words) n, e, mul-le-mul {n₁ = length words / n} {m₁ = n} {n₂ = 64} {m₂ = n} (leb-true (length words / n) 64 h) (omega arith)))))
+      (λ h. le-leb (length words / n) 64 (omega (arith, vectorCount-div n words some, vectorCount-few n words h)))
 
   pub words-broken : length words % n ≢ 0 → eqb (length words % n) 0 ≡ wordsTaken n words
-  unfolding wordsTaken
   words-broken q =
-      ne-eqb (length words % n) 0 q ∙ sym (and-false-left (leb (length words) (64 * n)) (ne-eqb (length words % n) 0 q))
+      ne-eqb (length words % n) 0 q ∙ sym (words-some words n some ∙ and-false-left (leb (length words) (64 * n)) (ne-eqb (length words % n) 0 q))

@@ -1,5 +1,5 @@
 -- What the checks leave known of a matrix and a vector (laws' Accepted), as the code that runs without checks needs it.
---     Valid p A        a matrix of size 1 to 4,096 with values below p
+--     Valid p A        a matrix of size 0 to 4,096 with values below p
 --     Vector p n v     n elements below p
 --     valid-of, right-of, vector-of      an accepted system's matrix and right side; a list that passed 8 and 9
 --     elements-of, vector-elements      .. and back: elements below p pass 9
@@ -29,7 +29,6 @@ pub record Valid (p : ℕ) (A : Matrix) : Type 0 where
   pub small : p ≤ 2147483647
   pub one-more : length (A .starts) ≡ size A + 1
   pub sized : size A ≤ 4096
-  pub some : 1 ≤ size A
   pub rise : (i : ℕ) → i < size A → at (A .starts) i ≤ at (A .starts) (i + 1)
   pub within : (i : ℕ) → i < size A → at (A .starts) (i + 1) ≤ length (A .columns)
   pub paired : length (A .columns) ≡ length (A .values)
@@ -48,7 +47,6 @@ valid-of {p} {A} {b} a =
       small = modulus-high p (a .prime);
       one-more = a .start-count;
       sized = a .size-high;
-      some = a .size-low;
       rise = a .rising;
       within = λ i l. start-within a (i + 1) (omega (arith, l));
       paired = a .as-many;

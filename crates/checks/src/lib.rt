@@ -31,11 +31,11 @@ pub fn wide(x: u32) -> usize
     x as usize
 }
 
-// 4: the size.
+// 4: the size, 0 to 4,096, and some starts.
 fn size_taken(starts: &[u32]) -> bool
     ensures { λ r. ⌜ r ≡ sizeTaken (matrix (now (starts .entry)) [] []) ⌝ }
 {
-    (starts.len() >= 2) & (starts.len() <= 4097)
+    (starts.len() >= 1) & (starts.len() <= 4097)
 }
 
 // No start is above the next.
@@ -267,7 +267,7 @@ pub fn recurrence_refusal(p: u32, s: &[u32], polynomial: &[u32], work: &[u32]) -
     0
 }
 
-// 10: the words are a multiple of n, and at most 64 × n.
+// 10: the words are a multiple of n, and at most 64 × n; no rows, no words.
 pub fn words_taken(n: usize, words: &[u32]) -> bool
     ensures { λ r. ⌜ r ≡ wordsTaken n (now (words .entry)) ⌝ }
 {

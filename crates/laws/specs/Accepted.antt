@@ -25,11 +25,11 @@ use borrow.Author.Tests.{ltb-true, leb-true, leb-false, eqb-true, eqb-false, lt-
 use Rattle.meaning.specs.List.{at, all, every, zeros}
 use Rattle.meaning.specs.Field.{isPrime, isModulus}
 use Rattle.meaning.specs.Matrix.{Matrix, size}
-use Rattle.meaning.specs.Refusal.{check, first, within, elements, sizeTaken, startsTaken, columnsTaken, valueTaken, matrixChecks, wordsTaken}
+use Rattle.meaning.specs.Refusal.{check, first, elements, rowsTaken, sizeTaken, startsTaken, columnsTaken, valueTaken, matrixChecks, wordsTaken}
 use Rattle.meaning.specs.Calls.{systemChecks, runChecks, solverRefusal}
 use Rattle.laws.specs.Bool.{and-left, and-right, and-both, and-five, or-right, test-cases}
 use Rattle.laws.specs.List.{all-at, all-of, every-at, every-of, length-table, getD-table}
-use Rattle.laws.specs.Refusal.{first-nil, first-passed, first-pass, first-append-none, first-append-zero, numbered-matrix, numbered-system, numbered-run, within-low, within-high, within-of}
+use Rattle.laws.specs.Refusal.{first-nil, first-passed, first-pass, first-append-none, first-append-zero, numbered-matrix, numbered-system, numbered-run}
 
 pub modulus-low : (p : ℕ) → isModulus p ≡ true → 2 ≤ p
 unfolding isModulus isPrime
@@ -51,12 +51,11 @@ value A k = at (A .values) k
 
 -- ---- each check alone
 
-pub size-known : (A : Matrix) → sizeTaken A ≡ true → (1 ≤ size A) × (size A ≤ 4096) × (length (A .starts) ≡ size A + 1)
+pub size-known : (A : Matrix) → sizeTaken A ≡ true → (size A ≤ 4096) × (length (A .starts) ≡ size A + 1)
 unfolding sizeTaken
 size-known A e =
-    let low = within-low 1 4096 (size A) (and-right (not (eqb (length (A .starts)) 0)) (within 1 4096 (size A)) e) in
-    let high = within-high 1 4096 (size A) (and-right (not (eqb (length (A .starts)) 0)) (within 1 4096 (size A)) e) in
-    (low, high, positive (length (A .starts)) (and-left (not (eqb (length (A .starts)) 0)) (within 1 4096 (size A)) e))
+    let some = not (eqb (length (A .starts)) 0) in
+    (leb-true (size A) 4096 (and-right some (rowsTaken (size A)) e), positive (length (A .starts)) (and-left some (rowsTaken (size A)) e))
   where
     positive : (n : ℕ) → not (eqb n 0) ≡ true → n ≡ n - 1 + 1
     positive zero q = absurd (eqb-false 0 0 (not-true (eqb 0 0) q) refl)
@@ -102,7 +101,6 @@ columns-of A h =
 
 pub record AcceptedSystem (p : ℕ) (A : Matrix) (b : List ℕ) : Type 0 where
   pub prime : isModulus p ≡ true
-  pub size-low : 1 ≤ size A
   pub size-high : size A ≤ 4096
   pub start-count : length (A .starts) ≡ size A + 1
   pub from-zero : start A 0 ≡ 0
@@ -129,7 +127,7 @@ system-accepted p A b e =
     let c9 = first-passed 9 (elements p b) _ (omega arith) (c8 .1) in
     known (c3 .0) (size-known A (c4 .0)) (starts-known A (c5 .0)) (columns-at A (c6 .0)) (c7 .0) (eqb-true (length b) (size A) (c8 .0)) (c9 .0)
   where
-    known : isModulus p ≡ true → (1 ≤ size A) × (size A ≤ 4096) × (length (A .starts) ≡ size A + 1)
+    known : isModulus p ≡ true → (size A ≤ 4096) × (length (A .starts) ≡ size A + 1)
         → (start A 0 ≡ 0) × ((i : ℕ) → i < size A → start A i ≤ start A (i + 1)) × (start A (size A) ≡ length (A .columns))
         × (length (A .columns) ≡ length (A .values)) × (length (A .columns) ≤ 65536)
         → ((i : ℕ) → i < size A → (k : ℕ) → start A i + k < start A (i + 1) → column-test A (start A (i + 1)) (start A i + k) ≡ true)
@@ -137,9 +135,8 @@ system-accepted p A b e =
     known modulus sized starts columns values right below =
         record {
           prime = modulus;
-          size-low = sized .0;
-          size-high = sized .1;
-          start-count = sized .2;
+          size-high = sized .0;
+          start-count = sized .1;
           from-zero = starts .0;
           rising = starts .1;
           to-end = starts .2;
@@ -168,10 +165,9 @@ accepted-system p A b a =
     (first-pass 8 (eqb (length b) (size A)) _ (eq-eqb (length b) (size A) (a .right-length))
     (first-pass 9 (every (λ a. ltb a p) b) [] (a .right-below) first-nil))))))
   where
-    taken-size : not (eqb (length (A .starts)) 0) && within 1 4096 (size A) ≡ true
+    taken-size : not (eqb (length (A .starts)) 0) && rowsTaken (size A) ≡ true
     taken-size =
-        and-both (ap not (ne-eqb (length (A .starts)) 0 (λ z. omega (arith, a .start-count))))
-        (within-of 1 4096 (size A) (a .size-low) (a .size-high))
+        and-both (ap not (ne-eqb (length (A .starts)) 0 (λ z. omega (arith, a .start-count)))) (le-leb (size A) 4096 (a .size-high))
 
     taken-starts : eqb (start A 0) 0 && all (size A) (λ i. leb (start A i) (start A (i + 1)))
         && eqb (start A (size A)) (length (A .columns)) && eqb (length (A .columns)) (length (A .values))

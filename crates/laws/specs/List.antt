@@ -3,7 +3,7 @@
 --     table-zero, table-suc, length-table, getD-table, getD-table-past, table-ext, table-of      tables
 --     all-zero, all-suc, all-at, all-of, all-not, all-ext           tests at 0 .. n − 1
 --     every-nil, every-cons, every-at, every-of, every-not, every-all      tests of each element
---     equal→≡, equal-refl                                           equality of lists
+--     length-none, equal→≡, equal-refl                              no elements; equality of lists
 --     isZero-at, isZero-of                                          zeros
 use mathlib.Core.Path.{_≡_, refl, sym, ap, ap₂, _∙_, subst}
 use mathlib.Core.Bool.{Bool, true, false, _&&_, true≢false}
@@ -165,6 +165,10 @@ module _ {A : Type 0} where
       (λ e. every-of f l d (all-at (length l) (λ i. f (getD l i d)) e))
 
 -- ---- equality and zeros
+
+pub length-none : (l : List ℕ) → length l ≡ 0 → l ≡ []
+length-none [] e = refl
+length-none (a ∷ l) e = absurd (omega arith)
 
 pub equal→≡ : (l m : List ℕ) → equal l m ≡ true → l ≡ m
 unfolding equal

@@ -1,5 +1,6 @@
 -- Laws of the words, the projections and the bill (meaning's Solver).
---     vectorCount-div, vectorCount-nil       R by a division; without words there are none
+--     vectorCount-div, vectorCount-nil       R by a division, where there are rows; without words there are none
+--     words-empty, words-some                10 without rows, and with some
 --     vectorCount-whole, vectorCount-few     where the words are taken: they fill R vectors; R ≤ 64
 --     length-vectors, getD-vectors           the R vectors
 --     length-units, getD-units               the n unit vectors
@@ -9,7 +10,7 @@
 --     Within n q, made-within                what is known of a pass on n rows: left ≤ n, t ≤ 2 × left, 2 × left − 1 + t applications
 --     AllWithin, run-within                  so it is of all passes of a run
 use mathlib.Core.Path.{_≡_, refl, sym, ap, ap₂, _∙_, subst}
-use mathlib.Core.Bool.{Bool, true, false, cond}
+use mathlib.Core.Bool.{Bool, true, false, cond, _&&_}
 use mathlib.Core.List.{List, [], _∷_, _++_}
 use Prim.Native.Nat.{ℕ, zero, suc, _+_, _-_, _*_, _/_, _%_, _≤_, _<_}
 use native.Mathlib.Nat.{zero-div, div-add-mod', div-lt-iff-lt-mul}
@@ -29,27 +30,46 @@ use Rattle.laws.specs.Recurrence.{degree-within}
 
 -- ---- R
 
-pub vectorCount-div : (n : ℕ) (words : List ℕ) → vectorCount n words ≡ length words / n
+pub vectorCount-div : (n : ℕ) (words : List ℕ) → 0 < n → vectorCount n words ≡ length words / n
 unfolding vectorCount
-vectorCount-div n words = refl
+vectorCount-div zero words l = absurd (omega arith)
+vectorCount-div (suc m) words l = refl
 
 pub vectorCount-nil : (n : ℕ) → vectorCount n [] ≡ 0
-vectorCount-nil n = vectorCount-div n [] ∙ zero-div n
+unfolding vectorCount
+vectorCount-nil zero = refl
+vectorCount-nil (suc m) = zero-div (suc m)
+
+module _ (words : List ℕ) where
+  pub words-empty : wordsTaken 0 words ≡ eqb (length words) 0
+  unfolding wordsTaken
+  words-empty = refl
+
+  pub words-some : (n : ℕ) → 0 < n → wordsTaken n words ≡ eqb (length words % n) 0 && leb (length words) (64 * n)
+  unfolding wordsTaken
+  words-some zero l = absurd (omega arith)
+  words-some (suc m) l = refl
+
+  whole-some : (n : ℕ) → 0 < n → wordsTaken n words ≡ true → (length words % n ≡ 0) × (length words ≤ 64 * n)
+  whole-some n l e =
+      let both = sym (words-some n l) ∙ e in (
+        eqb-true (length words % n) 0 (and-left (eqb (length words % n) 0) (leb (length words) (64 * n)) both),
+        leb-true (length words) (64 * n) (and-right (eqb (length words % n) 0) (leb (length words) (64 * n)) both),
+      )
 
 pub vectorCount-whole : (n : ℕ) (words : List ℕ) → wordsTaken n words ≡ true → length words ≡ vectorCount n words * n
-unfolding wordsTaken
-vectorCount-whole n words e =
-    omega (arith, div-add-mod' (length words) n, eqb-true (length words % n) 0 (and-left (eqb (length words % n) 0) (leb (length words) (64 * n)) e))
-    ∙ ap (λ k. k * n) (sym (vectorCount-div n words))
+vectorCount-whole zero words e = omega (arith, eqb-true (length words) 0 (sym (words-empty words) ∙ e))
+vectorCount-whole (suc m) words e =
+    omega (arith, div-add-mod' (length words) (suc m), whole-some words (suc m) (omega arith) e .0)
+    ∙ ap (λ k. k * suc m) (sym (vectorCount-div (suc m) words (omega arith)))
 
 pub vectorCount-few : (n : ℕ) (words : List ℕ) → wordsTaken n words ≡ true → vectorCount n words ≤ 64
-unfolding wordsTaken
-vectorCount-few n words e =
-    omega (arith, vectorCount-div n words, quotient n (length words) (leb-true (length words) (64 * n) (and-right (eqb (length words % n) 0) (leb (length words) (64 * n)) e)))
-  where
-    quotient : (n m : ℕ) → m ≤ 64 * n → m / n < 65
-    quotient zero m l = let none : m ≡ 0 = omega arith in rw none (omega (arith, zero-div 0))
-    quotient (suc n) m l = div-lt-iff-lt-mul {k = suc n} {x = m} {y = 65} (omega arith) .1 (omega arith)
+unfolding vectorCount
+vectorCount-few zero words e = omega arith
+vectorCount-few (suc m) words e =
+    let quotient : length words / suc m < 65 =
+    div-lt-iff-lt-mul {k = suc m} {x = length words} {y = 65} (omega arith) .1 (omega (arith, whole-some words (suc m) (omega arith) e .1)) in
+    omega (arith, quotient)
 
 -- ---- the projections
 

@@ -4,7 +4,7 @@
 --     field, operation, inverse                the field and its operations
 --     product, apply                           the three that write a vector; `product` is the transposed product's too
 --     recurrence                               the shortest recurrence
---     solver                                   the run; EveryRun and EveryTwoRuns are the third condition's theorems
+--     solver                                   the run; EveryRun and EveryTwoRuns are the third condition's theorems, EveryEmptyRun that of size 0
 --     takes, isNull                            the two checks of offered answers
 --     reader, writer                           system text
 --     text, program                            the text call and the program
@@ -19,7 +19,7 @@ use Rattle.meaning.specs.List.{padded, overwrite}
 use Rattle.meaning.specs.Field.{isModulus, inverse}
 use Rattle.meaning.specs.Matrix.{Matrix, size, apply}
 use Rattle.meaning.specs.Recurrence.{degree, generator}
-use Rattle.meaning.specs.Solver.{billed, solve, takes, isNull}
+use Rattle.meaning.specs.Solver.{billed, solve, nothingLeft, takes, isNull}
 use Rattle.meaning.specs.ThirdCondition.{ThirdCondition, SameAnswer}
 use Rattle.meaning.specs.Text.{Document, document, inForm, System, system, write}
 use Rattle.meaning.specs.Answer.{answerText, refusedText}
@@ -130,6 +130,11 @@ abbrev pub EveryTwoRuns : Type 0
 EveryTwoRuns =
     (p : ℕ) (A : Matrix) (b words words′ : List ℕ) → first (runChecks p A b words) ≡ 0 → first (runChecks p A b words′) ≡ 0
     → SameAnswer (solve p A b words) (solve p A b words′)
+
+-- request (ii): what every run on size 0 ends with
+abbrev pub EveryEmptyRun : Type 0
+EveryEmptyRun =
+    (p : ℕ) (A : Matrix) (b words : List ℕ) → first (runChecks p A b words) ≡ 0 → size A ≡ 0 → solve p A b words ≡ nothingLeft
 
 -- ---- the two checks of offered answers
 

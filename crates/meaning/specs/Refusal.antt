@@ -3,11 +3,12 @@
 --     first            the number of the first check that turns the input down, 0 if none does
 --     unlessRefused    what a call gives or leaves: the first if nothing was refused, the second if something was
 --     elements         every element is below p
+--     rowsTaken n      4 for a size, 0 to 4,096
 --     matrixChecks     3 to 7 for a field and a matrix
 --     documentChecks   3 to 7 for what a text says
 use mathlib.Core.Bool.{Bool, not, cond, _&&_, _||_}
 use mathlib.Core.List.{List, [], _∷_}
-use Prim.Native.Nat.{ℕ, _+_, _*_, _%_}
+use Prim.Native.Nat.{ℕ, zero, suc, _+_, _*_, _%_}
 use lib.Dec.{eqb, ltb, leb}
 use lib.ListN.{length}
 use Rattle.meaning.specs.List.{at, all, allFrom, every, chain}
@@ -36,9 +37,12 @@ within a b x = leb a x && leb x b
 unfoldable pub elements : ℕ → List ℕ → Bool
 elements p v = every (λ a. ltb a p) v
 
--- 4: "n is not 1 to 4,096, or the starts are empty"
+-- 4, with request (ii): "accepts 0 to 4,096 and still refuses empty starts"
+abbrev pub rowsTaken : ℕ → Bool
+rowsTaken n = leb n 4096
+
 unfoldable pub sizeTaken : Matrix → Bool
-sizeTaken A = not (eqb (length (A .starts)) 0) && within 1 4096 (size A)
+sizeTaken A = not (eqb (length (A .starts)) 0) && rowsTaken (size A)
 
 -- 5: "starts don't begin at 0, fall, or don't end at the entry count; columns and values differ in length; there are over 65,536 entries"
 unfoldable pub startsTaken : Matrix → Bool
@@ -68,9 +72,10 @@ matrixChecks p A =
     ∷ check 7 (not (every (valueTaken p) (A .values)))
     ∷ []
 
--- 10: "the words are not a multiple of n, or more than 64 × n"
+-- 10: "the words are not a multiple of n, or more than 64 × n"; request (ii): "for size 0 only empty words are taken"
 unfoldable pub wordsTaken : ℕ → List ℕ → Bool
-wordsTaken n words = eqb (length words % n) 0 && leb (length words) (64 * n)
+wordsTaken zero words = eqb (length words) 0
+wordsTaken (suc m) words = let n = suc m in eqb (length words % n) 0 && leb (length words) (64 * n)
 
 -- 5 of a text: "there are over 65,536 entries; or the header's count isn't that of the `a` lines"
 unfoldable pub countTaken : Document → Bool
@@ -89,7 +94,7 @@ placesTaken d =
 unfoldable pub documentChecks : Document → List Check
 documentChecks d =
     check 3 (not (isModulus (d .modulus)))
-    ∷ check 4 (not (within 1 4096 (d .size)))
+    ∷ check 4 (not (rowsTaken (d .size)))
     ∷ check 5 (not (countTaken d))
     ∷ check 6 (not (placesTaken d))
     ∷ check 7 (not (every (λ e. valueTaken (d .modulus) (at e 2)) (d .entries) && every (λ e. valueTaken (d .modulus) (at e 1)) (d .elements)))

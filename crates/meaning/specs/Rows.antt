@@ -3,11 +3,12 @@
 --     Holds            the proposition: the definitions say the same
 --     proved-cases     document 01's cases that are marked (P)
 --     more-cases       its other cases, and cases worked out by evidence/reference.py, which was written from the paper alone
---     proved-rows, more-rows      they hold
+--     nothing-left-cases          request (ii)'s, of size 0
+--     proved-rows, more-rows, nothing-left-rows      they hold
 use mathlib.Core.Path.{_≡_, refl}
 use mathlib.Core.Bool.{Bool, true, false}
 use mathlib.Core.List.{List, [], _∷_}
-use Prim.Native.Nat.{ℕ}
+use Prim.Native.Nat.{ℕ, _+_}
 use Prim.Native.String.{String}
 use lib.ListN.{length, replicate}
 use Rattle.meaning.specs.List.{sum, table, all, every, chainFrom, chain, equal, least, select, flat, bytes}
@@ -28,6 +29,8 @@ compute = tt
 pub data Case : Type 0 where
   -- a run on p, A, b and words: kind, vector, f, passes, applications
   solver-gives : (p : ℕ) (A : Matrix) (b words : List ℕ) → Kind → (vector f : List ℕ) (passes applications : ℕ) → Case
+  -- the vector and polynomial slices after it
+  solver-leaves : (p : ℕ) (A : Matrix) (b words vector polynomial : List ℕ) → Case
   -- its passes
   solver-makes : (p : ℕ) (A : Matrix) (b words : List ℕ) → List Pass → Case
   -- its bill, in a slice of that many places
@@ -44,6 +47,8 @@ pub data Case : Type 0 where
   steps-give : (p : ℕ) (s : List ℕ) (r : ℕ) (q t : List ℕ) (L e : ℕ) → Case
   product-gives transposed-gives : (p : ℕ) (A : Matrix) (v out : List ℕ) → Case
   apply-gives : (p : ℕ) (A : Matrix) (g v out : List ℕ) → Case
+  -- the refusal for slices of these lengths (out, work)
+  apply-refuses : (p : ℕ) (A : Matrix) (g v : List ℕ) (out work number : ℕ) → Case
   -- the two checks of offered answers
   takes-says : (p : ℕ) (A : Matrix) (x b : List ℕ) (number : ℕ) → Bool → Case
   isNull-says : (p : ℕ) (A : Matrix) (w : List ℕ) (number : ℕ) → Bool → Case
@@ -69,7 +74,15 @@ Holds (solver-gives p A b words k x f n a) =
     _≡_ {A = ℕ × Kind × List ℕ × List ℕ × ℕ × ℕ}
     (first (runChecks p A b words), o .kind, o .vector, o .polynomial, passCount o, applications o) (0, k, x, f, n, a)
 Holds (solver-makes p A b words qs) = solve p A b words .passes ≡ qs
-Holds (solver-bills p A b words room slice) = billAfter p A b words (nines 2) (nines 3) (nines 48) (nines room) ≡ slice
+Holds (solver-leaves p A b words x f) =
+    let v = nines (length x) in
+    let g = nines (length f) in
+    let w = nines 48 in
+    _≡_ {A = ℕ × List ℕ × List ℕ}
+    (solverRefusal p A b words v g w, vectorAfter p A b words v g w, polynomialAfter p A b words v g w)
+    (0, x, f)
+Holds (solver-bills p A b words room slice) =
+    billAfter p A b words (nines (length b)) (nines (length b + 1)) (nines 48) (nines room) ≡ slice
 Holds (pass-takes p A b us u s) = passTerms p A u (run p A us (begin b)) ≡ s
 Holds (solver-refuses p A b words vector polynomial work k) =
     let x = nines vector in
@@ -91,9 +104,18 @@ Holds (recurrence-refuses p s polynomial work k) =
     (recurrenceRefusal p s out room, recurrenceAnswer p s out room, recurrenceAfter p s out room)
     (k, 0, out)
 Holds (steps-give p s r q t L e) = _≡_ {A = Steps} (steps p s r) (record { q = q; t = t; L = L; e = e })
-Holds (product-gives p A v out) = productAfter product p A v (nines (length out)) ≡ out
-Holds (transposed-gives p A v out) = productAfter transposed p A v (nines (length out)) ≡ out
-Holds (apply-gives p A g v out) = applyAfter p A g v (nines (length out)) (nines 8) ≡ out
+Holds (product-gives p A v out) =
+    let old = nines (length out) in
+    _≡_ {A = ℕ × List ℕ} (productRefusal p A v old, productAfter product p A v old) (0, out)
+Holds (transposed-gives p A v out) =
+    let old = nines (length out) in
+    _≡_ {A = ℕ × List ℕ} (productRefusal p A v old, productAfter transposed p A v old) (0, out)
+Holds (apply-gives p A g v out) =
+    let old = nines (length out) in
+    _≡_ {A = ℕ × List ℕ} (applyRefusal p A g v old (nines 8), applyAfter p A g v old (nines 8)) (0, out)
+Holds (apply-refuses p A g v out work k) =
+    let old = nines out in
+    _≡_ {A = ℕ × List ℕ} (applyRefusal p A g v old (nines work), applyAfter p A g v old (nines work)) (k, old)
 Holds (takes-says p A x b k answer) = _≡_ {A = ℕ × Bool} (takesRefusal p A x b, takesAnswer p A x b) (k, answer)
 Holds (isNull-says p A w k answer) = _≡_ {A = ℕ × Bool} (isNullRefusal p A w, isNullAnswer p A w) (k, answer)
 Holds (reader-gives text starts columns values right p n count starts′ columns′ values′ right′) =
@@ -144,6 +166,10 @@ diag23 = matrix (0 ∷ 1 ∷ 2 ∷ []) (0 ∷ 1 ∷ []) (2 ∷ 3 ∷ [])
 
 abbrev pub U : Matrix
 U = matrix (0 ∷ 1 ∷ 1 ∷ []) (1 ∷ []) (1 ∷ [])
+
+-- the matrix of size 0
+abbrev pub nothing : Matrix
+nothing = matrix (0 ∷ []) [] []
 
 -- a pass: left, degree, applications
 abbrev pub made : ℕ → ℕ → ℕ → Pass
@@ -208,13 +234,15 @@ more-cases =
     ∷ solver-bills 7 diag23 (1 ∷ 1 ∷ []) (0 ∷ 0 ∷ []) 0 []
     ∷ solver-bills 7 diag23 (0 ∷ 0 ∷ []) [] 4 (9 ∷ 9 ∷ 9 ∷ 9 ∷ [])
     ∷ solver-bills 7 diag23 (1 ∷ 1 ∷ []) (0 ∷ []) 4 (9 ∷ 9 ∷ 9 ∷ 9 ∷ [])
+    -- the slices after a run: zeros behind f
+    ∷ solver-leaves 7 (matrix (0 ∷ 2 ∷ 3 ∷ []) (0 ∷ 1 ∷ 1 ∷ []) (2 ∷ 1 ∷ 3 ∷ [])) (1 ∷ 1 ∷ []) [] (5 ∷ 5 ∷ []) (4 ∷ 1 ∷ 0 ∷ [])
     -- the terms of a pass after another: 2 × left, and not 2 × n
     ∷ pass-takes 2 (matrix (0 ∷ 0 ∷ 1 ∷ []) (1 ∷ []) (1 ∷ [])) (1 ∷ 1 ∷ []) ((1 ∷ 0 ∷ []) ∷ []) (0 ∷ 1 ∷ []) (1 ∷ 1 ∷ [])
     ∷ pass-takes 5 (matrix (0 ∷ 1 ∷ 2 ∷ 3 ∷ []) (0 ∷ 1 ∷ 2 ∷ []) (1 ∷ 2 ∷ 3 ∷ [])) (1 ∷ 1 ∷ 1 ∷ []) ((1 ∷ 0 ∷ 0 ∷ []) ∷ []) (0 ∷ 1 ∷ 0 ∷ []) (1 ∷ 2 ∷ 4 ∷ 3 ∷ [])
     -- the solver's refusals, two causes in most of them: the first in order counts
     ∷ solver-refuses 9 (matrix [] (0 ∷ 1 ∷ []) (2 ∷ 3 ∷ [])) (1 ∷ 1 ∷ []) [] 2 3 48 3
     ∷ solver-refuses 7 (matrix [] [] (2 ∷ 3 ∷ [])) (1 ∷ 1 ∷ []) [] 2 3 48 4
-    ∷ solver-refuses 7 (matrix (0 ∷ []) [] []) [] [] 0 1 16 4
+    ∷ solver-refuses 7 (matrix (replicate 4098 0) [] []) [] [] 0 1 16 4
     ∷ solver-refuses 7 (matrix (1 ∷ 1 ∷ 2 ∷ []) (0 ∷ 1 ∷ []) (2 ∷ 3 ∷ [])) (1 ∷ 1 ∷ []) [] 2 3 48 5
     ∷ solver-refuses 7 (matrix (0 ∷ 2 ∷ 1 ∷ 2 ∷ []) (0 ∷ 1 ∷ []) (2 ∷ 3 ∷ [])) (1 ∷ 1 ∷ []) [] 2 3 48 5
     ∷ solver-refuses 7 (matrix (0 ∷ 1 ∷ 1 ∷ []) (0 ∷ 1 ∷ []) (2 ∷ 3 ∷ [])) (1 ∷ 1 ∷ []) [] 2 3 48 5
@@ -275,7 +303,6 @@ more-cases =
     ∷ reader-refuses "system\t7\t1\t0\r\nend\r\n" 5 4 4 4 2
     ∷ reader-refuses "" 5 4 4 4 2
     ∷ reader-refuses "system\t9\t0\t0\nend\n" 5 4 4 4 3
-    ∷ reader-refuses "system\t7\t0\t1\nend\n" 5 4 4 4 4
     ∷ reader-refuses "system\t7\t4097\t0\nend\n" 5 4 4 4 4
     ∷ reader-refuses "system\t7\t1\t2\na\t1\t2\t1\nend\n" 5 4 4 4 5
     ∷ reader-refuses "system\t7\t2\t2\na\t2\t1\t0\na\t1\t1\t1\nend\n" 5 4 4 4 6
@@ -332,3 +359,48 @@ more-cases =
 pub more-rows : AllHold more-cases
 unfolding compute
 more-rows = (refl, (refl, (refl, (refl, (refl, (refl, (refl, (refl, (refl, (refl, (refl, (refl, (refl, (refl, (refl, (refl, (refl, (refl, (refl, (refl, (refl, (refl, (refl, (refl, (refl, (refl, (refl, (refl, (refl, (refl, (refl, (refl, (refl, (refl, (refl, (refl, (refl, (refl, (refl, (refl, (refl, (refl, (refl, (refl, (refl, (refl, (refl, (refl, (refl, (refl, (refl, (refl, (refl, (refl, (refl, (refl, (refl, (refl, (refl, (refl, (refl, (refl, (refl, (refl, (refl, (refl, (refl, (refl, (refl, (refl, (refl, (refl, (refl, (refl, (refl, (refl, (refl, (refl, (refl, (refl, (refl, (refl, (refl, (refl, (refl, (refl, (refl, (refl, (refl, (refl, (refl, (refl, (refl, (refl, (refl, (refl, (refl, (refl, (refl, (refl, (refl, (refl, (refl, (refl, (refl, (refl, (refl, (refl, (refl, (refl, (refl, (refl, (refl, (refl, (refl, (refl, (refl, (refl, (refl, (refl, (refl, tt)))))))))))))))))))))))))))))))))))))))))))))))))))))))))))))))))))))))))))))))))))))))))))))))))))))))))))))))))))))))))
+
+-- document 02, request (ii): "size 0 with one start of 0 and no entries"
+abbrev pub nothing-left-cases : List Case
+nothing-left-cases =
+    -- the solver, its slices and its bill
+    solver-gives 7 nothing [] [] solved [] (1 ∷ []) 0 0
+    ∷ solver-gives 251 nothing [] [] solved [] (1 ∷ []) 0 0
+    ∷ solver-leaves 7 nothing [] [] [] (1 ∷ [])
+    ∷ solver-bills 7 nothing [] [] 4 (9 ∷ 9 ∷ 9 ∷ 9 ∷ [])
+    -- its refusals: no starts; an entry; a start that is not 0; an element of b; one word; a slice of another length
+    ∷ solver-refuses 7 (matrix [] [] []) [] (1 ∷ []) 0 1 16 4
+    ∷ solver-refuses 7 (matrix (0 ∷ []) (0 ∷ []) (1 ∷ [])) [] (1 ∷ []) 0 1 16 5
+    ∷ solver-refuses 7 (matrix (1 ∷ []) (0 ∷ []) (1 ∷ [])) [] [] 0 1 16 5
+    ∷ solver-refuses 7 nothing (1 ∷ []) (1 ∷ []) 0 1 16 8
+    ∷ solver-refuses 7 nothing [] (1 ∷ []) 0 1 15 10
+    ∷ solver-refuses 7 nothing [] [] 1 1 16 11
+    ∷ solver-refuses 7 nothing [] [] 0 2 16 11
+    ∷ solver-refuses 7 nothing [] [] 0 1 15 11
+    -- products; a polynomial has one coefficient; A takes the empty vector to itself, and it is zero
+    ∷ product-gives 7 nothing [] []
+    ∷ transposed-gives 7 nothing [] []
+    ∷ apply-gives 7 nothing (6 ∷ []) [] []
+    ∷ apply-refuses 7 nothing [] [] 0 0 8
+    ∷ apply-refuses 7 nothing (6 ∷ 1 ∷ []) [] 0 0 8
+    ∷ takes-says 7 nothing [] [] 0 true
+    ∷ isNull-says 7 nothing [] 0 false
+    -- the reader, into just enough places and into more; too few starts, a count without its line, an `a` line, a `b` line
+    ∷ reader-gives "system\t7\t0\t0\nend\n" 1 0 0 0 7 0 0 (0 ∷ []) [] [] []
+    ∷ reader-gives "system\t7\t0\t0\nend\n" 2 1 1 1 7 0 0 (0 ∷ 9 ∷ []) (9 ∷ []) (9 ∷ []) (9 ∷ [])
+    ∷ reader-refuses "system\t7\t0\t0\nend\n" 0 0 0 0 11
+    ∷ reader-refuses "system\t7\t0\t1\nend\n" 5 4 4 4 5
+    ∷ reader-refuses "system\t7\t0\t1\na\t1\t1\t7\nend\n" 5 4 4 4 6
+    ∷ reader-refuses "system\t7\t0\t0\nb\t1\t7\nend\n" 5 4 4 4 6
+    -- the writer, into just enough bytes, into more and into too few; the text call
+    ∷ writer-gives 7 nothing [] 17 17 "system\t7\t0\t0\nend\n"
+    ∷ writer-gives 7 nothing [] 19 17 "system\t7\t0\t0\nend\n.."
+    ∷ writer-gives 7 nothing [] 16 0 "................"
+    ∷ text-gives "system\t7\t0\t0\nend\n" "answer\tsolved\t0\t0\t0\nclose\t0\nf\t0\t1\nend\n"
+    ∷ text-refuses "system\t7\t0\t0\nb\t1\t7\nend\n" 7168 6
+    ∷ text-refuses "system\t7\t0\t0\nend\n" 7167 11
+    ∷ []
+
+pub nothing-left-rows : AllHold nothing-left-cases
+unfolding compute
+nothing-left-rows = (refl, (refl, (refl, (refl, (refl, (refl, (refl, (refl, (refl, (refl, (refl, (refl, (refl, (refl, (refl, (refl, (refl, (refl, (refl, (refl, (refl, (refl, (refl, (refl, (refl, (refl, (refl, (refl, (refl, (refl, (refl, tt)))))))))))))))))))))))))))))))

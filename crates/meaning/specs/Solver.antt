@@ -1,5 +1,5 @@
 -- Document 01, "The solver", for any size, 0 included, and any list of projections.
---     vectorCount n words    R, the number of vectors in the words
+--     vectorCount n words    R, the number of vectors in the words; request (ii): for size 0 "R is 0"
 --     vectors p n words      "R vectors .. vector j begins at word j × n", each word "taken modulo p"
 --     units n                "the unit vectors 1 to n"
 --     projections            "the R vectors, then the unit vectors"
@@ -20,10 +20,11 @@
 --     billed B qs            the slice that held B, with these numbers at its front, for as many passes as it has room for
 --     close                  "when r is zero, let G = (F − F[0]) / z .."
 --     solve                  the whole run
+--     nothingLeft            request (ii), size 0: "solved: empty vector, f = 1, no pass, no application"
 --     takes, isNull          the two checks of offered answers
 use mathlib.Core.Bool.{Bool, not, cond, _&&_}
 use mathlib.Core.List.{List, [], _∷_, _++_, map}
-use Prim.Native.Nat.{ℕ, _+_, _-_, _*_, _/_, _%_}
+use Prim.Native.Nat.{ℕ, zero, suc, _+_, _-_, _*_, _/_, _%_}
 use lib.Dec.{eqb}
 use lib.ListN.{length, take, drop}
 use Rattle.meaning.specs.List.{at, sum, table, zeros, isZero, equal, flat, overwrite}
@@ -31,9 +32,9 @@ use Rattle.meaning.specs.Field.{minus, times, inverse}
 use Rattle.meaning.specs.Matrix.{Matrix, size, product, power, apply}
 use Rattle.meaning.specs.Recurrence.{degree, generator}
 
--- R
 unfoldable pub vectorCount : ℕ → List ℕ → ℕ
-vectorCount n words = length words / n
+vectorCount zero words = 0
+vectorCount (suc m) words = length words / suc m
 
 unfoldable pub vectors : ℕ → ℕ → List ℕ → List (List ℕ)
 vectors p n words = table (vectorCount n words) (λ j. table n (λ i. at words (j * n + i) % p))
@@ -146,6 +147,9 @@ close p A b c =
 
 unfoldable pub solve : ℕ → Matrix → List ℕ → List ℕ → Outcome
 solve p A b words = close p A b (run p A (projections p (size A) words) (begin b))
+
+abbrev pub nothingLeft : Outcome
+nothingLeft = record { kind = solved; vector = []; polynomial = 1 ∷ []; degree = 0; passes = [] }
 
 -- "the first says yes exactly when Ax = b"
 unfoldable pub takes : ℕ → Matrix → List ℕ → List ℕ → Bool

@@ -15,7 +15,7 @@ use Rattle.meaning.specs.List.{at, every, chain}
 use Rattle.meaning.specs.Field.{isModulus}
 use Rattle.meaning.specs.Text as text
 use Rattle.meaning.specs.Text.{lines, saying, row, inForm, Document, document, system}
-use Rattle.meaning.specs.Refusal.{Check, check, first, within, before, countTaken, placesTaken, documentChecks}
+use Rattle.meaning.specs.Refusal.{Check, check, first, within, rowsTaken, before, countTaken, placesTaken, documentChecks}
 use Rattle.meaning.specs.Calls.{textChecks, readerRefusal}
 use borrow.Author.Tests.{le-leb, lt-leb, leb-true, eqb-true, not-false}
 use Rattle.laws.specs.Bool.{and-left, and-right, and-false-left, and-false-right, test-cases, never}
@@ -188,7 +188,7 @@ surveyRefusal r starts columns values right =
     first
     (check 2 (not (r .formed))
     ∷ check 3 (not (isModulus (r .p)))
-    ∷ check 4 (not (within 1 4096 (r .n)))
+    ∷ check 4 (not (rowsTaken (r .n)))
     ∷ check 5 (not (eqb (r .count) (r .entries) && leb (r .entries) 65536))
     ∷ check 6 (not (r .places))
     ∷ check 7 (not (r .values))
@@ -199,7 +199,7 @@ known-checks : (s starts columns values right : List ℕ) (r : Survey) → Known
     → first (documentChecks (document s) ++ (check 11 (not (leb (document s .size + 1) (length starts) && leb (document s .count) (length columns) && leb (document s .count) (length values) && leb (document s .size) (length right))) ∷ []))
     ≡ first
     (check 3 (not (isModulus (r .p)))
-    ∷ check 4 (not (within 1 4096 (r .n)))
+    ∷ check 4 (not (rowsTaken (r .n)))
     ∷ check 5 (not (eqb (r .count) (r .entries) && leb (r .entries) 65536))
     ∷ check 6 (not (r .places))
     ∷ check 7 (not (r .values))
@@ -247,11 +247,11 @@ unfolding surveyRefusal
 accepted r starts columns values right e =
     let e3 = pass-rest 1 (not (r .formed)) _ e in
     let e4 = pass-rest 2 (not (isModulus (r .p))) _ e3 in
-    let e5 = pass-rest 3 (not (within 1 4096 (r .n))) _ e4 in
+    let e5 = pass-rest 3 (not (rowsTaken (r .n))) _ e4 in
     let e6 = pass-rest 4 (not (eqb (r .count) (r .entries) && leb (r .entries) 65536)) _ e5 in
     let e7 = pass-rest 5 (not (r .places)) _ e6 in
     let e11 = pass-rest 6 (not (r .values)) _ e7 in
-    let t4 = not-false (within 1 4096 (r .n)) (pass-test 3 (not (within 1 4096 (r .n))) _ e4) in
+    let t4 = not-false (rowsTaken (r .n)) (pass-test 3 (not (rowsTaken (r .n))) _ e4) in
     let t5 = not-false (eqb (r .count) (r .entries) && leb (r .entries) 65536) (pass-test 4 (not (eqb (r .count) (r .entries) && leb (r .entries) 65536)) _ e5) in
     let a = leb (r .n + 1) starts in
     let b = leb (r .count) columns in
@@ -260,7 +260,7 @@ accepted r starts columns values right e =
     let t11 = not-false (a && b && c && d) (pass-test 10 (not (a && b && c && d)) _ e11) in
     record {
       formed = not-false (r .formed) (pass-test 1 (not (r .formed)) _ e);
-      size = leb-true (r .n) 4096 (and-right (leb 1 (r .n)) (leb (r .n) 4096) t4);
+      size = leb-true (r .n) 4096 t4;
       count = eqb-true (r .count) (r .entries) (and-left (eqb (r .count) (r .entries)) (leb (r .entries) 65536) t5);
       few = leb-true (r .entries) 65536 (and-right (eqb (r .count) (r .entries)) (leb (r .entries) 65536) t5);
       placed = not-false (r .places) (pass-test 5 (not (r .places)) _ e6);

@@ -16,7 +16,7 @@ ghost use mathlib.Core.Path.{_≡_};
 ghost use mathlib.Core.Bool.{_&&_};
 ghost use Prim.Native.Nat.{_+_};
 ghost use lib.Dec.{eqb, leb};
-ghost use Rattle.meaning.specs.Refusal.{within};
+ghost use Rattle.meaning.specs.Refusal.{rowsTaken};
 ghost use Rattle.meaning.specs.Calls.{readerRefusal, readerAnswer};
 ghost use Rattle.system_reader.specs.Surveys.{surveyRefusal};
 ghost use Rattle.system_reader.specs.Answers.{refusalOfRead, modulusOfRead, sizeOfRead, countOfRead, modulusOfDocument, sizeOfDocument, countOfDocument};
@@ -28,13 +28,10 @@ pub enum Reading {
     Refused(u32),
 }
 
-// 4: the size.
+// 4: the size, 0 to 4,096.
 fn size_taken(n: u32) -> bool
-    ensures { λ r. ⌜ r ≡ within 1 4096 n ⌝ }
+    ensures { λ r. ⌜ r ≡ rowsTaken n ⌝ }
 {
-    if n < 1 {
-        return false;
-    }
     n <= 4096
 }
 

@@ -15,7 +15,7 @@ use borrow.Author.Tests.{ltb-true, leb-true, eqb-true, lt-ltb, le-ltb, le-leb, e
 use Rattle.meaning.specs.List.{at, every, chain}
 use Rattle.meaning.specs.Field.{isModulus}
 use Rattle.meaning.specs.Text.{Document, row}
-use Rattle.meaning.specs.Refusal.{first, within, valueTaken, countTaken, before, placesTaken, documentChecks}
+use Rattle.meaning.specs.Refusal.{first, within, rowsTaken, valueTaken, countTaken, before, placesTaken, documentChecks}
 use Rattle.laws.specs.Bool.{and-left, and-right, and-both, and-five, or-right, test-cases}
 use Rattle.laws.specs.Refusal.{first-nil, first-passed, first-pass}
 pub use Rattle.laws.specs.Refusal.{within-low, within-high, within-of}
@@ -56,7 +56,6 @@ place-taken n e = within 1 n (row e) && within 1 n (at e 1)
 
 pub record AcceptedDocument (d : Document) : Type 0 where
   pub prime : isModulus (d .modulus) ≡ true
-  pub size-low : 1 ≤ d .size
   pub size-high : d .size ≤ 4096
   pub counted : d .count ≡ length (d .entries)
   pub few : length (d .entries) ≤ 65536
@@ -71,7 +70,7 @@ pub document-accepted : (d : Document) → first (documentChecks d) ≡ 0 → Ac
 unfolding documentChecks countTaken placesTaken
 document-accepted d e =
     let c3 = first-passed 3 (isModulus (d .modulus)) _ (omega arith) e in
-    let c4 = first-passed 4 (within 1 4096 (d .size)) _ (omega arith) (c3 .1) in
+    let c4 = first-passed 4 (rowsTaken (d .size)) _ (omega arith) (c3 .1) in
     let c5 = first-passed 5 (countTaken d) _ (omega arith) (c4 .1) in
     let c6 = first-passed 6 (placesTaken d) _ (omega arith) (c5 .1) in
     let c7 =
@@ -79,7 +78,7 @@ document-accepted d e =
     (omega arith) (c6 .1) in
     go (c3 .0) (c4 .0) (c5 .0) (c6 .0) (c7 .0)
   where
-    go : isModulus (d .modulus) ≡ true → within 1 4096 (d .size) ≡ true
+    go : isModulus (d .modulus) ≡ true → rowsTaken (d .size) ≡ true
         → eqb (d .count) (length (d .entries)) && leb (length (d .entries)) 65536 ≡ true
         → every (place-taken (d .size)) (d .entries) && chain before (d .entries) && every (λ e. within 1 (d .size) (row e)) (d .elements)
         && chain (λ e f. ltb (row e) (row f)) (d .elements) ≡ true
@@ -92,8 +91,7 @@ document-accepted d e =
         (chain (λ e f. ltb (row e) (row f)) (d .elements)) c6 in
         record {
           prime = c3;
-          size-low = within-low 1 4096 (d .size) c4;
-          size-high = within-high 1 4096 (d .size) c4;
+          size-high = leb-true (d .size) 4096 c4;
           counted =
               eqb-true (d .count) (length (d .entries))
               (and-left (eqb (d .count) (length (d .entries))) (leb (length (d .entries)) 65536) c5);
@@ -112,7 +110,7 @@ pub accepted-document : (d : Document) → AcceptedDocument d → first (documen
 unfolding documentChecks countTaken placesTaken
 accepted-document d a =
     first-pass 3 (isModulus (d .modulus)) _ (a .prime)
-    (first-pass 4 (within 1 4096 (d .size)) _ (within-of 1 4096 (d .size) (a .size-low) (a .size-high))
+    (first-pass 4 (rowsTaken (d .size)) _ (le-leb (d .size) 4096 (a .size-high))
     (first-pass 5 (countTaken d) _ (and-both (eq-eqb (d .count) (length (d .entries)) (a .counted))
     (le-leb (length (d .entries)) 65536 (a .few)))
     (first-pass 6 (placesTaken d) _ (and-both (and-both (and-both (a .places) (a .ordered)) (a .rows)) (a .rows-ordered))

@@ -10,7 +10,7 @@
 --     form-text            inForm (textOfDocument d) ≡ true for a shaped document
 --     text-document        textOfDocument (document text) ≡ text for a text in form
 --     shaped-document      the document of a text in form is shaped
---     length-none, length-two, length-three         a list of no, two or three numbers
+--     length-two, length-three         a list of two or three numbers
 use mathlib.Core.Path.{_≡_, refl, sym, ap, ap₂, _∙_}
 use mathlib.Core.Bool.{Bool, true, false, not, _&&_}
 use mathlib.Core.List.{List, [], _∷_, _++_, map, append-assoc, append-nil, nil≢cons, cons≢nil, head-eq-of-cons-eq, tail-eq-of-cons-eq}
@@ -22,7 +22,7 @@ use borrow.Author.Tests.{eqb-true, eq-eqb}
 use Rattle.meaning.specs.List.{at, every, equal, select}
 use Rattle.meaning.specs.Text.{Form, header, entry, element, ending, nothing, broken, Line, lines, rank, isOf, saying, inForm, Document, document}
 use Rattle.laws.specs.Bool.{and-left, and-right, and-both}
-use Rattle.laws.specs.List.{every-nil, equal→≡, equal-refl}
+use Rattle.laws.specs.List.{every-nil, length-none, equal→≡, equal-refl}
 use Rattle.text_laws.specs.Lists.{map-append, select-nil, select-yes, select-no, select-append, every-append, every-join, every-head, every-tail, every-more, every-one, every-map}
 use Rattle.text_laws.specs.Form.{say, small, known, fits, whole, sound, textOf, blank, lines-textOf, textOf-lines, lines-sound}
 
@@ -211,10 +211,6 @@ record Described (text : List ℕ) : Type 0 where
   said : Document
   asLines : lines text ≡ linesOf said ++ (blank ∷ [])
   isShaped : shaped said ≡ true
-
-pub length-none : (h : List ℕ) → length h ≡ 0 → h ≡ []
-length-none [] e = refl
-length-none (a ∷ h) e = absurd (omega arith)
 
 pub length-two : (h : List ℕ) → length h ≡ 2 → h ≡ at h 0 ∷ at h 1 ∷ []
 length-two [] e = absurd (omega arith)

@@ -241,7 +241,6 @@ module _ (d : Document) (s : shaped d ≡ true) (a : AcceptedDocument d) where
   accepted-system-of =
       record {
         prime = a .prime;
-        size-low = omega (arith, its-size, a .size-low);
         size-high = omega (arith, its-size, a .size-high);
         start-count = omega (arith, its-size, length-table (d .size + 1) upto);
         from-zero = its-start 0 (omega arith) ∙ upto-zero;

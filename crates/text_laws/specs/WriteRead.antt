@@ -186,7 +186,6 @@ module _ (p : ℕ) (A : Matrix) (b : List ℕ) (a : AcceptedSystem p A b) where
   accepted-document-of =
       record {
         prime = a .prime;
-        size-low = a .size-low;
         size-high = a .size-high;
         counted = entries-count;
         few = omega (arith, a .few, entries-count);

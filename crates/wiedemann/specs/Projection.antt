@@ -1,7 +1,7 @@
 -- The projections of a run (src/projection.rt).
 --     wordTerm         the product of word i with element i
 --     Raw              what the sum of such products needs to know
---     Words            the random words as vectors of n; words-of: where they are taken
+--     Words            the random words as vectors of n; words-of: where they are taken and there are rows
 --     sum-one          a sum of which one term is not 0
 --     dot-words        a dot product with words, each taken modulo p: one reduction is enough
 --     dot-unit         a dot product with a unit vector: an element
@@ -37,14 +37,14 @@ pub record Raw (words v : List ℕ) : Type 0 where
 
 -- "they form R vectors, R from 0 to 64"
 pub record Words (n vectors : ℕ) (words : List ℕ) : Type 0 where
-  pub count : vectors ≡ length words / n
+  pub count : vectors ≡ vectorCount n words
   pub whole : length words ≡ vectors * n
   pub few : vectors ≤ 64
 
-pub words-of : (n : ℕ) (words : List ℕ) → wordsTaken n words ≡ true → Words n (length words / n) words
-words-of n words t =
-    let count = vectorCount-div n words in
-    record { count = refl; whole = vectorCount-whole n words t ∙ ap (λ k. k * n) count; few = omega (arith, vectorCount-few n words t, count) }
+pub words-of : (n : ℕ) (words : List ℕ) → 0 < n → wordsTaken n words ≡ true → Words n (length words / n) words
+words-of n words some t =
+    let count = vectorCount-div n words some in
+    record { count = sym count; whole = vectorCount-whole n words t ∙ ap (λ k. k * n) count; few = omega (arith, vectorCount-few n words t, count) }
 
 pub sum-one : (n : ℕ) (f : ℕ → ℕ) (j : ℕ) → j < n → ((i : ℕ) → i < n → i ≢ j → f i ≡ 0) → sum n f ≡ f j
 sum-one zero f j l h = absurd (omega arith)
@@ -81,13 +81,10 @@ unfolding dot
 dot-nothing p v = ap (λ x. x % p) (sum-zeros (length v) (λ i. at [] i * at v i) (λ i l. zero-mul (at v i))) ∙ zero-mod p
 
 -- behind the words: an element, or 0 past the end
-pub projection-past : (p : ℕ) (words v : List ℕ) (j R : ℕ) → R ≡ length words / length v → R ≤ j → ((i : ℕ) → i < length v → at v i < p)
+pub projection-past : (p : ℕ) (words v : List ℕ) (j R : ℕ) → R ≡ vectorCount (length v) words → R ≤ j → ((i : ℕ) → i < length v → at v i < p)
     → dot p (getD (projections p (length v) words) j []) v ≡ at v (j - R)
-projection-past p words v j R e l below = go (decLt (j - R) (length v))
+projection-past p words v j R count l below = go (decLt (j - R) (length v))
   where
-    count : R ≡ vectorCount (length v) words
-    count = e ∙ sym (vectorCount-div (length v) words)
-
     place : j ≡ vectorCount (length v) words + (j - R)
     place = omega (arith, l, count)
 

@@ -28,7 +28,7 @@ returns-2 c =
 
 starts-taken-requires : tie.Need-starts-taken-requires
 starts-taken-requires c κs =
-    omega (arith, size-known _ (sym (c .before .size-taken .ensures) ∙ not-false (c .before .size-taken .result) (c .if2 .left)) .2)
+    omega (arith, size-known _ (sym (c .before .size-taken .ensures) ∙ not-false (c .before .size-taken .result) (c .if2 .left)) .1)
 
 returns-3 : tie.Need-returns-3
 unfolding matrixChecks sizeTaken
@@ -43,7 +43,7 @@ columns-taken-requires : tie.Need-columns-taken-requires
 columns-taken-requires c κs =
     let size = c .before .before in
     ordered _ (sym (c .before .starts-taken .ensures) ∙ not-false (c .before .starts-taken .result) (c .if3 .left))
-    (omega (arith, size-known _ (sym (size .before .size-taken .ensures) ∙ not-false (size .before .size-taken .result) (size .if2 .left)) .2))
+    (omega (arith, size-known _ (sym (size .before .size-taken .ensures) ∙ not-false (size .before .size-taken .result) (size .if2 .left)) .1))
 
 returns-4 : tie.Need-returns-4
 unfolding matrixChecks sizeTaken columnsTaken

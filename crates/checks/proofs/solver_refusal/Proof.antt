@@ -17,8 +17,8 @@ system-refusal-requires c κs = search needs
 returns : tie.Need-returns
 returns c = solver-refused _ _ _ _ _ _ _ (c .before .system-refusal .ensures) (c .if1 .taken)
 
--- n is 1 to 4,096
-sized : (c : tie.Else1) → (2 ≤ length (now (c .before .before .before .before .before .before .before .before .before .before .args .starts))) × (length (now (c .before .before .before .before .before .before .before .before .before .before .args .starts)) ≤ 4097)
+-- n is 0 to 4,096
+sized : (c : tie.Else1) → (1 ≤ length (now (c .before .before .before .before .before .before .before .before .before .before .args .starts))) × (length (now (c .before .before .before .before .before .before .before .before .before .before .args .starts)) ≤ 4097)
 sized c = system-sized _ _ _ (c .before .system-refusal .ensures) (c .if1 .left)
 
 sub-n : tie.Need-sub-n

@@ -53,7 +53,7 @@ residual-at-requires : tie.Need-residual-at-requires
 residual-at-requires c κs = search needs
 
 div-take-factor : tie.Need-div-take-factor
-div-take-factor c = omega (arith, c .before .before .before .before .before .before .pre .0 .0 .some)
+div-take-factor c = omega (arith, c .before .before .before .before .before .before .pre .1 .below)
 
 mul-take-factor : tie.Need-mul-take-factor
 mul-take-factor c = search needs
@@ -82,7 +82,7 @@ take-factor-requires c κs =
     rw (c .before .residual-at .ensures) (
       (pre .0 .0, pre .0 .1),
       (
-        (pre .0 .2, omega (arith, below), omega (arith, pre .0 .0 .sized), words-of n (now (a .words)) (s .words-taken)),
+        (pre .0 .2, omega (arith, below), omega (arith, pre .0 .0 .sized), words-of n (now (a .words)) (omega (arith, below)) (s .words-taken)),
         (
           omega (arith, long, room, below),
           subst (λ l. Vector (a .m .p) n l)

@@ -9,7 +9,7 @@ use denote.Ref.{now}
 use Rattle.meaning.specs.List.{at}
 use Rattle.meaning.specs.Solver.{dot}
 use Rattle.laws.specs.List.{table-ext}
-use Rattle.laws.specs.Solver.{vectorCount-div, projection-words}
+use Rattle.laws.specs.Solver.{projection-words}
 use Rattle.wiedemann.specs.Projection.{Raw, projection-past}
 use borrow.Author.Needs.{needs}
 use Rattle.wiedemann.proofs.projection.projected.Statement.{statement}
@@ -70,7 +70,7 @@ returns c =
     ∙ ap (λ u. dot (a .m .p) u v)
     (table-ext n (λ i. at (take (length words - from) (drop from words)) i % a .m .p) (λ i. at words (from + i) % a .m .p)
     (λ i l. ap (λ x. x % a .m .p) (ap (λ w. at w i) (tail words from) ∙ getD-drop from words i 0))
-    ∙ sym (projection-words (a .m .p) n words (a .u .index) (omega (arith, c .before .before .before .before .before .pre .1 .count, vectorCount-div n words, c .before .before .if1 .taken))))
+    ∙ sym (projection-words (a .m .p) n words (a .u .index) (omega (arith, c .before .before .before .before .before .pre .1 .count, c .before .before .if1 .taken))))
 
 returns-2 : tie.Need-returns-2
 returns-2 c =
