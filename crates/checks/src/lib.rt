@@ -11,7 +11,7 @@ ghost use lib.Dec.{leb};
 ghost use lib.ListN.{length};
 ghost use Rattle.meaning.specs.List.{at, all, allFrom, every};
 ghost use Rattle.meaning.specs.Matrix.{matrix};
-ghost use Rattle.meaning.specs.Refusal.{wordsTaken, first, within, elements, sizeTaken, startsTaken, columnsTaken, valueTaken, matrixChecks};
+ghost use Rattle.meaning.specs.Refusal.{wordsTaken, first, elements, sizeTaken, startsTaken, columnsTaken, valueTaken, matrixChecks};
 ghost use Rattle.meaning.specs.Calls.{systemChecks, productRefusal, applyRefusal, takesRefusal, recurrenceRefusal, solverRefusal};
 ghost use Rattle.checks.specs.Pass.{residualAt, stateChecks, passRefusal};
 ghost use Rattle.checks.specs.Matrix.{columnTaken, rises, Ordered};

@@ -3,7 +3,7 @@ use Rattle.wiedemann.specs.Pass.{Narrowed, narrowed-from, narrowed-facto
 use Rattle.wiedemann.specs.Projection.{words-of}
 use Rattle.recurrence.specs.Factor.{multiplied-lent, factors-taken, product-of}
 use Rattle.laws.specs.Lent.{lent, part-at, part-of-part}
-use Rattle.laws.specs.Part.{part, length-part}
+use Rattle.laws.specs.Part.{length-part}
 use Rattle.residue.specs.Prime.{isModulus-Prime}
 use Rattle.checks.specs.Valid.{Vector}
 use Rattle.meaning.specs.Matrix.{matrix}
