@@ -5,8 +5,8 @@
     evidence/calls.py --gate
 
 Makes COUNT calls from SEED. Four in ten are right, the others have up to three faults, of which the first check must
-be told. Then come the calls at the limits of document 01, the same each time. driver.cpp says `harm` where a slice has
-changed that had to stay. Exit status 0: nothing differs."""
+be told. Then come the calls at the limits of document 01 and those with no rows (document 02, request (ii)), the same
+each time. driver.cpp says `harm` where a slice has changed that had to stay. Exit status 0: nothing differs."""
 
 import argparse
 import collections
@@ -98,6 +98,12 @@ class Call:
     def refusal(self, answer):
         return int(answer.replace('harm', '').split()[0])
 
+    def has_no_rows(self):
+        """Of a call that is accepted: whether its matrix or text has size 0."""
+        if isinstance(self.reads[0], bytes):
+            return self.reads[0].split(b'\n')[0].split(b'\t')[2] == b'0'
+        return len(self.reads) > 3 and self.reads[1] == [0]
+
 
 # ---- right calls
 
@@ -136,7 +142,7 @@ def right_call(source, name):
         return Call(name, [p, s], [len(s) + 1, 4 * len(s) + 8 + source.randrange(3)])
     if name == 'solve':
         passes = len(reference.solver_steps(*matrix, b, words)[4])
-        bill = some_bill(source, passes, 3 * (len(words) // n + n))
+        bill = some_bill(source, passes, 3 * (reference.vectors_of(n, words) + n))
         return Call(name, matrix + [b, words], [n, n + 1, bill, 16 * n + 16 + source.randrange(3)])
     answer = reference.solver_steps(p, starts, columns, values, b, [])[2]
     if name == 'takes':
@@ -260,6 +266,37 @@ def limit_calls():
         yield Call('text', [b'system\t2\t1\t1\na\t1\t1\t1\nb\t1\t1\nend\n'], [length])
 
 
+def empty_calls():
+    """Size 0 in every call that knows of rows: right, and with every fault that a check is for, by itself and with others."""
+    right = [7, [0], [], []]
+    faulty = [[6, [0], [], []], [7, [], [], []], [7, [], [0], [1]], [7, [1], [], []], [7, [0], [0], [1]], [7, [1], [0], [1]],
+              [7, [0], [0], []], [7, [0], [], [0]]]
+    for matrix in (right, *faulty):
+        for v in ([], [0], [7]):
+            for out in (0, 1):
+                yield Call('product', [*matrix, v], [out])
+                yield Call('transposed', [*matrix, v], [out])
+                for g in ([], [0], [6], [7], [1, 1]):
+                    yield Call('apply', [*matrix, g, v], [out, out])
+            yield Call('takes', [*matrix, v, []])
+            yield Call('takes', [*matrix, [], v])
+            yield Call('is_null', [*matrix, v])
+            for words in ([], [0], [1] * 64):
+                for vector, polynomial, bill, work in ((0, 1, 0, 16), (0, 1, 7, 17), (1, 1, 3, 16), (0, 0, 3, 16), (0, 2, 3, 16), (0, 1, 3, 15)):
+                    yield Call('solve', [*matrix, v, words], [vector, polynomial, bill, work])
+            for room in (0, 16, 17, 18):
+                yield Call('write', [*matrix, v], [room])
+    heads = [(7, 0, 0), (2, 0, 0), (2147483647, 0, 0), (7, '00', 0), (7, '', 0), (9, 0, 0), (7, 4097, 0), (7, 0, 1), (7, 0, 65537)]
+    bodies = [[], [('a', 1, 1, 1)], [('a', 0, 0, 0)], [('b', 1, 1)], [('b', 0, 0)], [('a', 1, 1, 7), ('b', 1, 7)]]
+    for head in heads:
+        for body in bodies:
+            text = b''.join(reference.line(*fields) for fields in [('system', *head), *body, ('end',)])
+            for room in ((0, 0, 0, 0), (1, 0, 0, 0), (5, 4, 3, 2)):
+                yield Call('read', [text], room)
+            for length in (0, 38, ANSWER - 1, ANSWER):
+                yield Call('text', [text], [length])
+
+
 def main():
     parser = argparse.ArgumentParser(description='Holds every exported call to the reference.')
     parser.add_argument('count', type=int, nargs='?', default=20000)
@@ -271,15 +308,17 @@ def main():
     source = random.Random(11 if chosen.gate else chosen.seed)
     made = [some_call(source) for _ in range(8000 if chosen.gate else chosen.count)]
     made += limit_calls()
+    made += empty_calls()
     answers = tools.ask(tools.driver(), [call.line() for call in made])
-    refusals, differ = collections.Counter(), 0
+    refusals, without_rows, differ = collections.Counter(), 0, 0
     for call, answer in zip(made, answers):
         refusals[call.refusal(answer)] += 1
+        without_rows += call.refusal(answer) == 0 and call.has_no_rows()
         if call.differs(answer):
             differ += 1
             print('DIFFERS: %.300s\n   got: %.300s' % (call.line(), answer))
-    print('%d calls, %d accepted; refused: %s; %.0f seconds' % (
-        len(made), refusals[0], ', '.join('%d × %d' % (refusals[k], k) for k in sorted(refusals) if k),
+    print('%d calls, %d accepted, %d of them of size 0; refused: %s; %.0f seconds' % (
+        len(made), refusals[0], without_rows, ', '.join('%d × %d' % (refusals[k], k) for k in sorted(refusals) if k),
         time.time() - began))
     print('calls: %d differ' % differ)
     sys.exit(differ != 0)

@@ -35,7 +35,8 @@ KINDS = {1: 'solved', 2: 'singular'}
 def line_of(system):
     what, p, starts, columns, values, b, words = system
     n = len(b)
-    return tools.spell('solve', p, starts, columns, values, b, words, n, n + 1, 3 * (len(words) // n + n), 16 * n + 16)
+    bill = 3 * (reference.vectors_of(n, words) + n)
+    return tools.spell('solve', p, starts, columns, values, b, words, n, n + 1, bill, 16 * n + 16)
 
 
 class Answer:
@@ -72,7 +73,7 @@ def holds_itself(system, answer):
     image = reference.times(p, starts, columns, values, answer.vector)
     right = image == b if answer.kind == 1 else any(answer.vector) and not any(image)
     shape = D <= n and answer.polynomial[D] == 1 and not any(answer.polynomial[D + 1:])
-    return right and shape and answer.passes <= len(words) // n + n and adds_up(answer, n)
+    return right and shape and answer.passes <= reference.vectors_of(n, words) + n and adds_up(answer, n)
 
 
 def by_reference(system):
@@ -153,7 +154,8 @@ def compare(made, budget, packages):
     if packages and shutil.which('gp') is None:
         print('PARI is left out: it needs the package pari-gp')
     elif packages:
-        chosen = [(s, a) for s, a in zip(made, answers) if len(s[5]) <= PARI_SIZE]
+        # not of size 0, where the script's ranges of columns are empty
+        chosen = [(s, a) for s, a in zip(made, answers) if 0 < len(s[5]) <= PARI_SIZE]
         reports = pari_lines([system for system, answer in chosen])
         for (system, answer), report in zip(chosen, reports + [''] * len(chosen)):
             tally.hold('PARI', system, report != '' and agrees_with_dense(report, answer))
@@ -162,7 +164,8 @@ def compare(made, budget, packages):
 
 
 def gate_set():
-    """Fixed: many small systems, some of a few hundred rows, and two of the largest, one with a first pass of degree 0."""
+    """Fixed: many small systems, some of a few hundred rows (one in ten of both without a row), and two of the largest, one with a
+    first pass of degree 0."""
     made = [systems.make(random.Random(k), 32) for k in range(300)]
     made += [systems.make(random.Random(1000 + k), 300) for k in range(30)]
     large = random.Random(5)
@@ -193,8 +196,9 @@ def main():
 
     kinds = collections.Counter(KINDS.get(answer.kind, 'refused') for answer in answers)
     several = sum(answer.passes > 1 for answer in answers)
-    print('%d systems of 1 to %d rows: %s; %d with more than one pass, %d passes billed; %.0f seconds' % (
-        len(made), max(len(system[5]) for system in made),
+    sizes = [len(system[5]) for system in made]
+    print('%d systems of %d to %d rows, %d of them of size 0: %s; %d with more than one pass, %d passes billed; %.0f seconds' % (
+        len(made), min(sizes), max(sizes), sizes.count(0),
         ', '.join('%d %s' % (kinds[kind], kind) for kind in sorted(kinds)), several,
         sum(len(answer.bill) for answer in answers), time.time() - began))
     for tool, held in tally.held.items():

@@ -20,7 +20,7 @@ def esc(b):
 
 
 def rows(M):
-    return ' / '.join(' '.join(str(x) for x in r) for r in M)
+    return ' / '.join(' '.join(str(x) for x in r) for r in M) or '(none)'
 
 
 def answer_line(got):
@@ -32,7 +32,7 @@ def answer_line(got):
 put('Cases worked out by reference.py (made by makecases.py; do not edit by hand).')
 put('Matrices are given as dense rows "r1 / r2 / .." and as slices (starts; columns; values, columns from 0).')
 put('Polynomials lowest power first.  Output slices have exactly the stated length and hold 9 before, unless said.')
-put('"tells apart" names the wrong solvers of mutants.py that give another answer (kind, D, passes, applications, vector, f, bill, close).')
+put('"tells apart" names the wrong solvers of mutants.py that give another answer (kind, D, passes, applications, vector, f, bill, close; or refusal).')
 put()
 
 # ------------------------------------------------------------------ systems
@@ -58,13 +58,15 @@ systems = [
     ('EXTRA, n = 4, the same with p = 3', 3, [[0, 2, 0, 0], [0, 0, 0, 0], [0, 0, 0, 1], [0, 0, 2, 0]], [2, 2, 1, 0], []),
     ('document 01, two passes', 7, [[2, 0], [0, 3]], [1, 1], []),
     ('document 01, three passes, the first of degree 0', 7, [[2, 0], [0, 3]], [1, 1], [0, 0]),
+    ('size 0: the empty vector, f = 1, no pass', 7, [], [], []),
+    ('size 0, p = 2147483647', 2147483647, [], [], []),
 ]
 told = set()
 for k, (what, p, M, b, words) in enumerate(systems, 1):
     n = len(M)
     S = selftest.dense_to_sparse(M)
     selftest.check_system(p, n, M, b, [words, []])
-    got = ref.solve(p, *S, b, words, [9] * n, [9] * (n + 1), [9] * (3 * (len(words) // n + n)), [9] * (16 * n + 16))
+    got = ref.solve(p, *S, b, words, [9] * n, [9] * (n + 1), [9] * (3 * (ref.vectors_of(n, words) + n)), [9] * (16 * n + 16))
     kind, D, passes, apps, vector, poly, bill = got[1:]
     put('1.%d  %s' % (k, what))
     put('   p = %d, n = %d, A = %s   (starts %s; columns %s; values %s)' % (p, n, rows(M), nums(S[0]), nums(S[1]), nums(S[2])))
@@ -80,7 +82,6 @@ for k, (what, p, M, b, words) in enumerate(systems, 1):
     told.update(apart)
     put('   tells apart: ' + (', '.join(apart) or '(none)'))
 put()
-assert set(mutants.NAMES) - told == set(mutants.HIDDEN), set(mutants.NAMES) - told
 
 # ------------------------------------------------------------------ sequences
 put('=== 2. SEQUENCES (recurrence call; answer L and the polynomial slice of N + 1 places) ===')
@@ -136,11 +137,21 @@ show('3.6', 'g(A)v', 7, U, [3, 5], ref.polynomial_apply(7, *SU, [6], [3, 5], [9]
 show('3.7', 'g(A)v', 7, [[2, 0], [0, 3]], [1, 1], ref.polynomial_apply(7, [0, 1, 2], [0, 1], [2, 3], [6, 2, 1], [1, 1], [9] * 2, [9] * 4), [6, 2, 1])
 show('3.8', 'g(A)v', 3, U, [1, 2], ref.polynomial_apply(3, *SU, [0, 0, 0], [1, 2], [9] * 2, [9] * 4), [0, 0, 0])
 show('3.9', 'product', 2, [[0, 0], [0, 0]], [1, 1], ref.product(2, *Z, [1, 1], [9] * 2))
+show('3.10', 'product', 7, [], [], ref.product(7, [0], [], [], [], []))
+show('3.11', 'transposed product', 7, [], [], ref.transposed_product(7, [0], [], [], [], []))
+show('3.12', 'g(A)v', 7, [], [], ref.polynomial_apply(7, [0], [], [], [6], [], [], []), [6])
+show('3.13', 'g(A)v with a work slice of 1', 7, [], [], ref.polynomial_apply(7, [0], [], [], [0], [], [], [9]), [0])
 show('3.r1', 'g(A)v', 7, U, [3, 5], ref.polynomial_apply(7, *SU, [], [3, 5], [9] * 2, [9] * 4), [])
 show('3.r2', 'g(A)v', 7, U, [3, 5], ref.polynomial_apply(7, *SU, [1, 1, 1, 1], [3, 5], [9] * 2, [9] * 4), [1, 1, 1, 1])
 show('3.r3', 'g(A)v with g[1] = p and out of 1 place', 7, U, [3, 5], ref.polynomial_apply(7, *SU, [1, 7], [3, 5], [9], [9] * 4), [1, 7])
 show('3.r4', 'g(A)v with a work slice of 3', 7, U, [3, 5], ref.polynomial_apply(7, *SU, [1, 1], [3, 5], [9] * 2, [9] * 3), [1, 1])
 show('3.r5', 'product with out of 3 places', 7, U, [3, 5], ref.product(7, *SU, [3, 5], [9] * 3))
+show('3.r6', 'product', 7, [], [0], ref.product(7, [0], [], [], [0], []))
+show('3.r7', 'transposed product with out of 1 place', 7, [], [], ref.transposed_product(7, [0], [], [], [], [9]))
+show('3.r8', 'g(A)v', 7, [], [], ref.polynomial_apply(7, [0], [], [], [], [], [], []), [])
+show('3.r9', 'g(A)v', 7, [], [], ref.polynomial_apply(7, [0], [], [], [1, 1], [], [], []), [1, 1])
+show('3.r10', 'g(A)v', 7, [], [], ref.polynomial_apply(7, [0], [], [], [7], [], [], []), [7])
+show('3.r11', 'g(A)v with out of 1 place', 7, [], [], ref.polynomial_apply(7, [0], [], [], [1], [], [9], []), [1])
 put('3.c1 check Ax = b: p = 7, A = 0 1 / 0 0, x = 0 1, b = 1 0 -> %s' % ref.check_solution(7, *SU, [0, 1], [1, 0])[1])
 put('3.c2 check Ax = b: p = 7, A = 0 1 / 0 0, x = 1 0, b = 1 0 -> %s' % ref.check_solution(7, *SU, [1, 0], [1, 0])[1])
 put('3.c3 check Ax = b: p = 7, A = 0 1 / 0 0, x = 0 8, b = 1 0 -> %s' % answer_line(ref.check_solution(7, *SU, [0, 8], [1, 0])))
@@ -148,6 +159,12 @@ put('3.c4 check w: p = 7, A = 0 1 / 0 0, w = 5 0 -> %s' % ref.check_kernel(7, *S
 put('3.c5 check w: p = 7, A = 0 1 / 0 0, w = 0 0 -> %s' % ref.check_kernel(7, *SU, [0, 0])[1])
 put('3.c6 check w: p = 7, A = 0 1 / 0 0, w = 0 1 -> %s' % ref.check_kernel(7, *SU, [0, 1])[1])
 put('3.c7 check w: p = 7, A = 0 1 / 0 0, w = 7 0 0 -> %s' % answer_line(ref.check_kernel(7, *SU, [7, 0, 0])))
+E = '(none) (starts 0; columns (none); values (none))'
+put('3.c8 check Ax = b: p = 7, A = %s, x = (none), b = (none) -> %s' % (E, ref.check_solution(7, [0], [], [], [], [])[1]))
+put('3.c9 check Ax = b: p = 7, A = %s, x = (none), b = 0 -> %s' % (E, answer_line(ref.check_solution(7, [0], [], [], [], [0]))))
+put('3.c10 check Ax = b: p = 7, A = %s, x = 7, b = (none) -> %s' % (E, answer_line(ref.check_solution(7, [0], [], [], [7], []))))
+put('3.c11 check w: p = 7, A = %s, w = (none) -> %s' % (E, ref.check_kernel(7, [0], [], [], [])[1]))
+put('3.c12 check w: p = 7, A = %s, w = 1 -> %s' % (E, answer_line(ref.check_kernel(7, [0], [], [], [1]))))
 put()
 
 # ------------------------------------------------------------------ reader
@@ -167,10 +184,10 @@ texts = [
     ('2: blank for tab', b'system 7\t1\t0\nend\n', None),
     ('2: carriage return', b'system\t7\t1\t0\r\nend\r\n', None),
     ('2: empty text', b'', None),
-    ('3: p = 9 (and n = 0, 4)', b'system\t9\t0\t0\nend\n', None),
+    ('3: p = 9 (and n = 4097, 4)', b'system\t9\t4097\t0\nend\n', None),
     ('3: p = 1', b'system\t1\t1\t0\nend\n', None),
-    ('4: n = 0 (and count 1 without a lines, 5)', b'system\t7\t0\t1\nend\n', None),
     ('4: n = 4097', b'system\t7\t4097\t0\nend\n', None),
+    ('4: n = 4097 (and count 1 without a lines, 5)', b'system\t7\t4097\t1\nend\n', None),
     ('5: header says 2, one a line (and it is out of range, 6)', b'system\t7\t1\t2\na\t1\t2\t1\nend\n', None),
     ('6: rows out of order (and a value 0, 7)', b'system\t7\t2\t2\na\t2\t1\t0\na\t1\t1\t1\nend\n', None),
     ('6: same place twice', b'system\t7\t2\t2\na\t1\t1\t1\na\t1\t1\t2\nend\n', None),
@@ -183,6 +200,16 @@ texts = [
     ('11: starts of 2 places for n = 2', good, (2, 4, 4, 4)),
     ('11: columns of 2 places for 3 entries', good, (5, 2, 4, 4)),
     ('good: slices exactly long enough', good, (3, 3, 3, 2)),
+    ('good, size 0', b'system\t7\t0\t0\nend\n', None),
+    ('good, size 0, slices exactly long enough', b'system\t7\t0\t0\nend\n', (1, 0, 0, 0)),
+    ('2: size 00', b'system\t7\t00\t0\nend\n', None),
+    ('3: size 0, p = 9 (and count 1 without a lines, 5)', b'system\t9\t0\t1\nend\n', None),
+    ('5: size 0, count 1 without a lines', b'system\t7\t0\t1\nend\n', None),
+    ('5: size 0, count 0 and an a line (out of range, 6)', b'system\t7\t0\t0\na\t1\t1\t1\nend\n', None),
+    ('6: size 0 and an a line (of value 7, 7)', b'system\t7\t0\t1\na\t1\t1\t7\nend\n', None),
+    ('6: size 0 and a b line', b'system\t7\t0\t0\nb\t1\t1\nend\n', None),
+    ('6: size 0 and a b line of row 0', b'system\t7\t0\t0\nb\t0\t1\nend\n', None),
+    ('11: size 0, no place for its start', b'system\t7\t0\t0\nend\n', (0, 4, 4, 4)),
 ]
 for k, (what, text, lengths) in enumerate(texts, 1):
     lengths = lengths or (5, 4, 4, 4)
@@ -207,6 +234,8 @@ for k, (what, text) in enumerate([
         ('no entries, degree-0 pass first', b'system\t5\t2\t0\nb\t2\t3\nend\n'),
         ('3 passes', b'system\t5\t3\t3\na\t1\t1\t1\na\t2\t2\t2\na\t3\t3\t3\nb\t1\t1\nb\t2\t1\nb\t3\t1\nend\n'),
         ('diag(2,3), 2 passes', b'system\t7\t2\t2\na\t1\t1\t2\na\t2\t2\t3\nb\t1\t1\nb\t2\t1\nend\n'),
+        ('size 0', b'system\t7\t0\t0\nend\n'),
+        ('size 0, p = 2', b'system\t2\t0\t0\nend\n'),
 ], 1):
     got = ref.text_call(text, bytes([9]) * 7168)
     assert got[0] == 'ok' and got[2][got[1]:] == bytes([9]) * (7168 - got[1])
@@ -222,6 +251,9 @@ for k, (what, text, length, printed) in enumerate([
         ('answer slice of 7,167: "system\\t7\\t1\\t0\\nend\\n"', b'system\t7\t1\t0\nend\n', 7167, False),
         ('answer slice of 4,608, enough before the bill: "system\\t7\\t1\\t0\\nend\\n"', b'system\t7\t1\t0\nend\n', 4608, False),
         ('p = 6 and answer slice of 0: "system\\t6\\t1\\t0\\nend\\n"', b'system\t6\t1\t0\nend\n', 0, True),
+        ('size 0 and answer slice of 7,167: "system\\t7\\t0\\t0\\nend\\n"', b'system\t7\t0\t0\nend\n', 7167, False),
+        ('size 0 and a b line: "system\\t7\\t0\\t0\\nb\\t1\\t1\\nend\\n"', b'system\t7\t0\t0\nb\t1\t1\nend\n', 7168, True),
+        ('size 0 and count 1: "system\\t7\\t0\\t1\\nend\\n"', b'system\t7\t0\t1\nend\n', 7168, True),
 ], 1):
     got = ref.text_call(text, bytes(length))
     put('5.r%d %s -> refused %d%s' % (k, what, got[1], '; program prints "%s"' % esc(ref.program(text)) if printed else ''))
@@ -233,6 +265,8 @@ for k, (what, p, M, b, extra) in enumerate([
         ('out of exactly the length', 7, [[2, 1], [0, 3]], [1, 1], 0),
         ('3 bytes more, they stay', 11, [[0, 0, 0], [0, 0, 10], [0, 0, 0]], [0, 0, 4], 3),
         ('no entries, b = 0', 2, [[0]], [0], 0),
+        ('size 0', 7, [], [], 0),
+        ('size 0, 2 bytes more, they stay', 2147483647, [], [], 2),
 ], 1):
     S = selftest.dense_to_sparse(M)
     m = len(ref.system_text(p, *S, b))
@@ -243,18 +277,21 @@ for k, (what, p, M, b, extra) in enumerate([
     put('   out of %d bytes -> refused %d' % (m - 1, got[1]))
 put('6.r1 p = 7, diag(2,3), b = 1 7, out of 0 bytes -> ' + answer_line(ref.write_system(7, [0, 1, 2], [0, 1], [2, 3], [1, 7], b'')))
 put('6.r2 p = 7, diag(2,3), b = 1, out of 100 bytes -> ' + answer_line(ref.write_system(7, [0, 1, 2], [0, 1], [2, 3], [1], bytes(100))))
+put('6.r3 p = 7, starts 0; columns (none); values (none); b 0; out of 0 bytes -> ' + answer_line(ref.write_system(7, [0], [], [], [0], b'')))
+put('6.r4 p = 7, starts (none); columns (none); values (none); b (none); out of 100 bytes -> ' +
+    answer_line(ref.write_system(7, [], [], [], [], bytes(100))))
 put()
 
 # ------------------------------------------------------------------ refusals of the solver
 put('=== 7. REFUSALS OF THE SOLVER CALL, AND BILLS OF EVERY LENGTH (slices: vector 2, polynomial 3, bill 6, work 48 unless said) ===')
 base = dict(p=7, starts=[0, 1, 2], columns=[0, 1], values=[2, 3], b=[1, 1], words=[], vector=2, polynomial=3, bill=6, work=48)
+empty = dict(starts=[0], columns=[], values=[], b=[], vector=0, polynomial=1, work=16)
 for number, what, change in [
         (3, 'p = 1', dict(p=1)),
         (3, 'p = 9, and starts empty (4)', dict(p=9, starts=[])),
         (3, 'p = 2147483646', dict(p=2147483646)),
         (3, 'p = 4294967291, a prime over the limit', dict(p=4294967291)),
         (4, 'no starts, and columns and values differ (5)', dict(starts=[], columns=[])),
-        (4, 'one start: n = 0', dict(starts=[0], columns=[], values=[], b=[], vector=0, polynomial=1, work=16)),
         (5, 'starts begin at 1', dict(starts=[1, 1, 2])),
         (5, 'starts fall', dict(starts=[0, 2, 1, 2])),
         (5, 'starts end at 1 with 2 entries', dict(starts=[0, 1, 1])),
@@ -286,6 +323,23 @@ for number, what, change in [
         (0, 'three passes, the first of degree 0, bill of 7 places', dict(words=[0, 0], bill=7)),
         (0, 'three passes, bill of 10 places', dict(words=[0, 0], bill=10)),
         (0, 'b = 0: no pass, bill of 4 places stays', dict(b=[0, 0], bill=4)),
+        (0, 'size 0, bill of 6 places stays', empty),
+        (0, 'size 0, no bill', dict(empty, bill=0)),
+        (0, 'size 0, work of 17 places', dict(empty, work=17)),
+        (3, 'size 0 and p = 4', dict(empty, p=4)),
+        (4, 'no starts, no entries', dict(empty, starts=[])),
+        (4, 'no starts, no entries, and one word (10)', dict(empty, starts=[], words=[1])),
+        (5, 'one start, which is 1', dict(empty, starts=[1])),
+        (5, 'one start, which is 0, and an entry', dict(empty, columns=[0], values=[1])),
+        (5, 'one start, which is 1, and an entry', dict(empty, starts=[1], columns=[0], values=[1])),
+        (5, 'size 0 and a value', dict(empty, values=[1])),
+        (8, 'size 0, b of 1 element, and one word (10)', dict(empty, b=[7], words=[1])),
+        (10, 'size 0, one word, and polynomial of 0 places (11)', dict(empty, words=[1], polynomial=0)),
+        (10, 'size 0, 64 words', dict(empty, words=[0] * 64)),
+        (11, 'size 0, vector of 1 place', dict(empty, vector=1)),
+        (11, 'size 0, polynomial of 0 places', dict(empty, polynomial=0)),
+        (11, 'size 0, polynomial of 2 places', dict(empty, polynomial=2)),
+        (11, 'size 0, work of 15 places', dict(empty, work=15)),
 ]:
     d = dict(base)
     d.update(change)
@@ -298,7 +352,12 @@ for number, what, change in [
          d['bill'], d['work']))
     put('   -> ' + ('refused %d' % number if number else '%s, D = %d, passes = %d, applications = %d, vector %s, polynomial %s, bill %s' %
                     (got[1], got[2], got[3], got[4], nums(got[5]), nums(got[6]), nums(got[7]))))
+    if len(d['starts']) <= 1 and number != 11:  # mutants.py lends slices of the right lengths
+        apart = mutants.told_apart(d['p'], (d['starts'], d['columns'], d['values']), d['b'], d['words'])
+        told.update(apart)
+        put('   tells apart: ' + (', '.join(apart) or '(none)'))
 put()
+assert set(mutants.NAMES) - told == set(mutants.HIDDEN), set(mutants.NAMES) - told
 
 # ------------------------------------------------------------------ field
 put('=== 8. FIELD ===')

@@ -1,5 +1,5 @@
-"""Wrong solvers (document 01, 'Tempting here', and a few more) and wrong bills (document 02, request (i)).  Used to say which
-case tells which one apart.
+"""Wrong solvers (document 01, 'Tempting here', and a few more), wrong bills (document 02, request (i)) and mistakes about
+size 0 (request (ii)).  Used to say which case tells which one apart.
 
 keep_t_e / keep_e carry t, e over a restart exactly in the form of document 01's steps (t shifted at every term).  They are
 NOT observable: the last t = q of a pass happens at a term r1 <= 2*L1 - 1 (or t is still 0), so the kept t is z^k times a
@@ -12,7 +12,8 @@ import reference as ref
 NAMES = ['keep_t_e', 'keep_e', 'keep_t_unshifted', 'keep_all', 'stale_q',
          'first_pass_only', 'stop_at_D_n', 'singular_on_arrival', 'last_factor_x', 'G_on_last_r',
          'columns_space_kind', 'word_stride_1', 'units_after_R', 'left_n_always', 'f_unreversed', 'no_degree0_pass_count',
-         'bill_left_after', 'bill_no_degree0', 'bill_no_t', 'close_D']
+         'bill_left_after', 'bill_no_degree0', 'bill_no_t', 'close_D',
+         'size0_refused', 'no_starts_taken', 'size0_words_taken', 'size0_pass']
 HIDDEN = ['keep_t_e', 'keep_e']
 
 
@@ -43,9 +44,27 @@ def billed(name, left, t, made):
     return [(left - t if name == 'bill_left_after' else left, t, made - t if name == 'bill_no_t' else made)]
 
 
-def solve(name, p, S, b, words):
+def refusal(p, S, b, words):
+    """The first of checks 3 to 10 that turns the call down, or 0."""
     n = len(S[0]) - 1
-    R = len(words) // n
+    later = 8 if len(b) != n else 9 if ref.bad9(p, b) else 10 if ref.bad10(n, words) else 0
+    return ref.matrix_refusal(p, *S) or later
+
+
+def solve(name, p, S, b, words):
+    if name == 'no_starts_taken':
+        S = (S[0] or [0], *S[1:])
+    n = len(S[0]) - 1
+    if name == 'size0_words_taken' and n == 0:
+        words = []
+    number = refusal(p, S, b, words)
+    if name == 'size0_refused' and n == 0 and number != 3:
+        number = 4
+    if number:
+        return 'refused', number
+    if name == 'size0_pass' and n == 0:
+        return 'solved', 0, 1, 0, [], [1], [(0, 0, 0)], 0
+    R = ref.vectors_of(n, words)
     r, F, D, apps, k, counted, bill = list(b), [1], 0, 0, 0, 0, []
     t, e, q, L, unshifted = [0], 1, [1], 0, [0]
     last = [1]
@@ -114,7 +133,9 @@ def solve(name, p, S, b, words):
 
 
 def right(p, S, b, words):
-    """What the reference gives: kind, D, passes, applications, vector, f, bill, close."""
+    """What the reference gives: kind, D, passes, applications, vector, f, bill, close; or the refusal."""
+    if refusal(p, S, b, words):
+        return 'refused', refusal(p, S, b, words)
     n = len(S[0]) - 1
     kind, F, vector, applications, passes = ref.solver_steps(p, *S, b, words)
     D = len(F) - 1

@@ -60,7 +60,7 @@ def texts():
     band = [(i, j, i + j) for i in range(1, 129) for j in range(max(1, i - 1), min(128, i + 1) + 1)]
 
     # accepted: document 01's first case, solved and singular systems, no pass and two and 128 of them, 128 rows, 1,024 entries,
-    # the longest text
+    # the longest text, no rows
     yield 0, first
     yield 0, text_of(7, 2, [(1, 1, 2), (2, 2, 3)], ones)
     yield 0, text_of(7, 2, [(1, 1, 2), (2, 2, 3)], [(2, 1)])
@@ -73,6 +73,8 @@ def texts():
     yield 0, text_of(65537, 128, band, [(i, i) for i in range(1, 129)])
     yield 0, text_of(2, 128, [(i, j, 1) for i in range(1, 129) for j in range(1, 9)], [(1, 1)])
     yield 0, longest()
+    for p in (2, 7, HIGH):
+        yield 0, text_of(p, 0, [], [])
 
     # 1 only from 24,577 bytes on, whatever they hold; so too where what comes before, up to that place, is a text of its own
     for length in (LIMIT, LIMIT + 1, LIMIT + 2, 100000):
@@ -103,8 +105,9 @@ def texts():
     # 3 to 7, and 11: each cause by itself
     for p in (0, 1, 4, 561, HIGH - 1, HIGH + 1, 4294967291):
         yield 3, text_of(p, 2, two, ones)
-    for n in (0, 4097, 4294967295):
+    for n in (4097, 4294967295):
         yield 4, text_of(7, n, two, ones)
+        yield 4, text_of(7, n, [], [])
     for count in (0, 2, 4, 65537):
         yield 5, text_of(7, 2, two, ones, count)
     yield 6, text_of(7, 2, [(0, 1, 2)], ones)
@@ -124,6 +127,19 @@ def texts():
     for n in (129, 4096):
         yield 11, text_of(HIGH, n, ring, [(1, 5)])
     yield 11, text_of(2, 128, [(i, j, 1) for i in range(1, 129) for j in range(1, 9)] + [(128, 9, 1)], [])
+
+    # no rows, so that no line of an entry or of b is in range
+    yield 2, text_of(7, '00', [], [])
+    yield 2, text_of(7, '', [], [])
+    yield 2, text_of(7, 0, [], [], end=('end', ''))
+    yield 3, text_of(9, 0, [], [], 1)
+    yield 5, text_of(7, 0, [], [], 1)
+    yield 5, text_of(7, 0, two, ones, 0)
+    yield 6, text_of(7, 0, two, ones)
+    for row in (0, 1, 4294967295):
+        yield 6, text_of(7, 0, [(row, row, 1)], [])
+        yield 6, text_of(7, 0, [], [(row, 1)])
+    yield 6, text_of(7, 0, [], [(1, 7)])
 
     # two causes: the first in order is told
     causes = [(3, dict(p=8)), (4, dict(n=4097)), (5, dict(count=9)), (6, dict(b=[(2, 1), (2, 1)])), (7, dict(a=[(1, 1, 0)]))]

@@ -1,7 +1,7 @@
 """Reference implementation of document 01 (Wiedemann solver modulo word-size primes).
 
-Plain Python 3, standard library only.  Written from 00-conditions.md, 01-scope.md, request (i) of 02-change-requests.md
-and source 002 alone.
+Plain Python 3, standard library only.  Written from 00-conditions.md, 01-scope.md, requests (i) and (ii) of
+02-change-requests.md and source 002 alone.
 
 Every public call takes lists of ints (32-bit numbers, 0 .. 2**32 - 1) or bytes, never changes an argument, and
 returns either ('ok', ...) or ('refused', number).  A lent slice that is written is passed in with its old contents
@@ -37,7 +37,8 @@ B. Choices.
   3. Words are "any 32-bit numbers": neither 8 nor 9 looks at them, only 10.
   4. The values of a matrix are looked at by 7, never 9; elements of b given as a slice are looked at by 9 (0 is fine
      there), `b` lines of a text by 7 (0 is refused there).
-  5. Check 4 on a matrix: len(starts) - 1 not in 1..4096; no starts -> 4; one start (n = 0) -> 4.
+  5. Check 4 on a matrix: len(starts) - 1 not in 0..4096; no starts -> 4.  One start is n = 0 (request (ii)); 5 then wants
+     it to be 0 and no entries, so that no entry is left for 6 and 7 to look at.
   6. Check 5 on a matrix: starts[0] != 0, or starts fall anywhere, or starts[n] != len(columns), or
      len(columns) != len(values), or more than 65536 entries (either slice).  All one number, so no inner order.
   7. Check 6 on a matrix: a column >= n, or not strictly above the one before it in its row (equal -> 6).  The rows of a
@@ -53,8 +54,9 @@ B. Choices.
      blank line; blank instead of tab; carriage return; empty numeral; sign; leading zero (00, 01); numeral over
      4294967295; wrong number of fields; upper case.  A missing end, or an a-line after a b-line, is 2 even where 3..7 apply too.
  12. A numeral over 4294967295 is 2 everywhere, also in the place of p, n, count, row, column or value.
- 13. Header p bad (incl. 0, 1) -> 3; header n of 0 or over 4096 -> 4; header count != number of `a` lines, or over 65536
-     `a` lines (= count) -> 5, before any look at rows (6) or values (7).  All in that order whatever the order in the text.
+ 13. Header p bad (incl. 0, 1) -> 3; header n over 4096 -> 4 (0 is taken, request (ii)); header count != number of `a`
+     lines, or over 65536 `a` lines (= count) -> 5, before any look at rows (6) or values (7).  All in that order whatever
+     the order in the text.  With n = 0 every `a` line that is counted right, and every `b` line, is out of range -> 6.
  14. Row 0 or column 0 in a text, or over n -> 6; equal (row, column) twice -> 6; `b` rows the same.  6 of a `b` line
      comes before 7 of an `a` line.
  15. The reader answers p, n and the entry count, beside the four slices.  It writes n+1 starts, `entries` columns and
@@ -72,13 +74,17 @@ B. Choices.
      of wrong length 8 (not "no").
  24. "for j from 0 to N - L - 1": with L = N there is no j, so any monic f of degree N recurs.
  25. The recurrence's result f is always taken from the steps (where 2L <= N it is the only one anyway).
- 26. Empty words (R = 0) are taken: 0 is a multiple of n.
+ 26. Empty words (R = 0) are taken: 0 is a multiple of n.  For n = 0 only they are (request (ii)): one word or more -> 10,
+     and R is 0 there by definition, not by a division.
  27. u (a words vector) is reduced modulo p element by element before use.
  28. `if 2 x L < r`: L is the value before this step (002 prints l_r, the misprint).
  29. Request (i), the bill: a `pass` line for EVERY pass, also of degree 0, left being that before the pass; one `close` line
      always, also where no pass was made.  The applications of a pass are counted here as they are made, and so is the total.
  30. The solver's bill slice is not in the papers: three numbers (left, t, applications) for each pass, as many whole passes
      as it has room for; the places behind them stay.  Any length is taken, so no check looks at it.
+ 31. Request (ii), n = 0: every call with a matrix takes it.  The empty vector is zero, so the solver makes no pass (solved,
+     f = 1, D = 0) and check_kernel says no; A takes it to itself, so check_solution says yes.  All lengths follow from their
+     formulas: one coefficient for g, work of 0 places there, polynomial of 1 place and work of 16 for the solver.
 """
 
 import sys
@@ -167,7 +173,7 @@ def bad3(p):
 
 
 def bad4(starts):
-    return len(starts) == 0 or not (1 <= len(starts) - 1 <= MAX_N)
+    return len(starts) == 0 or not (0 <= len(starts) - 1 <= MAX_N)
 
 
 def bad5(starts, columns, values):
@@ -209,7 +215,14 @@ def bad9(p, elements):
 
 
 def bad10(n, words):
+    if n == 0:
+        return len(words) != 0
     return len(words) % n != 0 or len(words) > MAX_VECTORS * n
+
+
+def vectors_of(n, words):
+    """R"""
+    return 0 if n == 0 else len(words) // n
 
 
 def matrix_refusal(p, starts, columns, values):
@@ -436,7 +449,7 @@ def solver_steps(p, starts, columns, values, b, words):
 
     Returns kind, F, vector, applications, and a list of passes (u, left, terms, f, r after, applications)."""
     n = len(starts) - 1
-    R = len(words) // n
+    R = vectors_of(n, words)
     r = list(b)
     F = [1]
     D = 0
@@ -600,7 +613,7 @@ def parse_system(text):
     p, n, count, a_lines, b_lines = parsed
     if bad3(p):
         return refused(3)
-    if not (1 <= n <= MAX_N):
+    if not (0 <= n <= MAX_N):
         return refused(4)
     if count != len(a_lines) or len(a_lines) > MAX_ENTRIES:
         return refused(5)

@@ -150,6 +150,7 @@ class Run {
     }
 
   private:
+    // A pass is made where r is not zero, so n is at least 1.
     Vector projection(const Vector &words, size_t pass) const {
         size_t n = s.rows.size(), vectors = words.size() / n;
         Vector u(n);

@@ -78,7 +78,14 @@ def dense_to_sparse(M):
     return starts, columns, values
 
 
+def random_size(most):
+    """0 to most; one in six is 0."""
+    return rng.randrange(1, most + 1) if rng.randrange(6) else 0
+
+
 def random_dense(p, n):
+    if n == 0:
+        return []
     style = rng.randrange(6)
     if style == 0:       # sparse
         return [[rng.randrange(p) if rng.random() < 0.3 else 0 for _ in range(n)] for _ in range(n)]
@@ -192,6 +199,62 @@ def bill_cases():
            b'answer\tsolved\t0\t0\t0\nclose\t0\nf\t0\t1\nx\t1\t0\nx\t2\t0\nend\n')
 
 
+# ---------------------------------------------------------------- request (ii) of document 02: size 0
+
+def empty_cases():
+    """Every call on the matrix without rows, worked out by hand: what it answers, and each check that turns it down."""
+    A = (7, [0], [], [])
+    solved = ('ok', 'solved', 0, 0, 0, [], [1])
+    for p in PRIMES:
+        expect(ref.matrix_check(p, [0], [], []) == ('ok', 0))
+        expect(run(p, 0, ([0], [], []), [], []) == (*solved, []))
+    for bill in ([], [9], [9] * 3, [9] * 7):
+        expect(ref.solve(*A, [], [], [], [9], bill, [9] * 16) == (*solved, bill))
+        expect(ref.solve(*A, [], [], [], [9], bill, [9] * 17) == (*solved, bill))
+    expect(ref.solver_steps(*A, [], []) == ('solved', [1], [], 0, []))
+    expect(ref.product(*A, [], []) == ('ok', []) and ref.transposed_product(*A, [], []) == ('ok', []))
+    expect(ref.polynomial_apply(*A, [0], [], [], []) == ('ok', []) and ref.polynomial_apply(*A, [6], [], [], [9]) == ('ok', []))
+    expect(ref.check_solution(*A, [], []) == ('ok', True) and ref.check_kernel(*A, []) == ('ok', False))
+
+    # the checks in their order, a later fault beside each
+    for matrix, number in (((6, [0], [], []), 3), ((7, [], [], []), 4), ((7, [], [0], [1]), 4), ((7, [1], [], []), 5), ((7, [0], [0], [1]), 5),
+                           ((7, [1], [0], [1]), 5), ((7, [0], [0], []), 5), ((7, [0], [], [1]), 5), ((7, [0], [0], [0]), 5)):
+        for v in ([], [1], [7]):
+            expect(ref.matrix_check(*matrix) == ('refused', number))
+            expect(ref.product(*matrix, v, []) == ref.transposed_product(*matrix, v, []) == ('refused', number))
+            expect(ref.polynomial_apply(*matrix, [1], v, [], []) == ('refused', number))
+            expect(ref.solve(*matrix, v, [], [], [9], [], [9] * 16) == ('refused', number))
+            expect(ref.check_solution(*matrix, v, v) == ref.check_kernel(*matrix, v) == ('refused', number))
+            expect(ref.write_system(*matrix, v, bytes(99)) == ('refused', number))
+    for v in ([0], [7]):
+        expect(ref.product(*A, v, [9]) == ref.transposed_product(*A, v, [9]) == ('refused', 8))
+        expect(ref.polynomial_apply(*A, [1], v, [], []) == ref.solve(*A, v, [1], [], [9], [], [9] * 16) == ('refused', 8))
+        expect(ref.check_solution(*A, v, []) == ref.check_solution(*A, [], v) == ref.check_kernel(*A, v) == ('refused', 8))
+        expect(ref.write_system(*A, v, b'') == ('refused', 8))
+    for g, number in ([], 8), ([1, 1], 8), ([7, 7], 8), ([7], 9):
+        expect(ref.polynomial_apply(*A, g, [], [9], []) == ('refused', number))
+    for count in 1, 2, 64, 65:
+        expect(ref.solve(*A, [], [1] * count, [9], [9], [], []) == ('refused', 10))
+    expect(ref.product(*A, [], [9]) == ref.transposed_product(*A, [], [9]) == ref.polynomial_apply(*A, [1], [], [9], []) == ('refused', 11))
+    for vector, polynomial, work in (1, 1, 16), (0, 0, 16), (0, 2, 16), (0, 1, 15), (0, 1, 0):
+        expect(ref.solve(*A, [], [], [9] * vector, [9] * polynomial, [], [9] * work) == ('refused', 11))
+
+    # texts
+    text, answer = b'system\t7\t0\t0\nend\n', b'answer\tsolved\t0\t0\t0\nclose\t0\nf\t0\t1\nend\n'
+    expect(ref.write_system(*A, [], b'.' * 19) == ('ok', 17, text + b'..') and ref.write_system(*A, [], b'.' * 16) == ('refused', 11))
+    expect(ref.read_system(text, [9], [], [], []) == ('ok', 7, 0, 0, [0], [], [], []))
+    expect(ref.read_system(text, [9, 8], [7], [6], [5, 4]) == ('ok', 7, 0, 0, [0, 8], [7], [6], [5, 4]))
+    expect(ref.read_system(text, [], [7], [6], [5]) == ('refused', 11))
+    expect(len(answer) > 18 and ref.text_call(text, b'.' * 7168) == ('ok', 38, answer + b'.' * 7130) and ref.program(text) == answer)
+    expect(ref.text_call(text, bytes(7167)) == ('refused', 11))
+    for line, number in ((b'system\t7\t0\t0\n', 2), (b'system\t7\t00\t0\nend\n', 2), (b'system\t9\t0\t1\nend\n', 3),
+                         (b'system\t7\t4097\t0\nend\n', 4), (b'system\t7\t0\t1\nend\n', 5), (b'system\t7\t0\t0\na\t1\t1\t1\nend\n', 5),
+                         (b'system\t7\t0\t1\na\t1\t1\t1\nend\n', 6), (b'system\t7\t0\t1\na\t0\t0\t0\nend\n', 6),
+                         (b'system\t7\t0\t0\nb\t1\t1\nend\n', 6), (b'system\t7\t0\t0\nb\t0\t7\nend\n', 6)):
+        expect(ref.read_system(line, [], [], [], []) == ref.text_call(line, b'') == ('refused', number), line)
+        expect(ref.program(line) == b'refused\t%d\n' % number)
+
+
 # ---------------------------------------------------------------- solver against dense elimination
 
 def check_system(p, n, M, b, words_list):
@@ -201,7 +264,7 @@ def check_system(p, n, M, b, words_list):
         krylov.append(d_mul(M, krylov[-1], p))
     results = []
     for words in words_list:
-        R = len(words) // n
+        R = len(words) // n if n else 0
         bill = dirty(rng.randrange(3 * n + 4))
         got = run(p, n, S, b, words, bill)
         expect(got[0] == 'ok', 'refused', got, p, M, b)
@@ -283,8 +346,8 @@ def check_system(p, n, M, b, words_list):
 
 
 def solver_tests(rounds):
-    # all systems with n <= 2, p <= 3 (n = 1: p <= 7; n = 3: p = 2), with all single word vectors
-    for p, n in ((2, 1), (3, 1), (5, 1), (7, 1), (2, 2), (3, 2), (2, 3)):
+    # all systems with n <= 2, p <= 3 (n = 0 and 1: p <= 7; n = 3: p = 2), with all single word vectors
+    for p, n in ((2, 0), (3, 0), (5, 0), (7, 0), (2, 1), (3, 1), (5, 1), (7, 1), (2, 2), (3, 2), (2, 3)):
         vectors = [list(v) for v in itertools.product(range(p), repeat=n)]
         for cells in itertools.product(range(p), repeat=n * n):
             M = [list(cells[i * n:(i + 1) * n]) for i in range(n)]
@@ -293,7 +356,7 @@ def solver_tests(rounds):
                 count('exhaustive systems')
     for _ in range(rounds):
         p = rng.choice(PRIMES)
-        n = rng.randrange(1, 9)
+        n = random_size(8)
         M = random_dense(p, n)
         style = rng.randrange(4)
         if style == 0:
@@ -303,7 +366,7 @@ def solver_tests(rounds):
         else:
             b = [rng.randrange(p) for _ in range(n)]
         check_system(p, n, M, b, [[]] + [random_words(p, n) for _ in range(3)])
-        count('random systems')
+        count('random systems' if n else 'random systems of size 0')
 
 
 # ---------------------------------------------------------------- products, recurrence, field
@@ -311,7 +374,7 @@ def solver_tests(rounds):
 def product_tests(rounds):
     for _ in range(rounds):
         p = rng.choice(PRIMES)
-        n = rng.randrange(1, 9)
+        n = random_size(8)
         M = random_dense(p, n)
         S = dense_to_sparse(M)
         v = [rng.randrange(p) for _ in range(n)]
@@ -323,7 +386,8 @@ def product_tests(rounds):
         y = d_mul(M, v, p)
         expect(ref.check_solution(p, *S, v, y) == ('ok', True))
         y2 = list(y)
-        y2[rng.randrange(n)] = rng.randrange(p)
+        if n:
+            y2[rng.randrange(n)] = rng.randrange(p)
         expect(ref.check_solution(p, *S, v, y2) == ('ok', y2 == y))
         expect(ref.check_kernel(p, *S, v) == ('ok', any(v) and not any(y)))
         expect(ref.check_kernel(p, *S, [0] * n) == ('ok', False))
@@ -402,7 +466,7 @@ def matrix_causes(p, starts, columns, values):
     if not prime:
         causes.add(3)
     n = len(starts) - 1
-    if n < 1 or n > 4096:
+    if n < 0 or n > 4096:
         causes.add(4)
     m = len(columns)
     if len(starts) and (starts[0] != 0 or sorted(starts) != list(starts) or starts[-1] != m) or len(values) != m or m > 65536:
@@ -435,7 +499,7 @@ def mutate(values, p):
 def refusal_tests(rounds):
     for _ in range(rounds):
         p = rng.choice((2, 3, 5, 7, 101, 2147483647))
-        n = rng.randrange(1, 5)
+        n = random_size(4)
         starts, columns, values = dense_to_sparse(random_dense(p, n))
         v = [rng.randrange(p) for _ in range(n)]
         b = [rng.randrange(p) for _ in range(n)]
@@ -455,13 +519,13 @@ def refusal_tests(rounds):
         long_v = {8} if len(v) != m else set()
         long_b = {8} if len(b) != m else set()
         big = lambda x: {9} if any(c >= p for c in x) else set()
-        w10 = {10} if m < 1 or len(words) % m or len(words) // m > 64 else set()
+        w10 = {10} if (len(words) % m or len(words) // m > 64 if m > 0 else words) else set()
         o11 = {11} if len(slices['out']) != m else set()
 
         def same(got, all_causes, name):
             want = min(all_causes) if all_causes else None
             expect((got[1] if got[0] == 'refused' else None) == want, name, got, all_causes, A, slices)
-            count('refusal ' + str(want) if want else 'accepted')
+            count('refusal ' + str(want) if want else 'accepted' if m else 'accepted, size 0')
 
         same(ref.matrix_check(*A), causes, 'matrix_check')
         same(ref.product(*A, v, slices['out']), causes | long_v | big(v) | o11, 'product')
@@ -514,7 +578,7 @@ def text_causes(text):
     b = [tuple(int(x) for x in r[1:]) for r in rows if r[0] == b'b']
     if p < 2 or p > 2147483647 or any(p % d == 0 for d in range(2, int(p ** 0.5) + 1)):
         causes.add(3)
-    if n < 1 or n > 4096:
+    if n > 4096:
         causes.add(4)
     if m != len(a) or m > 65536:
         causes.add(5)
@@ -533,7 +597,7 @@ def text_tests(rounds):
               b'-', b'+', b'9999999999', b'4294967295', b'4294967296', b'00', b'\x00', b'\xff', b'5' * 5000]
     for _ in range(rounds):
         p = rng.choice((2, 3, 5, 7, 101))
-        n = rng.randrange(1, 4)
+        n = random_size(3)
         S = dense_to_sparse(random_dense(p, n))
         b = [rng.randrange(p) for _ in range(n)]
         text = ref.system_text(p, *S, b)
@@ -585,7 +649,7 @@ def text_tests(rounds):
                 expect([(i + 1, c[k] + 1, v[k]) for i in range(n) for k in range(s[i], s[i + 1])] == a)
                 expect([(i + 1, bb[i]) for i in range(n) if bb[i]] == bl)
                 expect(ref.write_system(p, s, c, v, bb, bytes(len(text))) == ('ok', len(text), text), 'written again')
-                count('text read')
+                count('text read' if n else 'text read, size 0')
                 if n <= 128:
                     expect((call[0] == 'ok') or call == ('refused', 11))
                 else:
@@ -626,6 +690,7 @@ if __name__ == '__main__':
     rounds = int(sys.argv[1]) if len(sys.argv) > 1 else 1500
     document_cases()
     bill_cases()
+    empty_cases()
     field_tests()
     product_tests(rounds)
     recurrence_tests(rounds)

@@ -17,7 +17,9 @@ def some_prime(random):
 
 
 def some_size(random, largest):
-    """Small ones mostly, but every power of two has its share."""
+    """One in ten is 0. Of the others small ones mostly, but every power of two has its share."""
+    if random.random() < 0.1:
+        return 0
     low = 2 ** random.randrange(0, largest.bit_length())
     return min(largest, random.randrange(low, 2 * low))
 
@@ -26,7 +28,7 @@ def value(random, p):
     return random.randrange(1, p)
 
 
-# Each shape gives rows, as dictionaries from column to value.
+# Each shape gives rows, as dictionaries from column to value; there is at least one row, but for `zero`.
 
 def sparse(random, p, n):
     k = random.randrange(1, min(n, 16) + 1)
@@ -133,7 +135,8 @@ def some_words(random, p, n):
 
 
 def make(random, largest):
-    p, n, shape = some_prime(random), some_size(random, largest), random.choice(SHAPES)
+    p, n = some_prime(random), some_size(random, largest)
+    shape = random.choice(SHAPES) if n else zero
     matrix = slices(shape(random, p, n))
     sides = right_sides(random, p, n, matrix)
     side = random.choice(sorted(sides) + ['any b', 'b = Ay'])

@@ -1,9 +1,9 @@
 /* filzeur.h: the C border of Filzeur, a proved Wiedemann solver modulo primes. For C99 and C++; x86-64.
  *
- * Every slice is a pointer and a length in elements. A matrix A of size n (1 to 4,096) is three slices: n + 1 row
+ * Every slice is a pointer and a length in elements. A matrix A of size n (0 to 4,096) is three slices: n + 1 row
  * starts, then columns (from 0, rising strictly within a row) and values (1 to p - 1), one each per entry, at most
- * 65,536. Row i holds the entries from starts[i] up to but not including starts[i + 1]. Polynomials are coefficients,
- * lowest power first.
+ * 65,536. Row i holds the entries from starts[i] up to but not including starts[i + 1]. Size 0, a system with nothing
+ * left, is one start, which is 0, and no entries. Polynomials are coefficients, lowest power first.
  *
  * Refusals. Each call makes its checks in the order of their numbers and answers the number of the first that turns its
  * input down, 0 if none does. A refusal leaves every other field of the answer 0 and every lent slice as it was. So any
@@ -21,8 +21,9 @@
 #include <stddef.h>
 #include <stdint.h>
 
-/* Raised whenever a signature, a struct or the meaning of one changes. A header without it is version 1. */
-#define FILZEUR_VERSION 2
+/* Raised whenever a signature, a struct or the meaning of one changes. A header without it is version 1; the bill came
+ * with 2, size 0 with 3. */
+#define FILZEUR_VERSION 3
 
 #ifdef __cplusplus
 extern "C" {
@@ -43,14 +44,14 @@ enum {
  *  1  the text call got more than 24,576 bytes
  *  2  the text exceeds 2,097,152 bytes or breaks the line forms or their order of letters
  *  3  p is not a prime from 2 to 2,147,483,647
- *  4  n is not 1 to 4,096, or the starts are empty
+ *  4  n is not 0 to 4,096, or the starts are empty
  *  5  starts don't begin at 0, fall, or don't end at the entry count; columns and values differ in length; there are
  *     over 65,536 entries; or the header's count isn't that of the `a` lines
  *  6  a row or column is out of range or out of order, `b` lines included
  *  7  an entry or `b` line's value is 0 or at least p
  *  8  a vector, list or polynomial that is read has a length other than stated
  *  9  an element of one, or an operand of a field operation, is at least p
- * 10  the words are not a multiple of n, or more than 64 * n
+ * 10  the words are not a multiple of n, or more than 64 * n, or there are words and no rows
  * 11  a slice to be written is not as long as stated (the writer: shorter than its text; the text call: also n over 128
  *     or over 1,024 entries)
  * 12  the inverse of 0 is wanted
@@ -138,7 +139,7 @@ struct filzeur_degree filzeur_recurrence(uint32_t p, const uint32_t *s, size_t s
 /* Solves Ax = b, or shows that A is singular. words: R vectors of n random words each, R from 0 to 64, any 32-bit
  * numbers; they sway passes and applications only. polynomial = the monic f of least degree with f(A)b = 0, then zeros.
  * Solved: b is a combination of Ab, A(Ab), .., and vector = x with Ax = b. Singular: vector = w, not zero, with Aw = 0;
- * Ax = b may have solutions all the same.
+ * Ax = b may have solutions all the same. b = 0, as that of size 0, is solved by x = 0 with f = 1 and no pass.
  * bill: three numbers for each pass, in their order: left (n less the degree found before the pass), the pass's degree t
  * and its applications, 2 * left - 1 + t. The verdict's applications are the sum of the passes' and degree - 1 for the
  * close (0 for degree 0). The bill takes as many whole passes as it has room for, and its other places stay as they
@@ -159,7 +160,7 @@ struct filzeur_yes filzeur_takes(uint32_t p, const uint32_t *starts, size_t star
                                  size_t columns_length, const uint32_t *values, size_t values_length, const uint32_t *x,
                                  size_t x_length, const uint32_t *b, size_t b_length);
 
-/* Whether w is not zero and Aw = 0. Refusals: 3 to 7; 8 (w: n elements); 9 (w). */
+/* Whether w is not zero and Aw = 0; the empty w is zero. Refusals: 3 to 7; 8 (w: n elements); 9 (w). */
 struct filzeur_yes filzeur_is_null(uint32_t p, const uint32_t *starts, size_t starts_length, const uint32_t *columns,
                                    size_t columns_length, const uint32_t *values, size_t values_length,
                                    const uint32_t *w, size_t w_length);

@@ -44,14 +44,14 @@ struct Refusal {
             "the text call or program got more than 24,576 bytes",
             "the text exceeds 2,097,152 bytes or breaks the line forms or their order of letters",
             "the modulus is not a prime from 2 to 2,147,483,647",
-            "the size n is not 1 to 4,096, or the starts are empty",
+            "the size n is not 0 to 4,096, or the starts are empty",
             ("the starts don't begin at 0, fall, or don't end at the entry count; columns and values differ in length; "
              "there are over 65,536 entries; or the header's count isn't that of the a lines"),
             "a row or column is out of range or out of order (b lines included)",
             "the value of an entry or of a b line is 0 or at least the modulus",
             "a vector, list or polynomial that is read has a length other than stated",
             "an element of a vector, list or polynomial, or an operand, is at least the modulus",
-            "the words are not a multiple of n, or more than 64 n",
+            "the words are not a multiple of n, or more than 64 n, or there are words and no rows",
             "a slice to be written is not as long as stated, or the text call got n over 128 or over 1,024 entries",
             "the inverse of 0 is wanted",
         };
@@ -129,7 +129,8 @@ struct Field {
     static Result<Element> element(filzeur_element e) { return detail::result(e.refusal, e.value); }
 };
 
-// Row i holds the entries from starts[i] up to but not including starts[i + 1]; columns count from 0.
+// Row i holds the entries from starts[i] up to but not including starts[i + 1]; columns count from 0. The matrix of
+// size 0 has one start, which is 0; one without starts is refused (4).
 struct Matrix {
     std::vector<std::uint32_t> starts, columns;
     Vector values;
@@ -241,8 +242,8 @@ inline Result<Polynomial> recurrence(const Field &field, const Vector &list) {
 // words: R vectors of n random words each, one after the other, R from 0 to 64. The verdict does not depend on them.
 inline Result<Answer> solve(const System &system, const std::vector<std::uint32_t> &words = {}) {
     const auto &[field, a, b] = system;
-    // R; where that is more than 64, or there is no row, the call is refused and the bill stays empty.
-    std::size_t vectors = words.size() / std::max<std::size_t>(1, a.size());
+    // R, which is 0 for size 0; more than 64 vectors are refused, so the bill needs no room for them.
+    std::size_t vectors = a.size() == 0 ? 0 : words.size() / a.size();
     std::size_t passes = std::min<std::size_t>(FILZEUR_MAX_VECTORS, vectors) + a.size();
     detail::Lent<Element> vector(a.size()), polynomial(a.size() + 1), bill(3 * passes), work(16 * a.size() + 16);
     auto verdict = detail::with(filzeur_solve, field, a, detail::place(b), b.size(), detail::place(words), words.size(),

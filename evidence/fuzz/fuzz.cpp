@@ -126,7 +126,7 @@ Expected oracle(std::string_view bytes, size_t answer_length) {
     uint32_t p = text->head[0], n = text->head[1];
     if (!is_prime(p))
         return {3, ""};
-    if (n < 1 || n > 4096)
+    if (n > 4096)
         return {4, ""};
     if (text->head[2] != text->a.size() || text->a.size() > 65536)
         return {5, ""};

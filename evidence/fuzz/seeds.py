@@ -13,6 +13,12 @@ import reference
 import systems
 
 EXAMPLE = 'system 7 2 3\na 1 1 2\na 1 2 1\na 2 2 3\nb 1 1\nb 2 1\nend\n'.replace(' ', '\t')
+NO_ROWS = {  # with nothing left, and what is refused there
+    'good-no-rows': 'system 7 0 0\nend\n',
+    '5-no-rows': 'system 7 0 1\nend\n',
+    '6-no-rows-a': 'system 7 0 1\na 1 1 1\nend\n',
+    '6-no-rows-b': 'system 7 0 0\nb 1 1\nend\n',
+}
 FAULTS = {  # the refusal's number, and how the example gets it
     '2-leading-zero': ('b\t2', 'b\t02'),
     '2-no-end': ('end\n', ''),
@@ -21,7 +27,6 @@ FAULTS = {  # the refusal's number, and how the example gets it
     '2-numeral': ('\t7\t', '\t4294967296\t'),
     '3-composite': ('\t7\t', '\t9\t'),
     '3-too-large': ('\t7\t', '\t2147483659\t'),
-    '4-no-rows': ('7\t2\t3', '7\t0\t3'),
     '4-rows': ('7\t2\t3', '7\t4097\t3'),
     '5-count': ('7\t2\t3', '7\t2\t4'),
     '6-column': ('a\t1\t2', 'a\t1\t3'),
@@ -36,6 +41,8 @@ def main():
     folder = sys.argv[1]
     os.makedirs(folder, exist_ok=True)
     texts = {'good-example': EXAMPLE.encode(), '2-empty': b''}
+    for name, text in NO_ROWS.items():
+        texts[name] = text.replace(' ', '\t').encode()
     for name, (old, new) in FAULTS.items():
         texts[name] = EXAMPLE.replace(old, new, 1).encode()
     source = random.Random(3)

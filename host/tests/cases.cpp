@@ -165,7 +165,7 @@ void system_case(const std::vector<std::string> &lines) {
     Matrix a = matrix_of(lines[1]);
     auto n = static_cast<std::uint32_t>(a.size());
     auto words = numbers(lines[2], "words = ");
-    auto passes = static_cast<std::uint32_t>(words.size()) / n + n; // at most
+    auto passes = (n == 0 ? 0 : static_cast<std::uint32_t>(words.size()) / n) + n; // at most
     Run run{number(lines[1], "p = "), a, numbers(lines[2], " b = "), words, n, n + 1, 3 * passes, 16 * n + 16};
     solver_case(lines[0], run, lines[3]);
 }
@@ -205,8 +205,8 @@ void recurrence_case(const std::vector<std::string> &lines) {
 // ---- Section 3: products and checks ----
 
 void offered_case(const std::string &line) {
-    const Matrix u{{0, 1, 1}, {1}, {1}}; // "A = 0 1 / 0 0"
-    check(has(line, "A = 0 1 / 0 0"), line + ", its matrix");
+    const Matrix u = has(line, "starts ") ? matrix_of(line) : Matrix{{0, 1, 1}, {1}, {1}}; // "A = 0 1 / 0 0"
+    check(has(line, "starts ") || has(line, "A = 0 1 / 0 0"), line + ", its matrix");
     filzeur::Field field{number(line, "p = ")};
     bool offered_x = has(line, "check Ax = b");
     auto x = numbers(line, ", x = "), b = numbers(line, ", b = "), w = numbers(line, ", w = ");
@@ -352,8 +352,8 @@ struct Section {
 };
 
 const std::map<char, Section> sections = {
-    {'1', {system_case, 17}}, {'2', {recurrence_case, 15}}, {'3', {product_case, 21}}, {'4', {reader_case, 29}},
-    {'5', {text_case, 15}},   {'6', {writer_case, 5}},      {'7', {refusal_case, 37}}, {'8', {field_case, 14}},
+    {'1', {system_case, 19}}, {'2', {recurrence_case, 15}}, {'3', {product_case, 36}}, {'4', {reader_case, 39}},
+    {'5', {text_case, 20}},   {'6', {writer_case, 9}},      {'7', {refusal_case, 53}}, {'8', {field_case, 14}},
 };
 
 } // namespace

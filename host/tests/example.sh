@@ -51,5 +51,7 @@ done
 refused 2 ''
 refused 3 'system\t2147483646\t1\t0\nend\n'
 refused 4 'system\t7\t4097\t0\nend\n'
+refused 5 'system\t7\t0\t1\nend\n'
+refused 6 'system\t7\t0\t0\nb\t1\t1\nend\n'
 refused 7 'system\t7\t1\t1\na\t1\t1\t7\nend\n'
 echo "example: passed"

@@ -147,6 +147,8 @@ System draw_system(std::size_t size, std::uint32_t per_row) {
 // Random words, words that are all 0 modulo p, or unit vectors
 std::vector<std::uint32_t> draw_words(std::uint32_t p, std::size_t size, std::size_t vectors) {
     std::vector<std::uint32_t> words(vectors * size);
+    if (words.empty())
+        return words;
     switch (below(3)) {
     case 0:
         for (auto &word : words)
@@ -226,17 +228,18 @@ void bill_lengths(const System &system, const std::vector<std::uint32_t> &words)
             all.push_back(std::uint32_t(number));
     for (std::size_t places : {std::size_t{0}, std::size_t{1}, std::size_t{2}, std::size_t{3}, std::size_t{5},
                                all.size(), all.size() + 1, all.size() + 2, all.size() + 3, 3 * (n + 64)}) {
-        Vector vector(n), f(n + 1), work(16 * n + 16);
-        tests::Slice<std::uint32_t> bill(places, 4294967295);
+        Vector f(n + 1), work(16 * n + 16);
+        tests::Slice<std::uint32_t> vector(n), bill(places, 4294967295);
         auto solve = [&](std::size_t work_length) {
-            return filzeur::detail::with(filzeur_solve, system.field, system.matrix, system.right.data(), n,
-                                         filzeur::detail::place(words), words.size(), vector.data(), n, f.data(), n + 1,
-                                         bill.data(), places, work.data(), work_length);
+            return filzeur::detail::with(filzeur_solve, system.field, system.matrix,
+                                         filzeur::detail::place(system.right), n, filzeur::detail::place(words),
+                                         words.size(), vector.data(), n, f.data(), n + 1, bill.data(), places,
+                                         work.data(), work_length);
         };
         check(solve(work.size() - 1).refusal == 11 && bill.untouched(), "a refused call's bill");
         auto verdict = solve(work.size());
         check(verdict.refusal == 0 && verdict.passes == run.passes && verdict.applications == run.applications &&
-                  vector == run.vector,
+                  vector.ends_as(run.vector),
               "the same run for every bill");
         auto billed = std::ptrdiff_t(std::min(places - places % 3, all.size()));
         check(bill.ends_as(Vector(all.begin(), all.begin() + billed)), "whole passes on a bill");
@@ -380,13 +383,51 @@ void refusals() {
     check(filzeur::recurrence({7}, {}).value() == filzeur::Polynomial{1}, "the empty list");
 }
 
+// Size 0 in every call, and what is refused there.
+void nothing_left() {
+    const filzeur::Matrix a{{0}, {}, {}};
+    const System system{{7}, a, {}};
+    const std::string text = "system\t7\t0\t0\nend\n";
+    auto answer = filzeur::solve(system).value();
+    check(answer.kind == Kind::solved && answer.degree == 0 && answer.passes == 0 && answer.applications == 0 &&
+              answer.vector.empty() && answer.polynomial == Polynomial{1} && answer.bill.empty(),
+          "size 0 is solved");
+    check(filzeur::product({7}, a, {}).value().empty() && filzeur::transposed({7}, a, {}).value().empty() &&
+              filzeur::apply({7}, a, {6}, {}).value().empty(),
+          "size 0, multiplied");
+    check(filzeur::takes({7}, a, {}, {}).value(), "size 0, Ax = b");
+    check(!filzeur::is_null({7}, a, {}).value(), "the empty vector is zero");
+    check(filzeur::write_system(system).value() == text && filzeur::read_system(text).value() == system,
+          "size 0, written and read");
+    check(filzeur::answer_text(text).value() == "answer\tsolved\t0\t0\t0\nclose\t0\nf\t0\t1\nend\n",
+          "size 0, in the text call");
+
+    check(filzeur::solve({{6}, a, {}}).refusal().number == 3, "size 0, and a composite modulus");
+    check(filzeur::solve({{7}, {{1}, {}, {}}, {}}).refusal().number == 5, "size 0, and its start is 1");
+    check(filzeur::solve({{7}, {{0}, {0}, {1}}, {}}).refusal().number == 5, "size 0, and an entry");
+    check(filzeur::solve({{7}, a, {0}}, {1}).refusal().number == 8, "size 0, and b has an element");
+    check(filzeur::solve(system, {1}).refusal().number == 10, "size 0, and a word");
+    check(filzeur::solve(system, Vector(64)).refusal().number == 10, "size 0, and 64 words");
+    check(filzeur::product({7}, a, {0}).refusal().number == 8, "size 0, and v has an element");
+    check(filzeur::transposed({7}, a, {0}).refusal().number == 8, "size 0, and v has an element, transposed");
+    check(filzeur::apply({7}, a, {}, {}).refusal().number == 8, "size 0, and no polynomial");
+    check(filzeur::apply({7}, a, {1, 1}, {}).refusal().number == 8, "size 0, and two coefficients");
+    check(filzeur::apply({7}, a, {7}, {}).refusal().number == 9, "size 0, and a coefficient 7");
+    check(filzeur::takes({7}, a, {}, {0}).refusal().number == 8, "size 0, and b has an element, taken");
+    check(filzeur::is_null({7}, a, {1}).refusal().number == 8, "size 0, and w has an element");
+    check(filzeur::write_system({{7}, a, {0}}).refusal().number == 8, "size 0, and b has an element, written");
+    check(filzeur::read_system("system\t7\t0\t1\nend\n").refusal().number == 5, "size 0, and a count of 1");
+    check(filzeur::read_system("system\t7\t0\t1\na\t1\t1\t1\nend\n").refusal().number == 6, "size 0, and an a line");
+    check(filzeur::answer_text("system\t7\t0\t0\nb\t1\t1\nend\n").refusal().number == 6, "size 0, and a b line");
+}
+
 } // namespace
 
 int main(int argc, char **argv) {
     std::uint32_t seed = argc == 2 ? std::uint32_t(std::strtoul(argv[1], nullptr, 10)) : 1;
     generator.seed(seed);
     for (int i = 0; i < 600; ++i) {
-        auto system = draw_system(1 + below(i % 10 == 0 ? 30 : 9), 1 + below(4));
+        auto system = draw_system(i % 8 == 1 ? 0 : 1 + below(i % 10 == 0 ? 30 : 9), 1 + below(4));
         products(system);
         text(system);
         solver(system);
@@ -396,6 +437,7 @@ int main(int argc, char **argv) {
     }
     earlier_code();
     refusals();
+    nothing_left();
     largest();
     return tests::report("random");
 }
