@@ -1,7 +1,7 @@
 """Reference implementation of document 01 (Wiedemann solver modulo word-size primes).
 
 Plain Python 3, standard library only.  Written from 00-conditions.md, 01-scope.md, requests (i) and (ii) of
-02-change-requests.md and source 002 alone.
+02-change-requests.md and source 002 alone; but whoever wrote the cases of n = 0 had seen the library's checks 4 and 10.
 
 Every public call takes lists of ints (32-bit numbers, 0 .. 2**32 - 1) or bytes, never changes an argument, and
 returns either ('ok', ...) or ('refused', number).  A lent slice that is written is passed in with its old contents

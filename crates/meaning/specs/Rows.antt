@@ -239,10 +239,11 @@ more-cases =
     -- the terms of a pass after another: 2 × left, and not 2 × n
     ∷ pass-takes 2 (matrix (0 ∷ 0 ∷ 1 ∷ []) (1 ∷ []) (1 ∷ [])) (1 ∷ 1 ∷ []) ((1 ∷ 0 ∷ []) ∷ []) (0 ∷ 1 ∷ []) (1 ∷ 1 ∷ [])
     ∷ pass-takes 5 (matrix (0 ∷ 1 ∷ 2 ∷ 3 ∷ []) (0 ∷ 1 ∷ 2 ∷ []) (1 ∷ 2 ∷ 3 ∷ [])) (1 ∷ 1 ∷ 1 ∷ []) ((1 ∷ 0 ∷ 0 ∷ []) ∷ []) (0 ∷ 1 ∷ 0 ∷ []) (1 ∷ 2 ∷ 4 ∷ 3 ∷ [])
-    -- the solver's refusals, two causes in most of them: the first in order counts
+    -- the solver's refusals, two causes in most of them: the first in order counts; 4,097 rows are 4, of 4,096 the first start is looked at
     ∷ solver-refuses 9 (matrix [] (0 ∷ 1 ∷ []) (2 ∷ 3 ∷ [])) (1 ∷ 1 ∷ []) [] 2 3 48 3
     ∷ solver-refuses 7 (matrix [] [] (2 ∷ 3 ∷ [])) (1 ∷ 1 ∷ []) [] 2 3 48 4
-    ∷ solver-refuses 7 (matrix (replicate 4098 0) [] []) [] [] 0 1 16 4
+    ∷ solver-refuses 7 (matrix (replicate 4098 1) [] []) [] [] 0 1 16 4
+    ∷ solver-refuses 7 (matrix (replicate 4097 1) [] []) [] [] 0 1 16 5
     ∷ solver-refuses 7 (matrix (1 ∷ 1 ∷ 2 ∷ []) (0 ∷ 1 ∷ []) (2 ∷ 3 ∷ [])) (1 ∷ 1 ∷ []) [] 2 3 48 5
     ∷ solver-refuses 7 (matrix (0 ∷ 2 ∷ 1 ∷ 2 ∷ []) (0 ∷ 1 ∷ []) (2 ∷ 3 ∷ [])) (1 ∷ 1 ∷ []) [] 2 3 48 5
     ∷ solver-refuses 7 (matrix (0 ∷ 1 ∷ 1 ∷ []) (0 ∷ 1 ∷ []) (2 ∷ 3 ∷ [])) (1 ∷ 1 ∷ []) [] 2 3 48 5
@@ -303,7 +304,8 @@ more-cases =
     ∷ reader-refuses "system\t7\t1\t0\r\nend\r\n" 5 4 4 4 2
     ∷ reader-refuses "" 5 4 4 4 2
     ∷ reader-refuses "system\t9\t0\t0\nend\n" 5 4 4 4 3
-    ∷ reader-refuses "system\t7\t4097\t0\nend\n" 5 4 4 4 4
+    ∷ reader-refuses "system\t7\t4097\t1\nend\n" 5 4 4 4 4
+    ∷ reader-refuses "system\t7\t4096\t1\nend\n" 5 4 4 4 5
     ∷ reader-refuses "system\t7\t1\t2\na\t1\t2\t1\nend\n" 5 4 4 4 5
     ∷ reader-refuses "system\t7\t2\t2\na\t2\t1\t0\na\t1\t1\t1\nend\n" 5 4 4 4 6
     ∷ reader-refuses "system\t7\t2\t2\na\t1\t1\t1\na\t1\t1\t2\nend\n" 5 4 4 4 6
@@ -358,7 +360,7 @@ more-cases =
 
 pub more-rows : AllHold more-cases
 unfolding compute
-more-rows = (refl, (refl, (refl, (refl, (refl, (refl, (refl, (refl, (refl, (refl, (refl, (refl, (refl, (refl, (refl, (refl, (refl, (refl, (refl, (refl, (refl, (refl, (refl, (refl, (refl, (refl, (refl, (refl, (refl, (refl, (refl, (refl, (refl, (refl, (refl, (refl, (refl, (refl, (refl, (refl, (refl, (refl, (refl, (refl, (refl, (refl, (refl, (refl, (refl, (refl, (refl, (refl, (refl, (refl, (refl, (refl, (refl, (refl, (refl, (refl, (refl, (refl, (refl, (refl, (refl, (refl, (refl, (refl, (refl, (refl, (refl, (refl, (refl, (refl, (refl, (refl, (refl, (refl, (refl, (refl, (refl, (refl, (refl, (refl, (refl, (refl, (refl, (refl, (refl, (refl, (refl, (refl, (refl, (refl, (refl, (refl, (refl, (refl, (refl, (refl, (refl, (refl, (refl, (refl, (refl, (refl, (refl, (refl, (refl, (refl, (refl, (refl, (refl, (refl, (refl, (refl, (refl, (refl, (refl, (refl, (refl, tt)))))))))))))))))))))))))))))))))))))))))))))))))))))))))))))))))))))))))))))))))))))))))))))))))))))))))))))))))))))))))
+more-rows = (refl, (refl, (refl, (refl, (refl, (refl, (refl, (refl, (refl, (refl, (refl, (refl, (refl, (refl, (refl, (refl, (refl, (refl, (refl, (refl, (refl, (refl, (refl, (refl, (refl, (refl, (refl, (refl, (refl, (refl, (refl, (refl, (refl, (refl, (refl, (refl, (refl, (refl, (refl, (refl, (refl, (refl, (refl, (refl, (refl, (refl, (refl, (refl, (refl, (refl, (refl, (refl, (refl, (refl, (refl, (refl, (refl, (refl, (refl, (refl, (refl, (refl, (refl, (refl, (refl, (refl, (refl, (refl, (refl, (refl, (refl, (refl, (refl, (refl, (refl, (refl, (refl, (refl, (refl, (refl, (refl, (refl, (refl, (refl, (refl, (refl, (refl, (refl, (refl, (refl, (refl, (refl, (refl, (refl, (refl, (refl, (refl, (refl, (refl, (refl, (refl, (refl, (refl, (refl, (refl, (refl, (refl, (refl, (refl, (refl, (refl, (refl, (refl, (refl, (refl, (refl, (refl, (refl, (refl, (refl, (refl, (refl, (refl, tt)))))))))))))))))))))))))))))))))))))))))))))))))))))))))))))))))))))))))))))))))))))))))))))))))))))))))))))))))))))))))))
 
 -- document 02, request (ii): "size 0 with one start of 0 and no entries"
 abbrev pub nothing-left-cases : List Case
