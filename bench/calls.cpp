@@ -5,27 +5,36 @@ namespace {
 
 uint8_t *bytes(std::string &text) { return reinterpret_cast<uint8_t *>(text.data()); }
 
-void refused(Case &c, uint32_t refusal) { c.numbers = {refusal, 0, 0, 0, 0, 0}; }
+void refused(Case &c, uint32_t refusal) { c.numbers = {refusal, 0, 0, 0, 0, 0, 0}; }
 
 void field(Case &c) { refused(c, filzeur_field(c.s.p)); }
 
+// What a product answers: before version 4 the refusal alone.
+#if FILZEUR_VERSION >= 4
+void written(Case &c, filzeur_written answer) {
+    c.numbers = {answer.refusal, 0, 0, 0, 0, answer.multiplied, 0};
+}
+#else
+void written(Case &c, uint32_t refusal) { refused(c, refusal); }
+#endif
+
 void product(Case &c) {
     const System &s = c.s;
-    refused(c, filzeur_product(s.p, s.starts.data(), s.starts.size(), s.columns.data(), s.columns.size(),
+    written(c, filzeur_product(s.p, s.starts.data(), s.starts.size(), s.columns.data(), s.columns.size(),
                                s.values.data(), s.values.size(), c.v.data(), c.v.size(), c.out.data(),
                                c.out.size()));
 }
 
 void transposed(Case &c) {
     const System &s = c.s;
-    refused(c, filzeur_transposed(s.p, s.starts.data(), s.starts.size(), s.columns.data(), s.columns.size(),
+    written(c, filzeur_transposed(s.p, s.starts.data(), s.starts.size(), s.columns.data(), s.columns.size(),
                                   s.values.data(), s.values.size(), c.v.data(), c.v.size(), c.out.data(),
                                   c.out.size()));
 }
 
 void apply(Case &c) {
     const System &s = c.s;
-    refused(c, filzeur_apply(s.p, s.starts.data(), s.starts.size(), s.columns.data(), s.columns.size(),
+    written(c, filzeur_apply(s.p, s.starts.data(), s.starts.size(), s.columns.data(), s.columns.size(),
                              s.values.data(), s.values.size(), s.g.data(), s.g.size(), c.v.data(), c.v.size(),
                              c.out.data(), c.out.size(), c.work.data(), c.work.size()));
 }
@@ -34,7 +43,7 @@ void recurrence(Case &c) {
     filzeur_degree answer =
         filzeur_recurrence(c.s.p, c.terms.data(), c.terms.size(), c.generator.data(), c.generator.size(),
                            c.recurrence_work.data(), c.recurrence_work.size());
-    c.numbers = {answer.refusal, 0, answer.degree, 0, 0, 0};
+    c.numbers = {answer.refusal, 0, answer.degree, 0, 0, 0, 0};
 }
 
 void solve(Case &c) {
@@ -47,7 +56,12 @@ void solve(Case &c) {
         c.bill.data(), c.bill.size(),
 #endif
         c.work.data(), c.work.size());
-    c.numbers = {answer.refusal, answer.kind, answer.degree, answer.passes, answer.applications, 0};
+    uint64_t multiplied = 0;
+#if FILZEUR_VERSION >= 4
+    multiplied = answer.multiplied;
+#endif
+    c.numbers = {answer.refusal,      answer.kind, answer.degree, answer.passes,
+                 answer.applications, multiplied,  0};
 }
 
 void write(Case &c) {
@@ -57,13 +71,13 @@ void write(Case &c) {
         filzeur_write(s.p, s.starts.data(), s.starts.size(), s.columns.data(), s.columns.size(),
                       s.values.data(), s.values.size(), s.b.data(), s.b.size(), bytes(c.text), c.text.size());
     c.text.resize(answer.length);
-    c.numbers = {answer.refusal, 0, 0, 0, 0, answer.length};
+    c.numbers = {answer.refusal, 0, 0, 0, 0, 0, answer.length};
 }
 
 void text(Case &c) {
     uint64_t answer = filzeur_text(bytes(c.text), c.text.size(), bytes(c.answer), c.answer.size());
     bool taken = answer > 18;
-    c.numbers = {taken ? 0 : answer, 0, 0, 0, 0, taken ? answer : 0};
+    c.numbers = {taken ? 0 : answer, 0, 0, 0, 0, 0, taken ? answer : 0};
 }
 
 } // namespace

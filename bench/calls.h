@@ -19,7 +19,7 @@ struct Case {
     Vector out, vector, f, bill, work, generator, recurrence_work;
     std::string answer; // the text call's
     struct Numbers {
-        uint64_t refusal, kind, degree, passes, applications, length;
+        uint64_t refusal, kind, degree, passes, applications, multiplied, length;
     } numbers{}; // of the last call
 };
 

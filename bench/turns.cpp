@@ -81,24 +81,34 @@ void race(std::vector<Library> &libraries, Call call, Case &c) {
                 library.best = std::min(library.best, turn(library.places[place]->*call, c, repeats));
 }
 
-// What a call leaves where nothing was there before. The bill and the answer's text only if asked for: they are the
-// same from version 2 on.
-auto left_by(void (*call)(Case &), Case &c, bool billed) {
+// The answer's text without the entries multiplied, the sixth field of its first line from version 4 on.
+std::string uncounted(std::string text) {
+    size_t end = std::min(text.find('\n'), text.size()), tab = 0;
+    for (int field = 1; field < 6; field++)
+        tab = std::min(text.find('\t', tab + 1), end);
+    return text.erase(tab, end - tab);
+}
+
+// What a call leaves where nothing was there before, as far as both versions have it: the bill and the answer's
+// text from 2 on, the entries multiplied from 4 on.
+auto left_by(void (*call)(Case &), Case &c, int version) {
     for (Vector *slice : {&c.out, &c.vector, &c.f, &c.bill, &c.generator})
         std::fill(slice->begin(), slice->end(), 0);
     call(c);
     const Case::Numbers &n = c.numbers;
+    bool billed = version >= 2, counted = version >= 4;
+    std::string answer = c.answer.substr(0, billed ? n.length : 0);
     return std::make_tuple(c.out, c.vector, c.f, c.generator, billed ? c.bill : Vector(),
-                           c.answer.substr(0, billed ? n.length : 0), n.refusal, n.kind, n.degree, n.passes,
-                           n.applications);
+                           counted ? answer : uncounted(answer), n.refusal, n.kind, n.degree, n.passes,
+                           n.applications, counted ? n.multiplied : 0);
 }
 
 // Whether the two leave the same.
 bool same(const std::vector<Library> &libraries, Call call, Case &c) {
     const Calls &one = *libraries[0].places[0], &other = *libraries[1].places[0];
-    bool billed = std::min(one.version, other.version) >= 2;
-    auto first = left_by(one.*call, c, billed);
-    return left_by(other.*call, c, billed) == first;
+    int version = std::min(one.version, other.version);
+    auto first = left_by(one.*call, c, version);
+    return left_by(other.*call, c, version) == first;
 }
 
 // ---- the table

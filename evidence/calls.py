@@ -24,19 +24,16 @@ BAD_MODULI = [0, 1, 4, 9, 91, 561, 65536, 2147483646, 2147483648, 2147483659, 42
 
 # ---- a call: its name, what it gets, and what is expected. `reads` are numbers and lists, `writes` lengths.
 
-def expected_vector(result):
-    return [len(result[1])] + result[1]
-
-
-def expected_recurrence(result):
+def expected_slice(result):
+    """A number, and the slice that is written."""
     return [result[1], len(result[2])] + result[2]
 
 
 def expected_solve(result):
-    kind, D, passes, applications, vector, polynomial, bill = result[1:]
+    kind, D, passes, applications, multiplied, vector, polynomial, bill = result[1:]
     number = 1 if kind == 'solved' else 2
     billed = bill[:3 * min(passes, len(bill) // 3)]
-    return ([number, D, passes, applications, len(billed)] + billed + [len(vector)] + vector +
+    return ([number, D, passes, applications, multiplied, len(billed)] + billed + [len(vector)] + vector +
             [len(polynomial)] + polynomial)
 
 
@@ -49,8 +46,8 @@ def expected_bytes(result):
     return [result[1]] + list(result[2][:result[1]])
 
 
-def expected_number(result):
-    return [int(result[1])]
+def expected_numbers(result):
+    return [int(number) for number in result[1:]]
 
 
 def expected_nothing(result):
@@ -60,17 +57,17 @@ def expected_nothing(result):
 # name: (the reference, what it answers if it accepts, how many numbers stand as 0 after a refusal)
 CALLS = {
     'field': (reference.field, expected_nothing, 0),
-    'sum': (reference.field_sum, expected_number, 1),
-    'difference': (reference.field_difference, expected_number, 1),
-    'product_of': (reference.field_product, expected_number, 1),
-    'inverse': (reference.field_inverse, expected_number, 1),
-    'product': (reference.product, expected_vector, 0),
-    'transposed': (reference.transposed_product, expected_vector, 0),
-    'apply': (reference.polynomial_apply, expected_vector, 0),
-    'recurrence': (reference.recurrence, expected_recurrence, 1),
-    'solve': (reference.solve, expected_solve, 5),
-    'takes': (reference.check_solution, expected_number, 1),
-    'is_null': (reference.check_kernel, expected_number, 1),
+    'sum': (reference.field_sum, expected_numbers, 1),
+    'difference': (reference.field_difference, expected_numbers, 1),
+    'product_of': (reference.field_product, expected_numbers, 1),
+    'inverse': (reference.field_inverse, expected_numbers, 1),
+    'product': (reference.product, expected_slice, 1),
+    'transposed': (reference.transposed_product, expected_slice, 1),
+    'apply': (reference.polynomial_apply, expected_slice, 1),
+    'recurrence': (reference.recurrence, expected_slice, 1),
+    'solve': (reference.solve, expected_solve, 6),
+    'takes': (reference.check_solution, expected_numbers, 2),
+    'is_null': (reference.check_kernel, expected_numbers, 2),
     'read': (reference.read_system, expected_read, 3),
     'write': (reference.write_system, expected_bytes, 1),
     'text': (reference.text_call, expected_bytes, 1),
@@ -141,12 +138,12 @@ def right_call(source, name):
         s = some_vector(source, source.randrange(0, 30), source.choice([p, min(p, 2), min(p, 3)]))
         return Call(name, [p, s], [len(s) + 1, 4 * len(s) + 8 + source.randrange(3)])
     if name == 'solve':
-        passes = len(reference.solver_steps(*matrix, b, words)[4])
+        passes = len(reference.solver_steps(*matrix, b, words)[5])
         bill = some_bill(source, passes, 3 * (reference.vectors_of(n, words) + n))
         return Call(name, matrix + [b, words], [n, n + 1, bill, 16 * n + 16 + source.randrange(3)])
     answer = reference.solver_steps(p, starts, columns, values, b, [])[2]
     if name == 'takes':
-        return Call(name, matrix + [source.choice([answer, b]), b])
+        return Call(name, matrix + [source.choice([answer, b, [0] * n]), b])
     if name == 'is_null':
         return Call(name, matrix + [source.choice([answer, b, [0] * n])])
     text = reference.system_text(p, starts, columns, values, b)
@@ -240,6 +237,10 @@ def limit_calls():
         columns = list(range(16)) * 4095 + list(range(last))
         values = [1] * len(columns)
         yield Call('product', [2, starts, columns, values, [1] * 4096], [4096])
+        yield Call('transposed', [2, starts, columns, values, [1] * 4096], [4096])
+        yield Call('apply', [2, starts, columns, values, [1] * 4, [0] * 4096], [4096, 8192])
+        yield Call('takes', [2, starts, columns, values, [0] * 4096, [0] * 4096])
+        yield Call('is_null', [2, starts, columns, values, [0] * 4096])
         yield Call('write', [2, starts, columns, values, [1] * 4096], [2000000])
     for terms in (8192, 8193):
         yield Call('recurrence', [3, [0] * terms], [terms + 1, 4 * terms + 8])
@@ -293,7 +294,7 @@ def empty_calls():
             text = b''.join(reference.line(*fields) for fields in [('system', *head), *body, ('end',)])
             for room in ((0, 0, 0, 0), (1, 0, 0, 0), (5, 4, 3, 2)):
                 yield Call('read', [text], room)
-            for length in (0, 38, ANSWER - 1, ANSWER):
+            for length in (0, 40, ANSWER - 1, ANSWER):
                 yield Call('text', [text], [length])
 
 

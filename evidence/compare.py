@@ -4,13 +4,15 @@
     evidence/compare.py COUNT SEED [--largest N] [--budget B]
     evidence/compare.py --gate
 
-Makes COUNT systems from SEED (systems.py), gives each to the static library through driver.cpp, and holds
-  - kind, D, passes, applications, the bill's lines, vector and polynomial to a second implementation (second.cpp), and
-    where the system is small also to the reference in Python (reference.py), two programs that share no code with the
-    library;
+Makes COUNT systems from SEED (systems.py) and one that multiplies over 2³² entries, gives each to the static library
+through driver.cpp, and holds
+  - kind, D, passes, applications, entries multiplied, the bill's lines, vector and polynomial to a second implementation
+    (second.cpp), and where the system is small also to the reference in Python (reference.py), two programs that share
+    no code with the library and count the entries one by one;
   - kind, D and f to dense elimination: the ranks of the Krylov vectors b, Ab, .. and of Ab, A²b, .., and their first
     dependence; by dense.cpp, by FLINT (Debian's libflint-dev) and by PARI (pari-gp), where these are installed;
-  - the vector to its meaning, Ax = b, or w is not zero and Aw = 0; and the bill to its sum.
+  - the vector to its meaning, Ax = b, or w is not zero and Aw = 0; the bill to its sum; and the entries multiplied to
+    applications × entries.
 
 --gate is a small fixed set that needs python3 and g++ only. The library is target/staticlib/libhost.a, or what
 FILZEUR_LIBRARY names. Exit status 0: nothing differs."""
@@ -43,14 +45,15 @@ class Answer:
     def __init__(self, line, n):
         self.harm = line.startswith('harm')
         numbers = [int(word) for word in line.replace('harm', '').split()]
-        self.refusal, self.kind, self.degree, self.passes, self.applications, billed = numbers[:6]
-        self.bill = [tuple(numbers[k:k + 3]) for k in range(6, 6 + billed, 3)]
-        slices = numbers[6 + billed:]
+        self.refusal, self.kind, self.degree, self.passes, self.applications, self.multiplied, billed = numbers[:7]
+        self.bill = [tuple(numbers[k:k + 3]) for k in range(7, 7 + billed, 3)]
+        slices = numbers[7 + billed:]
         self.vector = slices[1:1 + n]
         self.polynomial = slices[2 + n:]
 
     def all(self):
-        return (self.kind, self.degree, self.passes, self.applications, self.bill, self.vector, self.polynomial)
+        return (self.kind, self.degree, self.passes, self.applications, self.multiplied, self.bill, self.vector,
+                self.polynomial)
 
 
 def adds_up(answer, n):
@@ -65,24 +68,25 @@ def adds_up(answer, n):
 
 
 def holds_itself(system, answer):
-    """What can be said of the answer alone: its vector's meaning, a monic f, zeros after it, its bill."""
+    """What can be said of the answer alone: its vector's meaning, a monic f, zeros after it, its bill, its count of entries."""
     what, p, starts, columns, values, b, words = system
     n, D = len(b), answer.degree
     if answer.harm or answer.refusal or answer.kind not in KINDS:
         return False
-    image = reference.times(p, starts, columns, values, answer.vector)
+    image, entries = reference.times(p, starts, columns, values, answer.vector)
     right = image == b if answer.kind == 1 else any(answer.vector) and not any(image)
     shape = D <= n and answer.polynomial[D] == 1 and not any(answer.polynomial[D + 1:])
-    return right and shape and answer.passes <= reference.vectors_of(n, words) + n and adds_up(answer, n)
+    counted = adds_up(answer, n) and answer.multiplied == answer.applications * entries
+    return right and shape and answer.passes <= reference.vectors_of(n, words) + n and counted
 
 
 def by_reference(system):
     what, p, starts, columns, values, b, words = system
     n = len(b)
-    kind, F, vector, applications, passes = reference.solver_steps(p, starts, columns, values, b, words)
+    kind, F, vector, applications, multiplied, passes = reference.solver_steps(p, starts, columns, values, b, words)
     number = 1 if kind == 'solved' else 2
     bill = reference.bill_of(passes)
-    return (number, len(F) - 1, len(passes), applications, bill, vector, F + [0] * (n + 1 - len(F)))
+    return (number, len(F) - 1, len(passes), applications, multiplied, bill, vector, F + [0] * (n + 1 - len(F)))
 
 
 def agrees_with_dense(report, answer):
@@ -130,7 +134,8 @@ def compare(made, budget, packages):
     answers = [Answer(line, len(system[5])) for line, system in zip(tools.ask(tools.driver(), lines), made)]
 
     for system, answer in zip(made, answers):
-        tally.hold('the meaning of its vector and the sum of its bill', system, holds_itself(system, answer))
+        tally.hold('the meaning of its vector, the sum of its bill and applications × entries', system,
+                   holds_itself(system, answer))
 
     second = tools.ask(tools.build('second', 'second.cpp'), lines)
     for system, answer, line in zip(made, answers, second):
@@ -177,6 +182,17 @@ def gate_set():
     return made
 
 
+def beyond_32_bits():
+    """As many entries as there can be, in a matrix of rank 16, and eight vectors of zeros before one that ends the run: over 2³²
+    entries are multiplied."""
+    source, p, n = random.Random(6), 2147483647, 4096
+    columns = list(range(n - 16, n)) * n
+    values = [1 + source.randrange(p - 1) for _ in columns]
+    b = [source.randrange(p) for _ in range(n)]
+    words = [0] * (8 * n) + [source.randrange(2 ** 32) for _ in range(n)]
+    return 'over 2³² entries multiplied', p, list(range(0, 16 * n + 1, 16)), columns, values, b, words
+
+
 def main():
     parser = argparse.ArgumentParser(description='Holds the solver against other tools.')
     parser.add_argument('count', type=int, nargs='?', default=300)
@@ -192,15 +208,17 @@ def main():
     else:
         source = random.Random(chosen.seed)
         made = [systems.make(source, chosen.largest) for _ in range(chosen.count)]
+    made.append(beyond_32_bits())
     tally, answers = compare(made, 3e7 if chosen.gate else chosen.budget, not chosen.gate)
 
     kinds = collections.Counter(KINDS.get(answer.kind, 'refused') for answer in answers)
     several = sum(answer.passes > 1 for answer in answers)
     sizes = [len(system[5]) for system in made]
-    print('%d systems of %d to %d rows, %d of them of size 0: %s; %d with more than one pass, %d passes billed; %.0f seconds' % (
-        len(made), min(sizes), max(sizes), sizes.count(0),
-        ', '.join('%d %s' % (kinds[kind], kind) for kind in sorted(kinds)), several,
-        sum(len(answer.bill) for answer in answers), time.time() - began))
+    print('%d systems of %d to %d rows, %d of them of size 0: %s; %d with more than one pass, %d passes billed, '
+          'at most %d entries multiplied; %.0f seconds' % (
+              len(made), min(sizes), max(sizes), sizes.count(0),
+              ', '.join('%d %s' % (kinds[kind], kind) for kind in sorted(kinds)), several,
+              sum(len(answer.bill) for answer in answers), max(answer.multiplied for answer in answers), time.time() - began))
     for tool, held in tally.held.items():
         print('%6d held to %s' % (held, tool))
     print('compare: %d differ' % tally.differ)

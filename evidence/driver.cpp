@@ -126,14 +126,16 @@ template <decltype(filzeur_product) *function> void product(Call &call) {
     uint32_t p = call.number();
     Matrix a(call);
     Words &v = call.reads(), &out = call.writes();
-    answer(call, function(p, M(a), S(v), S(out)), {}, {&out});
+    filzeur_written w = function(p, M(a), S(v), S(out));
+    answer(call, w.refusal, {w.multiplied}, {&out});
 }
 
 void apply(Call &call) {
     uint32_t p = call.number();
     Matrix a(call);
     Words &g = call.reads(), &v = call.reads(), &out = call.writes(), &work = call.writes();
-    answer(call, filzeur_apply(p, M(a), S(g), S(v), S(out), S(work)), {}, {&out});
+    filzeur_written w = filzeur_apply(p, M(a), S(g), S(v), S(out), S(work));
+    answer(call, w.refusal, {w.multiplied}, {&out});
 }
 
 void recurrence(Call &call) {
@@ -151,7 +153,7 @@ void solve(Call &call) {
     Words &vector = call.writes(), &polynomial = call.writes(), &bill = call.writes(), &work = call.writes();
     filzeur_verdict v = filzeur_solve(p, M(a), S(b), S(words), S(vector), S(polynomial), S(bill), S(work));
     size_t billed = 3 * std::min<size_t>(v.passes, bill.size() / 3);
-    std::vector<uint64_t> numbers{v.kind, v.degree, v.passes, v.applications, billed};
+    std::vector<uint64_t> numbers{v.kind, v.degree, v.passes, v.applications, v.multiplied, billed};
     numbers.insert(numbers.end(), bill.begin(), bill.begin() + billed);
     if (!bill.kept(billed))
         std::cout << "harm ";
@@ -163,7 +165,7 @@ void takes(Call &call) {
     Matrix a(call);
     Words &x = call.reads(), &b = call.reads();
     filzeur_yes y = filzeur_takes(p, M(a), S(x), S(b));
-    answer(call, y.refusal, {y.yes});
+    answer(call, y.refusal, {y.yes, y.multiplied});
 }
 
 void is_null(Call &call) {
@@ -171,7 +173,7 @@ void is_null(Call &call) {
     Matrix a(call);
     Words &w = call.reads();
     filzeur_yes y = filzeur_is_null(p, M(a), S(w));
-    answer(call, y.refusal, {y.yes});
+    answer(call, y.refusal, {y.yes, y.multiplied});
 }
 
 // The reader leaves the rest of its slices, so the answer holds only what it fills.

@@ -32,7 +32,7 @@ def answer_line(got):
 put('Cases worked out by reference.py (made by makecases.py; do not edit by hand).')
 put('Matrices are given as dense rows "r1 / r2 / .." and as slices (starts; columns; values, columns from 0).')
 put('Polynomials lowest power first.  Output slices have exactly the stated length and hold 9 before, unless said.')
-put('"tells apart" names the wrong solvers of mutants.py that give another answer (kind, D, passes, applications, vector, f, bill, close; or refusal).')
+put('"tells apart" names the wrong solvers of mutants.py that give another answer (kind, D, passes, applications, entries multiplied, vector, f, bill, close; or refusal).')
 put()
 
 # ------------------------------------------------------------------ systems
@@ -67,13 +67,14 @@ for k, (what, p, M, b, words) in enumerate(systems, 1):
     S = selftest.dense_to_sparse(M)
     selftest.check_system(p, n, M, b, [words, []])
     got = ref.solve(p, *S, b, words, [9] * n, [9] * (n + 1), [9] * (3 * (ref.vectors_of(n, words) + n)), [9] * (16 * n + 16))
-    kind, D, passes, apps, vector, poly, bill = got[1:]
+    kind, D, passes, apps, multiplied, vector, poly, bill = got[1:]
     put('1.%d  %s' % (k, what))
     put('   p = %d, n = %d, A = %s   (starts %s; columns %s; values %s)' % (p, n, rows(M), nums(S[0]), nums(S[1]), nums(S[2])))
     put('   b = %s; words = %s' % (nums(b), nums(words)))
-    put('   -> %s, D = %d, passes = %d, applications = %d, %s = %s, polynomial slice = %s, bill = %s, close = %d' %
-        (kind, D, passes, apps, 'x' if kind == 'solved' else 'w', nums(vector), nums(poly), nums(bill[:3 * passes]), ref.close_of(D)))
-    for i, (u, left, terms, f, after, made) in enumerate(ref.solver_steps(p, *S, b, words)[4], 1):
+    put('   -> %s, D = %d, passes = %d, applications = %d, multiplied = %d, %s = %s, polynomial slice = %s, bill = %s, close = %d' %
+        (kind, D, passes, apps, multiplied, 'x' if kind == 'solved' else 'w', nums(vector), nums(poly), nums(bill[:3 * passes]),
+         ref.close_of(D)))
+    for i, (u, left, terms, f, after, made) in enumerate(ref.solver_steps(p, *S, b, words)[5], 1):
         put('      pass %d: u = %s, left = %d, terms = %s, f = %s, degree %d, r becomes %s, applications %d' %
             (i, nums(u), left, nums(terms), nums(f), len(f) - 1, nums(after), made))
     if 'full degree' in what or 'one pass is enough' in what:
@@ -113,7 +114,7 @@ put('2.r5 p = 7, 8193 zeros, slices as stated -> ' + answer_line(ref.recurrence(
 put()
 
 # ------------------------------------------------------------------ products
-put('=== 3. PRODUCTS ===')
+put('=== 3. PRODUCTS (the answer, and how many entries were multiplied) ===')
 A3 = [[1, 2, 0], [0, 0, 3], [4, 0, 0]]
 S3 = selftest.dense_to_sparse(A3)
 U = [[0, 1], [0, 0]]
@@ -125,7 +126,11 @@ def show(tag, call, p, M, v, got, g=None):
     S = selftest.dense_to_sparse(M)
     put('%s %s: p = %d, A = %s (starts %s; columns %s; values %s), %sv = %s -> %s' %
         (tag, call, p, rows(M), nums(S[0]), nums(S[1]), nums(S[2]), '' if g is None else 'g = %s, ' % nums(g), nums(v),
-         nums(got[1]) if got[0] == 'ok' else 'refused %d' % got[1]))
+         '%s, multiplied = %d' % (nums(got[2]), got[1]) if got[0] == 'ok' else 'refused %d' % got[1]))
+
+
+def offered(tag, what, got):
+    put('%s check %s -> %s' % (tag, what, '%s, multiplied = %d' % got[1:] if got[0] == 'ok' else answer_line(got)))
 
 
 show('3.1', 'product', 5, A3, [1, 2, 3], ref.product(5, *S3, [1, 2, 3], [9] * 3))
@@ -141,6 +146,11 @@ show('3.10', 'product', 7, [], [], ref.product(7, [0], [], [], [], []))
 show('3.11', 'transposed product', 7, [], [], ref.transposed_product(7, [0], [], [], [], []))
 show('3.12', 'g(A)v', 7, [], [], ref.polynomial_apply(7, [0], [], [], [6], [], [], []), [6])
 show('3.13', 'g(A)v with a work slice of 1', 7, [], [], ref.polynomial_apply(7, [0], [], [], [0], [], [], [9]), [0])
+show('3.14', 'product', 5, A3, [0, 0, 0], ref.product(5, *S3, [0, 0, 0], [9] * 3))
+show('3.15', 'transposed product', 5, A3, [0, 0, 0], ref.transposed_product(5, *S3, [0, 0, 0], [9] * 3))
+show('3.16', 'g(A)v', 5, A3, [0, 0, 0], ref.polynomial_apply(5, *S3, [1, 1], [0, 0, 0], [9] * 3, [9] * 6), [1, 1])
+show('3.17', 'g(A)v', 5, A3, [1, 2, 3], ref.polynomial_apply(5, *S3, [4], [1, 2, 3], [9] * 3, [9] * 6), [4])
+show('3.18', 'g(A)v', 2, [[0, 0], [0, 0]], [1, 1], ref.polynomial_apply(2, *Z, [1, 1, 1], [1, 1], [9] * 2, [9] * 4), [1, 1, 1])
 show('3.r1', 'g(A)v', 7, U, [3, 5], ref.polynomial_apply(7, *SU, [], [3, 5], [9] * 2, [9] * 4), [])
 show('3.r2', 'g(A)v', 7, U, [3, 5], ref.polynomial_apply(7, *SU, [1, 1, 1, 1], [3, 5], [9] * 2, [9] * 4), [1, 1, 1, 1])
 show('3.r3', 'g(A)v with g[1] = p and out of 1 place', 7, U, [3, 5], ref.polynomial_apply(7, *SU, [1, 7], [3, 5], [9], [9] * 4), [1, 7])
@@ -152,19 +162,28 @@ show('3.r8', 'g(A)v', 7, [], [], ref.polynomial_apply(7, [0], [], [], [], [], []
 show('3.r9', 'g(A)v', 7, [], [], ref.polynomial_apply(7, [0], [], [], [1, 1], [], [], []), [1, 1])
 show('3.r10', 'g(A)v', 7, [], [], ref.polynomial_apply(7, [0], [], [], [7], [], [], []), [7])
 show('3.r11', 'g(A)v with out of 1 place', 7, [], [], ref.polynomial_apply(7, [0], [], [], [1], [], [9], []), [1])
-put('3.c1 check Ax = b: p = 7, A = 0 1 / 0 0, x = 0 1, b = 1 0 -> %s' % ref.check_solution(7, *SU, [0, 1], [1, 0])[1])
-put('3.c2 check Ax = b: p = 7, A = 0 1 / 0 0, x = 1 0, b = 1 0 -> %s' % ref.check_solution(7, *SU, [1, 0], [1, 0])[1])
-put('3.c3 check Ax = b: p = 7, A = 0 1 / 0 0, x = 0 8, b = 1 0 -> %s' % answer_line(ref.check_solution(7, *SU, [0, 8], [1, 0])))
-put('3.c4 check w: p = 7, A = 0 1 / 0 0, w = 5 0 -> %s' % ref.check_kernel(7, *SU, [5, 0])[1])
-put('3.c5 check w: p = 7, A = 0 1 / 0 0, w = 0 0 -> %s' % ref.check_kernel(7, *SU, [0, 0])[1])
-put('3.c6 check w: p = 7, A = 0 1 / 0 0, w = 0 1 -> %s' % ref.check_kernel(7, *SU, [0, 1])[1])
-put('3.c7 check w: p = 7, A = 0 1 / 0 0, w = 7 0 0 -> %s' % answer_line(ref.check_kernel(7, *SU, [7, 0, 0])))
-E = '(none) (starts 0; columns (none); values (none))'
-put('3.c8 check Ax = b: p = 7, A = %s, x = (none), b = (none) -> %s' % (E, ref.check_solution(7, [0], [], [], [], [])[1]))
-put('3.c9 check Ax = b: p = 7, A = %s, x = (none), b = 0 -> %s' % (E, answer_line(ref.check_solution(7, [0], [], [], [], [0]))))
-put('3.c10 check Ax = b: p = 7, A = %s, x = 7, b = (none) -> %s' % (E, answer_line(ref.check_solution(7, [0], [], [], [7], []))))
-put('3.c11 check w: p = 7, A = %s, w = (none) -> %s' % (E, ref.check_kernel(7, [0], [], [], [])[1]))
-put('3.c12 check w: p = 7, A = %s, w = 1 -> %s' % (E, answer_line(ref.check_kernel(7, [0], [], [], [1]))))
+UA = 'p = 7, A = 0 1 / 0 0'
+offered('3.c1', 'Ax = b: %s, x = 0 1, b = 1 0' % UA, ref.check_solution(7, *SU, [0, 1], [1, 0]))
+offered('3.c2', 'Ax = b: %s, x = 1 0, b = 1 0' % UA, ref.check_solution(7, *SU, [1, 0], [1, 0]))
+offered('3.c3', 'Ax = b: %s, x = 0 8, b = 1 0' % UA, ref.check_solution(7, *SU, [0, 8], [1, 0]))
+offered('3.c4', 'w: %s, w = 5 0' % UA, ref.check_kernel(7, *SU, [5, 0]))
+offered('3.c5', 'w: %s, w = 0 0' % UA, ref.check_kernel(7, *SU, [0, 0]))
+offered('3.c6', 'w: %s, w = 0 1' % UA, ref.check_kernel(7, *SU, [0, 1]))
+offered('3.c7', 'w: %s, w = 7 0 0' % UA, ref.check_kernel(7, *SU, [7, 0, 0]))
+E = 'p = 7, A = (none) (starts 0; columns (none); values (none))'
+offered('3.c8', 'Ax = b: %s, x = (none), b = (none)' % E, ref.check_solution(7, [0], [], [], [], []))
+offered('3.c9', 'Ax = b: %s, x = (none), b = 0' % E, ref.check_solution(7, [0], [], [], [], [0]))
+offered('3.c10', 'Ax = b: %s, x = 7, b = (none)' % E, ref.check_solution(7, [0], [], [], [7], []))
+offered('3.c11', 'w: %s, w = (none)' % E, ref.check_kernel(7, [0], [], [], []))
+offered('3.c12', 'w: %s, w = 1' % E, ref.check_kernel(7, [0], [], [], [1]))
+A3A = 'p = 5, A = %s (starts %s; columns %s; values %s)' % (rows(A3), nums(S3[0]), nums(S3[1]), nums(S3[2]))
+offered('3.c13', 'Ax = b: %s, x = 1 2 3, b = 1 4 4' % A3A, ref.check_solution(5, *S3, [1, 2, 3], [1, 4, 4]))
+offered('3.c14', 'Ax = b: %s, x = 1 2 3, b = 0 4 4' % A3A, ref.check_solution(5, *S3, [1, 2, 3], [0, 4, 4]))
+offered('3.c15', 'Ax = b: %s, x = 0 0 0, b = 0 0 0' % A3A, ref.check_solution(5, *S3, [0, 0, 0], [0, 0, 0]))
+offered('3.c16', 'w: %s, w = 0 0 0' % A3A, ref.check_kernel(5, *S3, [0, 0, 0]))
+ZA = 'p = 2, A = 0 0 / 0 0 (starts 0 0 0; columns (none); values (none))'
+offered('3.c17', 'Ax = b: %s, x = 1 1, b = 0 0' % ZA, ref.check_solution(2, *Z, [1, 1], [0, 0]))
+offered('3.c18', 'w: %s, w = 0 1' % ZA, ref.check_kernel(2, *Z, [0, 1]))
 put()
 
 # ------------------------------------------------------------------ reader
@@ -350,8 +369,9 @@ for number, what, change in [
         (what, d['p'], nums(d['starts']), nums(d['columns']), nums(d['values']), nums(d['b']),
          nums(d['words']) if len(d['words']) < 10 else '%d times %d' % (len(d['words']), d['words'][0]), d['vector'], d['polynomial'],
          d['bill'], d['work']))
-    put('   -> ' + ('refused %d' % number if number else '%s, D = %d, passes = %d, applications = %d, vector %s, polynomial %s, bill %s' %
-                    (got[1], got[2], got[3], got[4], nums(got[5]), nums(got[6]), nums(got[7]))))
+    put('   -> ' + ('refused %d' % number if number else
+                    '%s, D = %d, passes = %d, applications = %d, multiplied = %d, vector %s, polynomial %s, bill %s' %
+                    (*got[1:6], nums(got[6]), nums(got[7]), nums(got[8]))))
     if len(d['starts']) <= 1 and number != 11:  # mutants.py lends slices of the right lengths
         apart = mutants.told_apart(d['p'], (d['starts'], d['columns'], d['values']), d['b'], d['words'])
         told.update(apart)

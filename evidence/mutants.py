@@ -1,5 +1,5 @@
-"""Wrong solvers (document 01, 'Tempting here', and a few more), wrong bills (document 02, request (i)) and mistakes about
-size 0 (request (ii)).  Used to say which case tells which one apart.
+"""Wrong solvers (document 01, 'Tempting here', and a few more), wrong bills (document 02, request (i)), mistakes about
+size 0 (request (ii)) and wrong counts of the entries multiplied (request (iii)).  Used to say which case tells which one apart.
 
 keep_t_e / keep_e carry t, e over a restart exactly in the form of document 01's steps (t shifted at every term).  They are
 NOT observable: the last t = q of a pass happens at a term r1 <= 2*L1 - 1 (or t is still 0), so the kept t is z^k times a
@@ -13,7 +13,8 @@ NAMES = ['keep_t_e', 'keep_e', 'keep_t_unshifted', 'keep_all', 'stale_q',
          'first_pass_only', 'stop_at_D_n', 'singular_on_arrival', 'last_factor_x', 'G_on_last_r',
          'columns_space_kind', 'word_stride_1', 'units_after_R', 'left_n_always', 'f_unreversed', 'no_degree0_pass_count',
          'bill_left_after', 'bill_no_degree0', 'bill_no_t', 'close_D',
-         'size0_refused', 'no_starts_taken', 'size0_words_taken', 'size0_pass']
+         'size0_refused', 'no_starts_taken', 'size0_words_taken', 'size0_pass',
+         'entries_n', 'entries_no_close', 'entries_no_f', 'entries_once', 'entries_not_zeros']
 HIDDEN = ['keep_t_e', 'keep_e']
 
 
@@ -44,6 +45,27 @@ def billed(name, left, t, made):
     return [(left - t if name == 'bill_left_after' else left, t, made - t if name == 'bill_no_t' else made)]
 
 
+def multiplied_by(name, S, v, part):
+    """The entries counted for one product with v, which is made for the terms, for f(A)r or for the close."""
+    if name == 'entries_no_close' and part == 'close' or name == 'entries_no_f' and part == 'f':
+        return 0
+    if name == 'entries_n':
+        return len(v)
+    if name == 'entries_not_zeros':
+        return sum(v[column] != 0 for column in S[1])
+    return len(S[1])
+
+
+def counted_polynomial_times(name, p, S, g, v, part):
+    """(g(A)v, products made, entries counted)"""
+    result, made, _ = ref.polynomial_times(p, *S, g, v)
+    counted = 0
+    for _ in range(made):
+        counted += multiplied_by(name, S, v, part)
+        v = ref.times(p, *S, v)[0]
+    return result, made, counted
+
+
 def refusal(p, S, b, words):
     """The first of checks 3 to 10 that turns the call down, or 0."""
     n = len(S[0]) - 1
@@ -63,9 +85,9 @@ def solve(name, p, S, b, words):
     if number:
         return 'refused', number
     if name == 'size0_pass' and n == 0:
-        return 'solved', 0, 1, 0, [], [1], [(0, 0, 0)], 0
+        return 'solved', 0, 1, 0, 0, [], [1], [(0, 0, 0)], 0
     R = ref.vectors_of(n, words)
-    r, F, D, apps, k, counted, bill = list(b), [1], 0, 0, 0, 0, []
+    r, F, D, apps, multiplied, k, counted, bill = list(b), [1], 0, 0, 0, 0, 0, []
     t, e, q, L, unshifted = [0], 1, [1], 0, [0]
     last = [1]
     while any(r) if name != 'stop_at_D_n' else (any(b) and D < n):
@@ -82,7 +104,8 @@ def solve(name, p, S, b, words):
         terms, v = [], r
         for i in range(2 * left):
             if i:
-                v = ref.times(p, *S, v)
+                multiplied += multiplied_by(name, S, v, 'terms')
+                v = ref.times(p, *S, v)[0]
                 apps += 1
             terms.append(ref.dot(p, u, v))
         if name not in ('keep_t_e', 'keep_t_unshifted', 'keep_all'):
@@ -99,8 +122,9 @@ def solve(name, p, S, b, words):
         else:
             f = [ref.coefficient(q, L - i) for i in range(L + 1)]
         before = r
-        r, made = ref.polynomial_times(p, *S, f, r)
+        r, made, more = counted_polynomial_times(name, p, S, f, r, 'f')
         apps += made
+        multiplied += more
         bill += billed(name, left, L, apps - earlier)
         F = ref.polynomial_product(p, F, f)
         D += L
@@ -113,10 +137,11 @@ def solve(name, p, S, b, words):
         if D > n:
             break
     if D == 0:
-        return 'solved', 0, counted, apps, [0] * n, [1] + [0] * n, bill, 0
+        return 'solved', 0, counted, apps, multiplied, [0] * n, [1] + [0] * n, bill, 0
     G = F[1:]
-    vec, made = ref.polynomial_times(p, *S, G, before if name == 'G_on_last_r' else b)
+    vec, made, more = counted_polynomial_times(name, p, S, G, before if name == 'G_on_last_r' else b, 'close')
     apps += made
+    multiplied = len(S[1]) if name == 'entries_once' else multiplied + more
     kind = 'solved' if F[0] else 'singular'
     if name == 'columns_space_kind' and kind == 'singular':
         rows = [[0] * n for _ in range(n)]
@@ -129,17 +154,17 @@ def solve(name, p, S, b, words):
         c0 = last[0] if name == 'last_factor_x' else F[0]
         c = -ref.inverse_mod(c0, p) % p
         vec = [c * x % p for x in vec]
-    return kind, D, counted, apps, vec, (F + [0] * n)[:n + 1], bill, D if name == 'close_D' else made
+    return kind, D, counted, apps, multiplied, vec, (F + [0] * n)[:n + 1], bill, D if name == 'close_D' else made
 
 
 def right(p, S, b, words):
-    """What the reference gives: kind, D, passes, applications, vector, f, bill, close; or the refusal."""
+    """What the reference gives: kind, D, passes, applications, entries multiplied, vector, f, bill, close; or the refusal."""
     if refusal(p, S, b, words):
         return 'refused', refusal(p, S, b, words)
     n = len(S[0]) - 1
-    kind, F, vector, applications, passes = ref.solver_steps(p, *S, b, words)
+    kind, F, vector, applications, multiplied, passes = ref.solver_steps(p, *S, b, words)
     D = len(F) - 1
-    return kind, D, len(passes), applications, vector, F + [0] * (n - D), ref.bill_of(passes), ref.close_of(D)
+    return kind, D, len(passes), applications, multiplied, vector, F + [0] * (n - D), ref.bill_of(passes), ref.close_of(D)
 
 
 def told_apart(p, S, b, words):

@@ -1,6 +1,6 @@
 """Reference implementation of document 01 (Wiedemann solver modulo word-size primes).
 
-Plain Python 3, standard library only.  Written from 00-conditions.md, 01-scope.md, requests (i) and (ii) of
+Plain Python 3, standard library only.  Written from 00-conditions.md, 01-scope.md, requests (i) to (iii) of
 02-change-requests.md and source 002 alone; but whoever wrote the cases of n = 0 had seen the library's checks 4 and 10.
 
 Every public call takes lists of ints (32-bit numbers, 0 .. 2**32 - 1) or bytes, never changes an argument, and
@@ -85,6 +85,11 @@ B. Choices.
  31. Request (ii), n = 0: every call with a matrix takes it.  The empty vector is zero, so the solver makes no pass (solved,
      f = 1, D = 0) and check_kernel says no; A takes it to itself, so check_solution says yes.  All lengths follow from their
      formulas: one coefficient for g, work of 0 places there, polynomial of 1 place and work of 16 for the solver.
+ 32. Request (iii): the entries multiplied are counted here one by one, inside the two products, and every caller adds up
+     what these answer; nothing is worked out from the applications.  Each entry of A is multiplied, also with an element
+     that is 0, and a check of an offered answer makes its one product whatever is offered: a zero vector, a first element
+     that differs.  The number stands beside what the product, the transposed product, g(A)v, the two checks and the
+     solver answer; the bill has no such field.
 """
 
 import sys
@@ -250,39 +255,46 @@ def matrix_check(p, starts, columns, values):
 # ---------------------------------------------------------------- products (meanings, on accepted input)
 
 def times(p, starts, columns, values, v):
-    """Av"""
+    """(Av, entries multiplied)"""
     n = len(starts) - 1
     result = []
+    multiplied = 0
     for i in range(n):
         total = 0
         for k in range(starts[i], starts[i + 1]):
             total += values[k] * v[columns[k]]
+            multiplied += 1
         result.append(total % p)
-    return result
+    return result, multiplied
 
 
 def transposed_times(p, starts, columns, values, v):
+    """(v times A, entries multiplied)"""
     n = len(starts) - 1
     result = [0] * n
+    multiplied = 0
     for i in range(n):
         for k in range(starts[i], starts[i + 1]):
             result[columns[k]] = (result[columns[k]] + values[k] * v[i]) % p
-    return result
+            multiplied += 1
+    return result, multiplied
 
 
 def polynomial_times(p, starts, columns, values, g, v):
-    """(g(A)v, products made): the sum of g[i] x A^i v, with len(g) - 1 products."""
+    """(g(A)v, products made, entries multiplied): the sum of g[i] x A^i v, with len(g) - 1 products."""
     n = len(starts) - 1
     power = list(v)
     result = [0] * n
     made = 0
+    multiplied = 0
     for i in range(len(g)):
         if i > 0:
-            power = times(p, starts, columns, values, power)
+            power, more = times(p, starts, columns, values, power)
             made += 1
+            multiplied += more
         for k in range(n):
             result[k] = (result[k] + g[i] * power[k]) % p
-    return result, made
+    return result, made, multiplied
 
 
 def polynomial_product(p, f, g):
@@ -298,6 +310,7 @@ def dot(p, u, v):
 
 
 # ---------------------------------------------------------------- product calls
+# ('ok', entries multiplied, out slice) or a refusal
 
 def product(p, starts, columns, values, v, out):
     number = matrix_refusal(p, starts, columns, values)
@@ -310,7 +323,8 @@ def product(p, starts, columns, values, v, out):
         return refused(9)
     if len(out) != n:
         return refused(11)
-    return ('ok', times(p, starts, columns, values, v))
+    result, multiplied = times(p, starts, columns, values, v)
+    return ('ok', multiplied, result)
 
 
 def transposed_product(p, starts, columns, values, v, out):
@@ -324,7 +338,8 @@ def transposed_product(p, starts, columns, values, v, out):
         return refused(9)
     if len(out) != n:
         return refused(11)
-    return ('ok', transposed_times(p, starts, columns, values, v))
+    result, multiplied = transposed_times(p, starts, columns, values, v)
+    return ('ok', multiplied, result)
 
 
 def polynomial_apply(p, starts, columns, values, g, v, out, work):
@@ -338,8 +353,8 @@ def polynomial_apply(p, starts, columns, values, g, v, out, work):
         return refused(9)
     if len(out) != n or len(work) < 2 * n:
         return refused(11)
-    result, made = polynomial_times(p, starts, columns, values, g, v)
-    return ('ok', result)
+    result, made, multiplied = polynomial_times(p, starts, columns, values, g, v)
+    return ('ok', multiplied, result)
 
 
 # ---------------------------------------------------------------- shortest recurrence
@@ -445,15 +460,17 @@ def recurrence(p, s, polynomial, work):
 # ---------------------------------------------------------------- solver
 
 def solver_steps(p, starts, columns, values, b, words):
-    """The steps of document 01 on accepted input; products with A are counted as they are made.
+    """The steps of document 01 on accepted input; products with A, and entries, are counted as they are made.
 
-    Returns kind, F, vector, applications, and a list of passes (u, left, terms, f, r after, applications)."""
+    Returns kind, F, vector, applications, entries multiplied, and a list of passes (u, left, terms, f, r after,
+    applications)."""
     n = len(starts) - 1
     R = vectors_of(n, words)
     r = list(b)
     F = [1]
     D = 0
     applications = 0
+    multiplied = 0
     passes = []
     while any(r):
         j = len(passes)
@@ -467,24 +484,27 @@ def solver_steps(p, starts, columns, values, b, words):
         power = list(r)
         for k in range(2 * left):
             if k > 0:
-                power = times(p, starts, columns, values, power)
+                power, more = times(p, starts, columns, values, power)
                 applications += 1
+                multiplied += more
             terms.append(dot(p, u, power))
         t, f = shortest_recurrence(p, terms)
-        r, made = polynomial_times(p, starts, columns, values, f, r)
+        r, made, more = polynomial_times(p, starts, columns, values, f, r)
         applications += made
+        multiplied += more
         F = polynomial_product(p, F, f)
         D = D + t
         passes.append((u, left, terms, f, r, applications - before))
     G = F[1:]
     if D == 0:
-        return 'solved', F, [0] * n, applications, passes
-    vector, made = polynomial_times(p, starts, columns, values, G, b)
+        return 'solved', F, [0] * n, applications, multiplied, passes
+    vector, made, more = polynomial_times(p, starts, columns, values, G, b)
     applications += made
+    multiplied += more
     if F[0] != 0:
         c = (-inverse_mod(F[0], p)) % p
-        return 'solved', F, [c * x % p for x in vector], applications, passes
-    return 'singular', F, vector, applications, passes
+        return 'solved', F, [c * x % p for x in vector], applications, multiplied, passes
+    return 'singular', F, vector, applications, multiplied, passes
 
 
 def bill_of(passes):
@@ -504,7 +524,7 @@ def bill_slice(lines, bill):
 
 
 def solve(p, starts, columns, values, b, words, vector, polynomial, bill, work):
-    """('ok', kind, D, passes, applications, vector slice, polynomial slice, bill slice) or a refusal."""
+    """('ok', kind, D, passes, applications, entries multiplied, vector slice, polynomial slice, bill slice) or a refusal."""
     number = matrix_refusal(p, starts, columns, values)
     if number:
         return refused(number)
@@ -517,12 +537,13 @@ def solve(p, starts, columns, values, b, words, vector, polynomial, bill, work):
         return refused(10)
     if len(vector) != n or len(polynomial) != n + 1 or len(work) < 16 * n + 16:
         return refused(11)
-    kind, F, x, applications, passes = solver_steps(p, starts, columns, values, b, words)
+    kind, F, x, applications, multiplied, passes = solver_steps(p, starts, columns, values, b, words)
     D = len(F) - 1
-    return ('ok', kind, D, len(passes), applications, x, F + [0] * (n - D), bill_slice(bill_of(passes), bill))
+    return ('ok', kind, D, len(passes), applications, multiplied, x, F + [0] * (n - D), bill_slice(bill_of(passes), bill))
 
 
 # ---------------------------------------------------------------- checks of offered answers
+# ('ok', yes or no, entries multiplied) or a refusal
 
 def check_solution(p, starts, columns, values, x, b):
     number = matrix_refusal(p, starts, columns, values)
@@ -533,7 +554,8 @@ def check_solution(p, starts, columns, values, x, b):
         return refused(8)
     if bad9(p, x) or bad9(p, b):
         return refused(9)
-    return ('ok', times(p, starts, columns, values, x) == list(b))
+    image, multiplied = times(p, starts, columns, values, x)
+    return ('ok', image == list(b), multiplied)
 
 
 def check_kernel(p, starts, columns, values, w):
@@ -545,7 +567,8 @@ def check_kernel(p, starts, columns, values, w):
         return refused(8)
     if bad9(p, w):
         return refused(9)
-    return ('ok', any(w) and not any(times(p, starts, columns, values, w)))
+    image, multiplied = times(p, starts, columns, values, w)
+    return ('ok', any(w) and not any(image), multiplied)
 
 
 # ---------------------------------------------------------------- system text
@@ -706,9 +729,9 @@ def text_call(text, answer):
     p, n, starts, columns, values, b = system[1:]
     if n > CALL_N or len(values) > CALL_ENTRIES or len(answer) < CALL_ANSWER:
         return refused(11)
-    kind, F, vector, applications, passes = solver_steps(p, starts, columns, values, b, [])
+    kind, F, vector, applications, multiplied, passes = solver_steps(p, starts, columns, values, b, [])
     D = len(F) - 1
-    result = line('answer', kind, D, len(passes), applications)
+    result = line('answer', kind, D, len(passes), applications, multiplied)
     for number, row in enumerate(bill_of(passes), 1):
         result += line('pass', number, *row)
     result += line('close', close_of(D))

@@ -17,7 +17,8 @@ int main() {
         size_t n = line.system.rows.size();
         second::Answer answer = second::Run(line.system)(line.words);
         std::cout << "0 " << (answer.solved ? 1 : 2) << ' ' << answer.f.size() - 1 << ' '
-                  << answer.bill.size() << ' ' << answer.applications << ' ' << 3 * answer.bill.size();
+                  << answer.bill.size() << ' ' << answer.applications << ' ' << answer.multiplied << ' '
+                  << 3 * answer.bill.size();
         for (auto [left, degree, applications] : answer.bill)
             std::cout << ' ' << left << ' ' << degree << ' ' << applications;
         print(answer.vector, n);

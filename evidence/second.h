@@ -29,7 +29,7 @@ struct Answer {
     Polynomial f;
     Vector vector;
     std::vector<Pass> bill;
-    uint64_t applications;
+    uint64_t applications, multiplied;
 };
 
 inline uint32_t multiply(uint32_t p, uint64_t a, uint64_t b) { return static_cast<uint32_t>(a * b % p); }
@@ -47,15 +47,24 @@ inline uint32_t invert(uint32_t p, uint32_t a) {
     return static_cast<uint32_t>(c0 < 0 ? c0 + p : c0);
 }
 
-inline Vector times(const System &s, const Vector &v) {
+// Raises the counter at each entry that it multiplies.
+inline Vector times(const System &s, const Vector &v, uint64_t &multiplied) {
     Vector result;
     for (const auto &row : s.rows) {
         unsigned __int128 sum = 0;
-        for (auto [column, value] : row)
+        for (auto [column, value] : row) {
             sum += uint64_t{value} * v[column];
+            multiplied++;
+        }
         result.push_back(static_cast<uint32_t>(sum % s.p));
     }
     return result;
+}
+
+// For those who don't count.
+inline Vector times(const System &s, const Vector &v) {
+    uint64_t multiplied = 0;
+    return times(s, v, multiplied);
 }
 
 inline System transpose(const System &s) {
@@ -121,14 +130,14 @@ inline Polynomial multiply(uint32_t p, const Polynomial &f, const Polynomial &g)
     return result;
 }
 
-// Counts each product with the matrix as it is made.
+// Counts each product with the matrix as it is made, and each entry in it.
 class Run {
   public:
     explicit Run(const System &system) : s(system), t(transpose(system)) {}
 
     Answer operator()(const Vector &words) {
         size_t n = s.rows.size();
-        Answer answer{true, {1}, Vector(n), {}, 0};
+        Answer answer{true, {1}, Vector(n), {}, 0, 0};
         Vector r = s.b;
         while (std::any_of(r.begin(), r.end(), [](uint32_t element) { return element != 0; })) {
             size_t left = n - (answer.f.size() - 1);
@@ -146,6 +155,7 @@ class Run {
                 element = multiply(s.p, element, scale);
         }
         answer.applications = made;
+        answer.multiplied = multiplied;
         return answer;
     }
 
@@ -161,7 +171,7 @@ class Run {
     Vector terms(Vector u, const Vector &r, size_t count) {
         Vector result{dot(s.p, u, r)};
         while (result.size() < count) {
-            u = times(t, u);
+            u = times(t, u, multiplied);
             made++;
             result.push_back(dot(s.p, u, r));
         }
@@ -171,7 +181,7 @@ class Run {
         Vector power = v, result(v.size());
         for (size_t i = 0; i < g.size(); i++) {
             if (i > 0) {
-                power = times(s, power);
+                power = times(s, power, multiplied);
                 made++;
             }
             for (size_t k = 0; k < v.size(); k++)
@@ -181,7 +191,7 @@ class Run {
     }
 
     System s, t;
-    uint64_t made = 0;
+    uint64_t made = 0, multiplied = 0;
 };
 
 } // namespace second

@@ -134,7 +134,7 @@ def sum_of_bill(lines):
 
 def document_cases():
     text = b'system\t7\t2\t3\na\t1\t1\t2\na\t1\t2\t1\na\t2\t2\t3\nb\t1\t1\nb\t2\t1\nend\n'
-    want = b'answer\tsolved\t1\t1\t4\npass\t1\t2\t1\t4\nclose\t0\nf\t0\t4\nf\t1\t1\nx\t1\t5\nx\t2\t5\nend\n'
+    want = b'answer\tsolved\t1\t1\t4\t12\npass\t1\t2\t1\t4\nclose\t0\nf\t0\t4\nf\t1\t1\nx\t1\t5\nx\t2\t5\nend\n'
     old = bytes(range(256)) * 28
     expect(len(old) == 7168)
     expect(ref.text_call(text, old) == ('ok', len(want), want + old[len(want):]))
@@ -142,21 +142,21 @@ def document_cases():
 
     diag = ([0, 1, 2], [0, 1], [2, 3])
     U = ([0, 1, 1], [1], [1])
-    expect(run(7, 2, diag, [1, 1], []) == ('ok', 'solved', 2, 2, 7, [4, 5], [6, 2, 1], []))
-    expect(run(7, 2, diag, [1, 1], [1, 1]) == ('ok', 'solved', 2, 1, 6, [4, 5], [6, 2, 1], []))
-    expect(run(7, 2, diag, [1, 1], [8, 8]) == ('ok', 'solved', 2, 1, 6, [4, 5], [6, 2, 1], []))
-    expect(run(7, 2, diag, [1, 1], [0, 0]) == ('ok', 'solved', 2, 3, 10, [4, 5], [6, 2, 1], []))
+    expect(run(7, 2, diag, [1, 1], []) == ('ok', 'solved', 2, 2, 7, 14, [4, 5], [6, 2, 1], []))
+    expect(run(7, 2, diag, [1, 1], [1, 1]) == ('ok', 'solved', 2, 1, 6, 12, [4, 5], [6, 2, 1], []))
+    expect(run(7, 2, diag, [1, 1], [8, 8]) == ('ok', 'solved', 2, 1, 6, 12, [4, 5], [6, 2, 1], []))
+    expect(run(7, 2, diag, [1, 1], [0, 0]) == ('ok', 'solved', 2, 3, 10, 20, [4, 5], [6, 2, 1], []))
     got = run(7, 2, diag, [0, 1], [])
-    expect(got[1] == 'solved' and got[3] == 2 and got[4] == 7 and got[5] == [0, 5])
+    expect(got[1] == 'solved' and got[3] == 2 and got[4:6] == (7, 14) and got[6] == [0, 5])
     got = run(7, 2, U, [0, 1], [])
-    expect(got[1] == 'singular' and got[6] == [0, 0, 1] and got[5] == [1, 0] and got[4] == 6)
+    expect(got[1] == 'singular' and got[7] == [0, 0, 1] and got[6] == [1, 0] and got[4:6] == (6, 6))
     got = run(7, 2, U, [1, 0], [])
-    expect(got[1] == 'singular' and got[6] == [0, 1, 0] and got[5] == [1, 0] and got[4] == 4)
-    expect(ref.check_solution(7, *U, [0, 1], [1, 0]) == ('ok', True))
-    expect(run(7, 2, diag, [0, 0], []) == ('ok', 'solved', 0, 0, 0, [0, 0], [1, 0, 0], []))
-    expect(run(7, 2, U, [0, 0], [5, 5]) == ('ok', 'solved', 0, 0, 0, [0, 0], [1, 0, 0], []))
+    expect(got[1] == 'singular' and got[7] == [0, 1, 0] and got[6] == [1, 0] and got[4:6] == (4, 4))
+    expect(ref.check_solution(7, *U, [0, 1], [1, 0]) == ('ok', True, 1))
+    expect(run(7, 2, diag, [0, 0], []) == ('ok', 'solved', 0, 0, 0, 0, [0, 0], [1, 0, 0], []))
+    expect(run(7, 2, U, [0, 0], [5, 5]) == ('ok', 'solved', 0, 0, 0, 0, [0, 0], [1, 0, 0], []))
     got = run(2, 1, ([0, 1], [0], [1]), [1], [])
-    expect(got[1] == 'solved' and got[5] == [1] and got[4] == 2)
+    expect(got[1] == 'solved' and got[6] == [1] and got[4:6] == (2, 2))
     expect(ref.recurrence(7, [1, 2, 4, 1], [9] * 5, [0] * 24) == ('ok', 1, [5, 1, 0, 0, 0]))
     expect(ref.recurrence(7, [0, 1], [9] * 3, [0] * 16) == ('ok', 2, [0, 0, 1]))
     expect(ref.field(2147483647) == ('ok', 2147483647))
@@ -190,13 +190,13 @@ def bill_cases():
             bill = dirty(places)
             got = run(p, n, S, b, words, bill)
             written = min(places - places % 3, len(numbers))
-            expect(got[3] == len(lines) and got[7] == numbers[:written] + bill[written:], 'bill', S, b, words, places, got)
+            expect(got[3] == len(lines) and got[8] == numbers[:written] + bill[written:], 'bill', S, b, words, places, got)
             expect(got[4] == sum(row[2] for row in lines) + max(got[2] - 1, 0), 'sum of the bill', S, b, words, got)
     expect(ref.program(b'system\t7\t2\t2\na\t1\t1\t2\na\t2\t2\t3\nb\t1\t1\nb\t2\t1\nend\n') ==
-           b'answer\tsolved\t2\t2\t7\npass\t1\t2\t1\t4\npass\t2\t1\t1\t2\nclose\t1\n'
+           b'answer\tsolved\t2\t2\t7\t14\npass\t1\t2\t1\t4\npass\t2\t1\t1\t2\nclose\t1\n'
            b'f\t0\t6\nf\t1\t2\nf\t2\t1\nx\t1\t4\nx\t2\t5\nend\n')
     expect(ref.program(b'system\t7\t2\t2\na\t1\t1\t2\na\t2\t2\t3\nend\n') ==
-           b'answer\tsolved\t0\t0\t0\nclose\t0\nf\t0\t1\nx\t1\t0\nx\t2\t0\nend\n')
+           b'answer\tsolved\t0\t0\t0\t0\nclose\t0\nf\t0\t1\nx\t1\t0\nx\t2\t0\nend\n')
 
 
 # ---------------------------------------------------------------- request (ii) of document 02: size 0
@@ -204,17 +204,17 @@ def bill_cases():
 def empty_cases():
     """Every call on the matrix without rows, worked out by hand: what it answers, and each check that turns it down."""
     A = (7, [0], [], [])
-    solved = ('ok', 'solved', 0, 0, 0, [], [1])
+    solved = ('ok', 'solved', 0, 0, 0, 0, [], [1])
     for p in PRIMES:
         expect(ref.matrix_check(p, [0], [], []) == ('ok', 0))
         expect(run(p, 0, ([0], [], []), [], []) == (*solved, []))
     for bill in ([], [9], [9] * 3, [9] * 7):
         expect(ref.solve(*A, [], [], [], [9], bill, [9] * 16) == (*solved, bill))
         expect(ref.solve(*A, [], [], [], [9], bill, [9] * 17) == (*solved, bill))
-    expect(ref.solver_steps(*A, [], []) == ('solved', [1], [], 0, []))
-    expect(ref.product(*A, [], []) == ('ok', []) and ref.transposed_product(*A, [], []) == ('ok', []))
-    expect(ref.polynomial_apply(*A, [0], [], [], []) == ('ok', []) and ref.polynomial_apply(*A, [6], [], [], [9]) == ('ok', []))
-    expect(ref.check_solution(*A, [], []) == ('ok', True) and ref.check_kernel(*A, []) == ('ok', False))
+    expect(ref.solver_steps(*A, [], []) == ('solved', [1], [], 0, 0, []))
+    expect(ref.product(*A, [], []) == ref.transposed_product(*A, [], []) == ('ok', 0, []))
+    expect(ref.polynomial_apply(*A, [0], [], [], []) == ref.polynomial_apply(*A, [6], [], [], [9]) == ('ok', 0, []))
+    expect(ref.check_solution(*A, [], []) == ('ok', True, 0) and ref.check_kernel(*A, []) == ('ok', False, 0))
 
     # the checks in their order, a later fault beside each
     for matrix, number in (((6, [0], [], []), 3), ((7, [], [], []), 4), ((7, [], [0], [1]), 4), ((7, [1], [], []), 5), ((7, [0], [0], [1]), 5),
@@ -240,12 +240,12 @@ def empty_cases():
         expect(ref.solve(*A, [], [], [9] * vector, [9] * polynomial, [], [9] * work) == ('refused', 11))
 
     # texts
-    text, answer = b'system\t7\t0\t0\nend\n', b'answer\tsolved\t0\t0\t0\nclose\t0\nf\t0\t1\nend\n'
+    text, answer = b'system\t7\t0\t0\nend\n', b'answer\tsolved\t0\t0\t0\t0\nclose\t0\nf\t0\t1\nend\n'
     expect(ref.write_system(*A, [], b'.' * 19) == ('ok', 17, text + b'..') and ref.write_system(*A, [], b'.' * 16) == ('refused', 11))
     expect(ref.read_system(text, [9], [], [], []) == ('ok', 7, 0, 0, [0], [], [], []))
     expect(ref.read_system(text, [9, 8], [7], [6], [5, 4]) == ('ok', 7, 0, 0, [0, 8], [7], [6], [5, 4]))
     expect(ref.read_system(text, [], [7], [6], [5]) == ('refused', 11))
-    expect(len(answer) > 18 and ref.text_call(text, b'.' * 7168) == ('ok', 38, answer + b'.' * 7130) and ref.program(text) == answer)
+    expect(len(answer) > 18 and ref.text_call(text, b'.' * 7168) == ('ok', 40, answer + b'.' * 7128) and ref.program(text) == answer)
     expect(ref.text_call(text, bytes(7167)) == ('refused', 11))
     for line, number in ((b'system\t7\t0\t0\n', 2), (b'system\t7\t00\t0\nend\n', 2), (b'system\t9\t0\t1\nend\n', 3),
                          (b'system\t7\t4097\t0\nend\n', 4), (b'system\t7\t0\t1\nend\n', 5), (b'system\t7\t0\t0\na\t1\t1\t1\nend\n', 5),
@@ -253,6 +253,37 @@ def empty_cases():
                          (b'system\t7\t0\t0\nb\t1\t1\nend\n', 6), (b'system\t7\t0\t0\nb\t0\t7\nend\n', 6)):
         expect(ref.read_system(line, [], [], [], []) == ref.text_call(line, b'') == ('refused', number), line)
         expect(ref.program(line) == b'refused\t%d\n' % number)
+
+
+# ---------------------------------------------------------------- request (iii) of document 02: entries multiplied
+
+def entry_cases():
+    """What each call multiplies, worked out by hand.  A has 4 entries in 3 rows, one of them without any."""
+    A = (7, [0, 3, 3, 4], [0, 1, 2, 1], [2, 1, 5, 3])
+    zero, v = [0, 0, 0], [1, 0, 6]
+    out, work = [9] * 3, [9] * 6
+    expect(ref.product(*A, v, out) == ('ok', 4, [4, 0, 0]) and ref.product(*A, zero, out) == ('ok', 4, zero))
+    expect(ref.transposed_product(*A, v, out) == ('ok', 4, [2, 5, 5]) and ref.transposed_product(*A, zero, out) == ('ok', 4, zero))
+    for g, multiplied in ([3], 0), ([0], 0), ([0, 1], 4), ([0, 0], 4), ([1, 0, 0], 8), ([0, 0, 0, 1], 12):
+        for w in v, zero:
+            expect(ref.polynomial_apply(*A, g, w, out, work)[:2] == ('ok', multiplied))
+    # yes and no, no at the first place and at the last, a zero vector
+    for b, yes in ([4, 0, 0], True), ([5, 0, 0], False), ([4, 0, 1], False), (zero, False):
+        expect(ref.check_solution(*A, v, b) == ('ok', yes, 4))
+    expect(ref.check_solution(*A, zero, zero) == ('ok', True, 4) and ref.check_solution(*A, zero, v) == ('ok', False, 4))
+    expect(ref.check_kernel(*A, zero) == ('ok', False, 4) and ref.check_kernel(*A, v) == ('ok', False, 4))
+    expect(ref.check_kernel(*A, [1, 0, 1]) == ('ok', True, 4))
+    # no entries, so nothing to multiply, though there are products: a pass of degree 0 (3), one of degree 1 (4), the close (0)
+    none = (7, [0, 0, 0], [], [])
+    expect(ref.product(*none, [1, 6], [9] * 2) == ref.transposed_product(*none, [1, 6], [9] * 2) == ('ok', 0, [0, 0]))
+    expect(ref.polynomial_apply(*none, [1, 1, 1], [1, 6], [9] * 2, [9] * 4) == ('ok', 0, [1, 6]))
+    expect(ref.check_solution(*none, [1, 6], [0, 0]) == ref.check_kernel(*none, [1, 6]) == ('ok', True, 0))
+    expect(run(7, 2, none[1:], [0, 3], []) == ('ok', 'singular', 1, 2, 7, 0, [0, 3], [0, 1, 0], []))
+    # b = 0: entries, and no product
+    expect(run(*A[:1], 3, A[1:], zero, [1, 2, 3]) == ('ok', 'solved', 0, 0, 0, 0, zero, [1, 0, 0, 0], []))
+    # as many entries as a matrix can have
+    full = list(range(0, 65537, 16))
+    expect(ref.product(2, full, list(range(16)) * 4096, [1] * 65536, [1] * 4096, [9] * 4096) == ('ok', 65536, [0] * 4096))
 
 
 # ---------------------------------------------------------------- solver against dense elimination
@@ -268,7 +299,7 @@ def check_system(p, n, M, b, words_list):
         bill = dirty(rng.randrange(3 * n + 4))
         got = run(p, n, S, b, words, bill)
         expect(got[0] == 'ok', 'refused', got, p, M, b)
-        _, kind, D, passes, applications, vector, poly, billed = got
+        _, kind, D, passes, applications, multiplied, vector, poly, billed = got
         where = (p, M, b, words, got)
         f = poly[:D + 1]
         expect(len(poly) == n + 1 and len(vector) == n and not any(poly[D + 1:]), 'lengths', where)
@@ -279,14 +310,14 @@ def check_system(p, n, M, b, words_list):
         expect((kind == 'solved') == d_in_span(b, krylov[1:], p), 'kind', where)
         if kind == 'solved':
             expect(d_mul(M, vector, p) == b, 'Ax = b', where)
-            expect(ref.check_solution(p, *S, vector, b) == ('ok', True), where)
+            expect(ref.check_solution(p, *S, vector, b) == ('ok', True, len(S[2])), where)
         else:
             expect(kind == 'singular' and any(vector) and not any(d_mul(M, vector, p)), 'Aw = 0', where)
             expect(d_rank(M, p) < n, 'singular matrix', where)
-            expect(ref.check_kernel(p, *S, vector) == ('ok', True), where)
+            expect(ref.check_kernel(p, *S, vector) == ('ok', True, len(S[2])), where)
         expect(passes <= R + n, 'passes', where)
         # the passes, one by one
-        trace = ref.solver_steps(p, *S, b, words)[4]
+        trace = ref.solver_steps(p, *S, b, words)[5]
         expect(len(trace) == passes, where)
         r, before, total, lines = b, 0, 0, []
         for k, (u, left, terms, g, after, made) in enumerate(trace):
@@ -315,6 +346,7 @@ def check_system(p, n, M, b, words_list):
                 count('true restarts, p = %d' % p)
         expect(not any(r) and before == D, 'end', where)
         expect(applications == (total + 2 * D - 1 if any(b) else 0), 'applications', where)
+        expect(multiplied == applications * len(S[2]), 'entries multiplied', where)
         written = min(len(bill) - len(bill) % 3, len(lines))
         expect(billed == lines[:written] + bill[written:], 'bill', where, bill)
         results.append((kind, D, vector, poly))
@@ -337,10 +369,10 @@ def check_system(p, n, M, b, words_list):
     lines = answer[2][:answer[1]].decode().split('\n')
     expect(answer[2][answer[1]:] == b'\x01' * (7200 - answer[1]))
     expect(sum_of_bill(lines) == got[4], 'the printed sum', lines)
-    want = ['answer\t%s\t%d\t%d\t%d' % got[1:5]]
-    want += ['pass\t%d\t%d\t%d\t%d' % (k + 1, *got[7][3 * k:3 * k + 3]) for k in range(got[3])]
-    want += ['close\t%d' % max(got[2] - 1, 0)] + ['f\t%d\t%d' % (i, got[6][i]) for i in range(got[2] + 1)]
-    want += ['%s\t%d\t%d' % ('x' if got[1] == 'solved' else 'w', i + 1, got[5][i]) for i in range(n)] + ['end', '']
+    want = ['answer\t%s\t%d\t%d\t%d\t%d' % got[1:6]]
+    want += ['pass\t%d\t%d\t%d\t%d' % (k + 1, *got[8][3 * k:3 * k + 3]) for k in range(got[3])]
+    want += ['close\t%d' % max(got[2] - 1, 0)] + ['f\t%d\t%d' % (i, got[7][i]) for i in range(got[2] + 1)]
+    want += ['%s\t%d\t%d' % ('x' if got[1] == 'solved' else 'w', i + 1, got[6][i]) for i in range(n)] + ['end', '']
     expect(lines == want, lines, want)
     expect(ref.program(text) == answer[2][:answer[1]])
 
@@ -377,20 +409,22 @@ def product_tests(rounds):
         n = random_size(8)
         M = random_dense(p, n)
         S = dense_to_sparse(M)
+        entries = sum(x != 0 for row in M for x in row)
         v = [rng.randrange(p) for _ in range(n)]
-        expect(ref.product(p, *S, v, [5] * n) == ('ok', d_mul(M, v, p)))
+        expect(ref.product(p, *S, v, [5] * n) == ('ok', entries, d_mul(M, v, p)))
         T = [[M[j][i] for j in range(n)] for i in range(n)]
-        expect(ref.transposed_product(p, *S, v, [5] * n) == ('ok', d_mul(T, v, p)))
+        expect(ref.transposed_product(p, *S, v, [5] * n) == ('ok', entries, d_mul(T, v, p)))
         g = [rng.randrange(p) for _ in range(rng.randrange(1, n + 2))]
-        expect(ref.polynomial_apply(p, *S, g, v, [5] * n, [6] * (2 * n)) == ('ok', d_apply_poly(M, g, v, p)))
+        expect(ref.polynomial_apply(p, *S, g, v, [5] * n, [6] * (2 * n)) ==
+               ('ok', (len(g) - 1) * entries, d_apply_poly(M, g, v, p)))
         y = d_mul(M, v, p)
-        expect(ref.check_solution(p, *S, v, y) == ('ok', True))
+        expect(ref.check_solution(p, *S, v, y) == ('ok', True, entries))
         y2 = list(y)
         if n:
             y2[rng.randrange(n)] = rng.randrange(p)
-        expect(ref.check_solution(p, *S, v, y2) == ('ok', y2 == y))
-        expect(ref.check_kernel(p, *S, v) == ('ok', any(v) and not any(y)))
-        expect(ref.check_kernel(p, *S, [0] * n) == ('ok', False))
+        expect(ref.check_solution(p, *S, v, y2) == ('ok', y2 == y, entries))
+        expect(ref.check_kernel(p, *S, v) == ('ok', any(v) and not any(y), entries))
+        expect(ref.check_kernel(p, *S, [0] * n) == ('ok', False, entries))
 
 
 def recurrence_one(p, s):
@@ -691,6 +725,7 @@ if __name__ == '__main__':
     document_cases()
     bill_cases()
     empty_cases()
+    entry_cases()
     field_tests()
     product_tests(rounds)
     recurrence_tests(rounds)

@@ -111,12 +111,12 @@ def slices(rows):
 def right_sides(random, p, n, matrix):
     any_vector = [random.randrange(p) for _ in range(n)]
     few = [random.randrange(p) if random.random() < 3 / n else 0 for _ in range(n)]
-    image = times(p, *matrix, any_vector)
+    image = times(p, *matrix, any_vector)[0]
     return {
         'any b': any_vector,
         'b with few elements': few,
         'b = Ay': image,
-        'b = AAy': times(p, *matrix, image),
+        'b = AAy': times(p, *matrix, image)[0],
         'b a unit vector': [int(i == n // 2) for i in range(n)],
         'b = 0': [0] * n,
     }

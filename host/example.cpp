@@ -80,8 +80,8 @@ bool plain_loop_agrees(const filzeur::System &system, const filzeur::Answer &ans
 }
 
 void print(const filzeur::Answer &answer) {
-    std::printf("answer\t%s\t%" PRIu64 "\t%" PRIu64 "\t%" PRIu64 "\n", name(answer.kind), answer.degree, answer.passes,
-                answer.applications);
+    std::printf("answer\t%s\t%" PRIu64 "\t%" PRIu64 "\t%" PRIu64 "\t%" PRIu64 "\n", name(answer.kind), answer.degree,
+                answer.passes, answer.applications, answer.multiplied);
     for (std::size_t i = 0; i < answer.bill.size(); ++i)
         std::printf("pass\t%zu\t%" PRIu64 "\t%" PRIu64 "\t%" PRIu64 "\n", i + 1, answer.bill[i].left,
                     answer.bill[i].degree, answer.bill[i].applications);
@@ -115,9 +115,9 @@ int answer(std::string_view text, std::size_t vectors) {
     }
     print(found);
     std::fprintf(stderr,
-                 "%s: degree %" PRIu64 ", passes %" PRIu64 ", applications %" PRIu64
+                 "%s: degree %" PRIu64 ", passes %" PRIu64 ", applications %" PRIu64 ", entries multiplied %" PRIu64
                  "; %s by the library's check and by a plain loop\n",
-                 name(found.kind), found.degree, found.passes, found.applications,
+                 name(found.kind), found.degree, found.passes, found.applications, found.multiplied,
                  found.kind == Kind::solved ? "Ax = b" : "Aw = 0");
     return 0;
 }

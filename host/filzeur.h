@@ -10,6 +10,9 @@
  * numbers may stand in the slices, and they may have any length; a call ends and does nothing undefined. The comment of
  * a call lists its checks.
  *
+ * Entries multiplied. A product with A multiplies each of its entries once, also with an element that is 0, and every
+ * call that makes products with A answers in `multiplied` how many entries they multiplied together: entries for each.
+ *
  * What the proof takes on trust from the caller, as any C function does: a pointer leads to as many elements as its
  * length says, is not null and is aligned, also where the length is 0; a slice that is written overlaps no other slice
  * of the same call; no other thread touches the slices meanwhile. Calls share no state: threads may call at the same
@@ -22,8 +25,8 @@
 #include <stdint.h>
 
 /* Raised whenever a signature, a struct or the meaning of one changes. A header without it is version 1; the bill came
- * with 2, size 0 with 3. */
-#define FILZEUR_VERSION 3
+ * with 2, size 0 with 3, the entries multiplied with 4. */
+#define FILZEUR_VERSION 4
 
 #ifdef __cplusplus
 extern "C" {
@@ -62,6 +65,11 @@ struct filzeur_element {
     uint32_t value;
 };
 
+struct filzeur_written {
+    uint32_t refusal;
+    uint64_t multiplied; /* entries of A; 0 where refused */
+};
+
 struct filzeur_degree {
     uint32_t refusal;
     uint32_t degree;
@@ -75,11 +83,13 @@ struct filzeur_verdict {
     uint64_t degree;
     uint64_t passes;
     uint64_t applications; /* products with A that the run made */
+    uint64_t multiplied;   /* entries of A in these: applications * entries; 0 where refused */
 };
 
 struct filzeur_yes {
     uint32_t refusal;
-    uint32_t yes; /* 1 or 0 */
+    uint32_t yes;        /* 1 or 0 */
+    uint64_t multiplied; /* entries of A; 0 where refused */
 };
 
 struct filzeur_system {
@@ -109,22 +119,24 @@ struct filzeur_element filzeur_inverse(uint32_t p, uint32_t a);
 
 /* ---- Products ---- */
 
-/* out = Av. Refusals: 3 to 7; 8 (v: n elements); 9 (v); 11 (out: exactly n places). */
-uint32_t filzeur_product(uint32_t p, const uint32_t *starts, size_t starts_length, const uint32_t *columns,
-                         size_t columns_length, const uint32_t *values, size_t values_length, const uint32_t *v,
-                         size_t v_length, uint32_t *out, size_t out_length);
+/* out = Av; multiplied = entries. Refusals: 3 to 7; 8 (v: n elements); 9 (v); 11 (out: exactly n places). */
+struct filzeur_written filzeur_product(uint32_t p, const uint32_t *starts, size_t starts_length,
+                                       const uint32_t *columns, size_t columns_length, const uint32_t *values,
+                                       size_t values_length, const uint32_t *v, size_t v_length, uint32_t *out,
+                                       size_t out_length);
 
-/* out = the transpose of A times v. Refusals and lengths: those of filzeur_product. */
-uint32_t filzeur_transposed(uint32_t p, const uint32_t *starts, size_t starts_length, const uint32_t *columns,
-                            size_t columns_length, const uint32_t *values, size_t values_length, const uint32_t *v,
-                            size_t v_length, uint32_t *out, size_t out_length);
+/* out = the transpose of A times v; multiplied = entries. Refusals and lengths: those of filzeur_product. */
+struct filzeur_written filzeur_transposed(uint32_t p, const uint32_t *starts, size_t starts_length,
+                                          const uint32_t *columns, size_t columns_length, const uint32_t *values,
+                                          size_t values_length, const uint32_t *v, size_t v_length, uint32_t *out,
+                                          size_t out_length);
 
-/* out = g(A)v, the sum of g[i] times the i-th power of A times v.
+/* out = g(A)v, the sum of g[i] times the i-th power of A times v; multiplied = (g_length - 1) * entries.
  * Refusals: 3 to 7; 8 (v: n elements; g: 1 to n + 1); 9 (v, g); 11 (out: exactly n places; work: at least 2 * n). */
-uint32_t filzeur_apply(uint32_t p, const uint32_t *starts, size_t starts_length, const uint32_t *columns,
-                       size_t columns_length, const uint32_t *values, size_t values_length, const uint32_t *g,
-                       size_t g_length, const uint32_t *v, size_t v_length, uint32_t *out, size_t out_length,
-                       uint32_t *work, size_t work_length);
+struct filzeur_written filzeur_apply(uint32_t p, const uint32_t *starts, size_t starts_length, const uint32_t *columns,
+                                     size_t columns_length, const uint32_t *values, size_t values_length,
+                                     const uint32_t *g, size_t g_length, const uint32_t *v, size_t v_length,
+                                     uint32_t *out, size_t out_length, uint32_t *work, size_t work_length);
 
 /* ---- The shortest recurrence ---- */
 
@@ -137,9 +149,10 @@ struct filzeur_degree filzeur_recurrence(uint32_t p, const uint32_t *s, size_t s
 /* ---- The solver ---- */
 
 /* Solves Ax = b, or shows that A is singular. words: R vectors of n random words each, R from 0 to 64, any 32-bit
- * numbers; they sway passes and applications only. polynomial = the monic f of least degree with f(A)b = 0, then zeros.
- * Solved: b is a combination of Ab, A(Ab), .., and vector = x with Ax = b. Singular: vector = w, not zero, with Aw = 0;
- * Ax = b may have solutions all the same. b = 0, as that of size 0, is solved by x = 0 with f = 1 and no pass.
+ * numbers; they sway passes, applications and multiplied only. polynomial = the monic f of least degree with
+ * f(A)b = 0, then zeros. Solved: b is a combination of Ab, A(Ab), .., and vector = x with Ax = b. Singular: vector = w,
+ * not zero, with Aw = 0; Ax = b may have solutions all the same. b = 0, as that of size 0, is solved by x = 0 with
+ * f = 1 and no pass.
  * bill: three numbers for each pass, in their order: left (n less the degree found before the pass), the pass's degree t
  * and its applications, 2 * left - 1 + t. The verdict's applications are the sum of the passes' and degree - 1 for the
  * close (0 for degree 0). The bill takes as many whole passes as it has room for, and its other places stay as they
@@ -155,12 +168,13 @@ struct filzeur_verdict filzeur_solve(uint32_t p, const uint32_t *starts, size_t 
 
 /* ---- Checks of answers that anyone offers ---- */
 
-/* Whether Ax = b. Refusals: 3 to 7; 8 (x and b: n elements each); 9 (x, b). */
+/* Whether Ax = b; multiplied = entries, whatever x is. Refusals: 3 to 7; 8 (x and b: n elements each); 9 (x, b). */
 struct filzeur_yes filzeur_takes(uint32_t p, const uint32_t *starts, size_t starts_length, const uint32_t *columns,
                                  size_t columns_length, const uint32_t *values, size_t values_length, const uint32_t *x,
                                  size_t x_length, const uint32_t *b, size_t b_length);
 
-/* Whether w is not zero and Aw = 0; the empty w is zero. Refusals: 3 to 7; 8 (w: n elements); 9 (w). */
+/* Whether w is not zero and Aw = 0; the empty w is zero; multiplied = entries, also where w is zero.
+ * Refusals: 3 to 7; 8 (w: n elements); 9 (w). */
 struct filzeur_yes filzeur_is_null(uint32_t p, const uint32_t *starts, size_t starts_length, const uint32_t *columns,
                                    size_t columns_length, const uint32_t *values, size_t values_length,
                                    const uint32_t *w, size_t w_length);
@@ -181,8 +195,9 @@ struct filzeur_length filzeur_write(uint32_t p, const uint32_t *starts, size_t s
                                     size_t columns_length, const uint32_t *values, size_t values_length,
                                     const uint32_t *b, size_t b_length, uint8_t *text, size_t text_length);
 
-/* The text call: a system text in, the answer's text out, without random words. Answers the length of the answer's
- * text, always above 18, or the refusal's number; the bytes after the answer stay.
+/* The text call: a system text in, the answer's text out, without random words. The answer's first line is `answer`,
+ * kind, D, passes, applications and entries multiplied. Answers the length of the answer's text, always above 18, or
+ * the refusal's number; the bytes after the answer stay.
  * Refusals: 1 to 7; 11 (n over 128, or over 1,024 entries; answer: at least 7,168 bytes). */
 uint64_t filzeur_text(const uint8_t *text, size_t text_length, uint8_t *answer, size_t answer_length);
 

@@ -1,7 +1,7 @@
 // filzeur.hpp: Filzeur for C++17 and later, header only, over the C calls of filzeur.h.
 //
 //   Refusal              why a call turned its input down: a number, 1 to 12, and its meaning in words
-//   Result<T>            a T or a Refusal
+//   Result<T>            a T or a Refusal, and how many entries of the matrix were multiplied
 //   Field                the field of p elements: sum, difference, product, inverse
 //   Matrix, System       a sparse square matrix; a field, a matrix and a right side
 //   Answer, Pass         what a run of the solver found; one line of its bill
@@ -64,23 +64,28 @@ struct Refusal {
 template <class T> class [[nodiscard]] Result {
   public:
     Result(T value) : held(std::move(value)) {}
+    Result(T value, std::uint64_t multiplied) : held(std::move(value)), entries(multiplied) {}
     Result(Refusal refusal) : held(refusal) {}
 
     bool ok() const { return std::holds_alternative<T>(held); }
     const T &value() const & { return std::get<T>(held); }
     T value() && { return std::get<T>(std::move(held)); }
     Refusal refusal() const { return ok() ? Refusal{0} : std::get<Refusal>(held); }
+    // How many entries of the matrix the call multiplied: product, transposed, apply, solve, takes and is_null tell it.
+    // 0 of every other call (answer_text has it in its text), and beside a refusal.
+    std::uint64_t multiplied() const { return entries; }
 
   private:
     std::variant<T, Refusal> held;
+    std::uint64_t entries = 0;
 };
 
 namespace detail {
 
-template <class T> Result<T> result(std::uint32_t refusal, T value) {
+template <class T> Result<T> result(std::uint32_t refusal, T value, std::uint64_t multiplied = 0) {
     if (refusal != 0)
         return Refusal{refusal};
-    return value;
+    return {std::move(value), multiplied};
 }
 
 // The pointer of an empty vector may be null, and a slice's may not.
@@ -167,6 +172,7 @@ struct Answer {
     // The passes in their order. Their applications, and degree - 1 for the close (0 for degree 0), make up those of
     // the run.
     std::vector<Pass> bill = {};
+    std::uint64_t multiplied = 0; // entries of A, in all applications
 };
 
 // Structured bindings of an Answer have the names that stand before the bill: code that binds six is older than it.
@@ -212,23 +218,25 @@ template <class Call, class... Rest> auto with(Call call, const Field &field, co
 // Av
 inline Result<Vector> product(const Field &field, const Matrix &a, const Vector &v) {
     detail::Lent<Element> out(a.size());
-    auto refusal = detail::with(filzeur_product, field, a, detail::place(v), v.size(), out.data(), out.size());
-    return detail::result(refusal, std::move(out).leading(a.size()));
+    auto [refusal, multiplied] =
+        detail::with(filzeur_product, field, a, detail::place(v), v.size(), out.data(), out.size());
+    return detail::result(refusal, std::move(out).leading(a.size()), multiplied);
 }
 
 // The transpose of A times v
 inline Result<Vector> transposed(const Field &field, const Matrix &a, const Vector &v) {
     detail::Lent<Element> out(a.size());
-    auto refusal = detail::with(filzeur_transposed, field, a, detail::place(v), v.size(), out.data(), out.size());
-    return detail::result(refusal, std::move(out).leading(a.size()));
+    auto [refusal, multiplied] =
+        detail::with(filzeur_transposed, field, a, detail::place(v), v.size(), out.data(), out.size());
+    return detail::result(refusal, std::move(out).leading(a.size()), multiplied);
 }
 
 // g(A)v
 inline Result<Vector> apply(const Field &field, const Matrix &a, const Polynomial &g, const Vector &v) {
     detail::Lent<Element> out(a.size()), work(2 * a.size());
-    auto refusal = detail::with(filzeur_apply, field, a, detail::place(g), g.size(), detail::place(v), v.size(),
-                                out.data(), out.size(), work.data(), work.size());
-    return detail::result(refusal, std::move(out).leading(a.size()));
+    auto [refusal, multiplied] = detail::with(filzeur_apply, field, a, detail::place(g), g.size(), detail::place(v),
+                                              v.size(), out.data(), out.size(), work.data(), work.size());
+    return detail::result(refusal, std::move(out).leading(a.size()), multiplied);
 }
 
 // The monic polynomial of the list's shortest recurrence: L + 1 coefficients.
@@ -252,19 +260,21 @@ inline Result<Answer> solve(const System &system, const std::vector<std::uint32_
     return detail::result(verdict.refusal,
                           Answer{Kind{verdict.kind}, verdict.degree, verdict.passes, verdict.applications,
                                  std::move(vector).leading(a.size()), std::move(polynomial).leading(verdict.degree + 1),
-                                 detail::passes(bill.data(), verdict.passes)});
+                                 detail::passes(bill.data(), verdict.passes), verdict.multiplied},
+                          verdict.multiplied);
 }
 
 // Whether Ax = b
 inline Result<bool> takes(const Field &field, const Matrix &a, const Vector &x, const Vector &b) {
-    auto [refusal, yes] = detail::with(filzeur_takes, field, a, detail::place(x), x.size(), detail::place(b), b.size());
-    return detail::result(refusal, yes == 1);
+    auto [refusal, yes, multiplied] =
+        detail::with(filzeur_takes, field, a, detail::place(x), x.size(), detail::place(b), b.size());
+    return detail::result(refusal, yes == 1, multiplied);
 }
 
 // Whether w is not zero and Aw = 0
 inline Result<bool> is_null(const Field &field, const Matrix &a, const Vector &w) {
-    auto [refusal, yes] = detail::with(filzeur_is_null, field, a, detail::place(w), w.size());
-    return detail::result(refusal, yes == 1);
+    auto [refusal, yes, multiplied] = detail::with(filzeur_is_null, field, a, detail::place(w), w.size());
+    return detail::result(refusal, yes == 1, multiplied);
 }
 
 inline Result<System> read_system(std::string_view text) {

@@ -93,17 +93,18 @@ def add(p, starts, columns, values, g, v, b, out=None, work=None, made=None):
         cases.append(lists)
     system = (p, starts, columns, values)
     rows = None if matrix_refusal(*system) else dense(n, starts, columns, values)
+    once = sum(map(len, rows or []))  # the entries that a product multiplies
     line, left = [], [FREE] * out
 
     def written(number, answer, products):
         nonlocal left
         left = left if number else answer()
-        line.append((printed(number) if number else printed(0, products)) + shown(left))
+        line.append((printed(number) if number else printed(0, products, products * once)) + shown(left))
         seen[number or 'done'] += 1
 
     def verdict(number, answer):
         yes = not number and answer()
-        line.append(printed(number) if number else printed(0, yes))
+        line.append(printed(number) if number else printed(0, yes, once))
         seen[number or ('yes' if yes else 'no')] += 1
     written(refusal(*system, [len(v) == n], [v], [out == n]), lambda: product(p, rows, v), 1)
     verdict(refusal(*system, [len(v) == n, len(left) == n], [v, left], []), lambda: product(p, rows, v) == left)

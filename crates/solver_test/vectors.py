@@ -67,9 +67,9 @@ def add(p, starts, columns, values, b, words, vector=None, polynomial=None, work
     if answer[0] == 'refused':
         answers.append(printed(answer[1]) + ''.join(map(shown, lent)) + shown([FREE] * work))
         return
-    _, kind, D, passes, applications, x, F, lines = answer
-    answers.append(printed(0, kind == 'solved', D, passes, applications) + shown(x) + shown(F) + shown(lines) + shown([]))
-    assert billed(lines, n, D, passes, applications)
+    _, kind, D, passes, applications, multiplied, x, F, lines = answer
+    answers.append(printed(0, kind == 'solved', D, passes, applications, multiplied) + shown(x) + shown(F) + shown(lines) + shown([]))
+    assert billed(lines, n, D, passes, applications) and multiplied == applications * len(values)
     if n <= 24:
         A = dense(starts, columns, values)
         image = [sum(c * y for c, y in zip(row, x)) % p for row in A]

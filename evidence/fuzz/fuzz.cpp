@@ -154,7 +154,7 @@ Expected oracle(std::string_view bytes, size_t answer_length) {
     };
     size_t degree = solved.f.size() - 1, pass = 0;
     line(solved.solved ? "answer\tsolved" : "answer\tsingular",
-         {degree, solved.bill.size(), solved.applications});
+         {degree, solved.bill.size(), solved.applications, solved.multiplied});
     for (auto [left, t, applications] : solved.bill)
         line("pass", {++pass, left, t, applications});
     line("close", {degree == 0 ? 0 : degree - 1});

@@ -25,13 +25,13 @@ static void *held(const char *name, const void *slice, size_t alignment) {
         return __real_##name arguments;                                                                                \
     }
 
-WRAP(uint32_t, filzeur_product, (uint32_t p, READS_MATRIX, READS(uint32_t, v), WRITES(uint32_t, out)),
+WRAP(struct filzeur_written, filzeur_product, (uint32_t p, READS_MATRIX, READS(uint32_t, v), WRITES(uint32_t, out)),
      (p, LENT_MATRIX, LENT(v), LENT(out)))
 
-WRAP(uint32_t, filzeur_transposed, (uint32_t p, READS_MATRIX, READS(uint32_t, v), WRITES(uint32_t, out)),
+WRAP(struct filzeur_written, filzeur_transposed, (uint32_t p, READS_MATRIX, READS(uint32_t, v), WRITES(uint32_t, out)),
      (p, LENT_MATRIX, LENT(v), LENT(out)))
 
-WRAP(uint32_t, filzeur_apply,
+WRAP(struct filzeur_written, filzeur_apply,
      (uint32_t p, READS_MATRIX, READS(uint32_t, g), READS(uint32_t, v), WRITES(uint32_t, out), WRITES(uint32_t, work)),
      (p, LENT_MATRIX, LENT(g), LENT(v), LENT(out), LENT(work)))
 

@@ -1,12 +1,13 @@
 /* filzeur.h from plain C99: document 01's diag(2,3) through the number call, with a bill and without, its first case
- * through the text call, and a system with nothing left through every call. */
+ * through the text call, the entries multiplied by every call that makes products, and a system with nothing left
+ * through every call. */
 #include "../filzeur.h"
 
 #include <stdio.h>
 #include <string.h>
 
-#if FILZEUR_VERSION < 3
-#error "the bill came with version 2, size 0 with version 3"
+#if FILZEUR_VERSION < 4
+#error "the bill came with version 2, size 0 with version 3, the entries multiplied with version 4"
 #endif
 
 static int solves(void) {
@@ -17,18 +18,62 @@ static int solves(void) {
     struct filzeur_verdict unbilled =
         filzeur_solve(7, starts, 3, columns, 2, values, 2, b, 2, words, 2, x, 2, f, 3, bill, 0, work, 48);
     return verdict.refusal == 0 && verdict.kind == FILZEUR_SOLVED && verdict.degree == 2 && verdict.passes == 1 &&
-           verdict.applications == 6 && x[0] == 4 && x[1] == 5 && f[0] == 6 && f[1] == 2 && f[2] == 1 && bill[0] == 2 &&
-           bill[1] == 2 && bill[2] == 5 && bill[3] == 0 && unbilled.refusal == 0 && unbilled.applications == 6 &&
+           verdict.applications == 6 && verdict.multiplied == 12 && x[0] == 4 && x[1] == 5 && f[0] == 6 && f[1] == 2 &&
+           f[2] == 1 && bill[0] == 2 && bill[1] == 2 && bill[2] == 5 && bill[3] == 0 && unbilled.refusal == 0 &&
+           unbilled.applications == 6 && unbilled.multiplied == 12 &&
            filzeur_takes(7, starts, 3, columns, 2, values, 2, x, 2, b, 2).yes == 1;
 }
 
 static int answers(void) {
     const char *text = "system\t7\t2\t3\na\t1\t1\t2\na\t1\t2\t1\na\t2\t2\t3\nb\t1\t1\nb\t2\t1\nend\n";
     const char *wanted =
-        "answer\tsolved\t1\t1\t4\npass\t1\t2\t1\t4\nclose\t0\nf\t0\t4\nf\t1\t1\nx\t1\t5\nx\t2\t5\nend\n";
+        "answer\tsolved\t1\t1\t4\t12\npass\t1\t2\t1\t4\nclose\t0\nf\t0\t4\nf\t1\t1\nx\t1\t5\nx\t2\t5\nend\n";
     uint8_t answer[FILZEUR_CALL_ANSWER];
     uint64_t length = filzeur_text((const uint8_t *)text, strlen(text), answer, sizeof answer);
     return length == strlen(wanted) && memcmp(answer, wanted, length) == 0;
+}
+
+/* Each call with four entries, one of its rows empty, on a vector with zeros and on zero; then each refused, where 0 is
+ * answered. */
+#define A 7, starts, 4, columns, 4, values, 4
+#define OUT out, 3
+#define WORK work, 64
+
+static int wrote(struct filzeur_written answer, uint32_t refusal, uint64_t multiplied) {
+    return answer.refusal == refusal && answer.multiplied == multiplied;
+}
+
+static int said(struct filzeur_yes answer, uint32_t refusal, uint32_t yes, uint64_t multiplied) {
+    return answer.refusal == refusal && answer.yes == yes && answer.multiplied == multiplied;
+}
+
+static int ran(struct filzeur_verdict answer, uint32_t refusal, uint64_t applications, uint64_t multiplied) {
+    return answer.refusal == refusal && answer.applications == applications && answer.multiplied == multiplied;
+}
+
+static int multiplies(void) {
+    const uint32_t starts[] = {0, 3, 3, 4}, columns[] = {0, 1, 2, 1}, values[] = {2, 1, 5, 3}, zero[] = {0, 0, 0};
+    const uint32_t v[] = {1, 0, 6}, image[] = {4, 0, 0}, w[] = {1, 0, 1}, large[] = {7, 0, 0}, g[] = {3, 0, 6, 1};
+    uint32_t out[3], f[4], bill[9], work[64];
+    return wrote(filzeur_product(A, v, 3, OUT), 0, 4) && wrote(filzeur_product(A, zero, 3, OUT), 0, 4) &&
+           wrote(filzeur_transposed(A, v, 3, OUT), 0, 4) && wrote(filzeur_transposed(A, zero, 3, OUT), 0, 4) &&
+           wrote(filzeur_apply(A, g, 1, v, 3, OUT, WORK), 0, 0) &&
+           wrote(filzeur_apply(A, g, 4, v, 3, OUT, WORK), 0, 12) &&
+           wrote(filzeur_apply(A, g, 2, zero, 3, OUT, WORK), 0, 4) && said(filzeur_takes(A, v, 3, image, 3), 0, 1, 4) &&
+           said(filzeur_takes(A, v, 3, zero, 3), 0, 0, 4) && said(filzeur_takes(A, zero, 3, zero, 3), 0, 1, 4) &&
+           said(filzeur_is_null(A, w, 3), 0, 1, 4) && said(filzeur_is_null(A, v, 3), 0, 0, 4) &&
+           said(filzeur_is_null(A, zero, 3), 0, 0, 4) &&
+           ran(filzeur_solve(A, image, 3, v, 0, OUT, f, 4, bill, 9, WORK), 0, 6, 24) &&
+           ran(filzeur_solve(A, zero, 3, v, 3, OUT, f, 4, bill, 9, WORK), 0, 0, 0) &&
+
+           wrote(filzeur_product(A, v, 2, OUT), 8, 0) && wrote(filzeur_transposed(A, large, 3, OUT), 9, 0) &&
+           wrote(filzeur_product(A, v, 3, out, 2), 11, 0) && wrote(filzeur_transposed(A, v, 3, out, 2), 11, 0) &&
+           wrote(filzeur_apply(A, g, 0, v, 3, OUT, WORK), 8, 0) &&
+           wrote(filzeur_apply(A, g, 4, v, 3, OUT, work, 5), 11, 0) &&
+           said(filzeur_takes(A, v, 3, image, 2), 8, 0, 0) && said(filzeur_takes(A, v, 3, large, 3), 9, 0, 0) &&
+           said(filzeur_is_null(A, w, 2), 8, 0, 0) && said(filzeur_is_null(A, large, 3), 9, 0, 0) &&
+           ran(filzeur_solve(A, image, 3, v, 2, OUT, f, 4, bill, 9, WORK), 10, 0, 0) &&
+           ran(filzeur_solve(A, image, 3, v, 3, OUT, f, 4, bill, 9, work, 63), 11, 0, 0);
 }
 
 /* Size 0. An empty slice has a pointer all the same, here to a place that stays as it was. */
@@ -40,7 +85,7 @@ static int nothing_left(void) {
     uint32_t out[] = {9}, f[] = {9, 9}, bill[] = {9, 9, 9}, work[17], i;
     uint32_t read_starts[] = {9, 9}, columns[] = {9}, values[] = {9}, right[] = {9};
     const char *text = "system\t7\t0\t0\nend\n";
-    const char *wanted = "answer\tsolved\t0\t0\t0\nclose\t0\nf\t0\t1\nend\n";
+    const char *wanted = "answer\tsolved\t0\t0\t0\t0\nclose\t0\nf\t0\t1\nend\n";
     uint8_t written[18], answer[FILZEUR_CALL_ANSWER + 1];
     struct filzeur_verdict verdict, refused;
     struct filzeur_system system;
@@ -49,11 +94,12 @@ static int nothing_left(void) {
     memset(written, 9, sizeof written);
     memset(answer, 9, sizeof answer);
 
-    if (filzeur_product(NOTHING, NO(none), NO(out)) != 0 || filzeur_transposed(NOTHING, NO(none), NO(out)) != 0 ||
-        filzeur_apply(NOTHING, g, 1, NO(none), NO(out), NO(work)) != 0 ||
-        filzeur_apply(NOTHING, g, 2, NO(none), NO(out), NO(work)) != 8 ||
-        filzeur_takes(NOTHING, NO(none), NO(none)).yes != 1 || filzeur_is_null(NOTHING, NO(none)).refusal != 0 ||
-        filzeur_is_null(NOTHING, NO(none)).yes != 0 || out[0] != 9 || work[0] != 9)
+    if (!wrote(filzeur_product(NOTHING, NO(none), NO(out)), 0, 0) ||
+        !wrote(filzeur_transposed(NOTHING, NO(none), NO(out)), 0, 0) ||
+        !wrote(filzeur_apply(NOTHING, g, 1, NO(none), NO(out), NO(work)), 0, 0) ||
+        !wrote(filzeur_apply(NOTHING, g, 2, NO(none), NO(out), NO(work)), 8, 0) ||
+        !said(filzeur_takes(NOTHING, NO(none), NO(none)), 0, 1, 0) ||
+        !said(filzeur_is_null(NOTHING, NO(none)), 0, 0, 0) || out[0] != 9 || work[0] != 9)
         return 0;
 
     refused = filzeur_solve(NOTHING, NO(none), words, 1, NO(out), f, 1, bill, 3, work, 16);
@@ -61,8 +107,8 @@ static int nothing_left(void) {
         return 0;
     verdict = filzeur_solve(NOTHING, NO(none), NO(words), NO(out), f, 1, bill, 3, work, 16);
     if (verdict.refusal != 0 || verdict.kind != FILZEUR_SOLVED || verdict.degree != 0 || verdict.passes != 0 ||
-        verdict.applications != 0 || out[0] != 9 || f[0] != 1 || f[1] != 9 || bill[0] != 9 || bill[1] != 9 ||
-        bill[2] != 9 || work[16] != 9)
+        verdict.applications != 0 || verdict.multiplied != 0 || out[0] != 9 || f[0] != 1 || f[1] != 9 || bill[0] != 9 ||
+        bill[1] != 9 || bill[2] != 9 || work[16] != 9)
         return 0;
 
     system = filzeur_read((const uint8_t *)text, strlen(text), read_starts, 1, NO(columns), NO(values), NO(right));
@@ -77,8 +123,8 @@ static int nothing_left(void) {
 }
 
 int main(void) {
-    int passed =
-        solves() && answers() && nothing_left() && filzeur_field(2147483647) == 0 && filzeur_field(2147483646) == 3;
+    int passed = solves() && answers() && multiplies() && nothing_left() && filzeur_field(2147483647) == 0 &&
+                 filzeur_field(2147483646) == 3;
     printf("c99: %s\n", passed ? "passed" : "FAILED");
     return passed ? 0 : 1;
 }

@@ -131,21 +131,23 @@ void solver_case(const std::string &what, const Run &run, const std::string &exp
     check(verdict.refusal == refusal, what + ", refusal " + std::to_string(verdict.refusal));
     check(work.margins_untouched(), what + ", around the work slice");
     if (refusal != 0) {
-        check(verdict.kind == 0 && verdict.degree == 0 && verdict.passes == 0 && verdict.applications == 0,
+        check(verdict.kind == 0 && verdict.degree == 0 && verdict.passes == 0 && verdict.applications == 0 &&
+                  verdict.multiplied == 0,
               what + ", no other answer");
         check(vector.untouched() && polynomial.untouched() && bill.untouched() && work.untouched(), what + ", slices");
         if (refusal != 11) // the C++ call's own slices are right
-            check(answer.refusal().number == refusal, what + ", C++ refusal");
+            check(answer.refusal().number == refusal && answer.multiplied() == 0, what + ", C++ refusal");
         return;
     }
     auto found = numbers(expected, has(expected, "x = ") ? "x = " : has(expected, "w = ") ? "w = " : "vector ");
     auto f = numbers(expected, has(expected, "slice = ") ? "slice = " : "polynomial ");
     auto billed = numbers(expected, has(expected, "bill = ") ? "bill = " : "bill ");
     std::uint64_t degree = number(expected, "D = "), passes = number(expected, "passes = "),
-                  applications = number(expected, "applications = ");
+                  applications = number(expected, "applications = "), multiplied = number(expected, "multiplied = ");
     std::uint32_t kind = has(expected, "-> solved") ? FILZEUR_SOLVED : FILZEUR_SINGULAR;
     check(verdict.kind == kind && verdict.degree == degree && verdict.passes == passes &&
-              verdict.applications == applications,
+              verdict.applications == applications && has(expected, "multiplied = ") &&
+              verdict.multiplied == multiplied,
           what + ", verdict");
     check(vector.ends_as(found) && polynomial.ends_as(f) && bill.ends_as(billed), what + ", slices");
 
@@ -154,7 +156,8 @@ void solver_case(const std::string &what, const Run &run, const std::string &exp
         return;
     const auto &value = answer.value();
     check(value.kind == filzeur::Kind{kind} && value.degree == degree && value.passes == passes &&
-              value.applications == applications && value.vector == found && padded(value.polynomial, f.size()) == f &&
+              value.applications == applications && value.multiplied == multiplied &&
+              answer.multiplied() == multiplied && value.vector == found && padded(value.polynomial, f.size()) == f &&
               value.polynomial.size() == degree + 1,
           what + ", C++ answer's fields");
     billed.resize(3 * std::min<std::size_t>(passes, billed.size() / 3));
@@ -210,12 +213,15 @@ void offered_case(const std::string &line) {
     filzeur::Field field{number(line, "p = ")};
     bool offered_x = has(line, "check Ax = b");
     auto x = numbers(line, ", x = "), b = numbers(line, ", b = "), w = numbers(line, ", w = ");
-    auto [refusal, yes] = offered_x ? on(filzeur_takes, field.p, u, place(x), x.size(), place(b), b.size())
-                                    : on(filzeur_is_null, field.p, u, place(w), w.size());
+    auto [refusal, yes, multiplied] = offered_x ? on(filzeur_takes, field.p, u, place(x), x.size(), place(b), b.size())
+                                                : on(filzeur_is_null, field.p, u, place(w), w.size());
     check(refusal == refusal_of(line) && yes == (has(line, "-> True") ? 1u : 0u), line);
+    check(has(line, "multiplied = ") == (refusal == 0) && multiplied == number(line, "multiplied = "),
+          line + ", entries");
     auto answer = offered_x ? filzeur::takes(field, u, x, b) : filzeur::is_null(field, u, w);
     check(refusal == 0 ? answer.ok() && answer.value() == has(line, "-> True") : answer.refusal().number == refusal,
           line + ", C++");
+    check(answer.multiplied() == multiplied, line + ", C++ entries");
 }
 
 void product_case(const std::vector<std::string> &lines) {
@@ -228,24 +234,26 @@ void product_case(const std::vector<std::string> &lines) {
     auto n = static_cast<std::uint32_t>(a.size());
     Lent out(number(line, "out of ", n)), work(number(line, "work slice of ", 2 * n));
     bool polynomial = has(line, " g(A)v"), transposed = has(line, " transposed product");
-    std::uint32_t refusal = polynomial ? on(filzeur_apply, field.p, a, place(g), g.size(), place(v), v.size(),
-                                            out.data(), out.size(), work.data(), work.size())
-                                       : on(transposed ? filzeur_transposed : filzeur_product, field.p, a, place(v),
-                                            v.size(), out.data(), out.size());
+    auto [refusal, multiplied] = polynomial ? on(filzeur_apply, field.p, a, place(g), g.size(), place(v), v.size(),
+                                                 out.data(), out.size(), work.data(), work.size())
+                                            : on(transposed ? filzeur_transposed : filzeur_product, field.p, a,
+                                                 place(v), v.size(), out.data(), out.size());
     auto answer = polynomial   ? filzeur::apply(field, a, g, v)
                   : transposed ? filzeur::transposed(field, a, v)
                                : filzeur::product(field, a, v);
     check(refusal == refusal_of(line), line + ", refusal " + std::to_string(refusal));
+    check(has(line, "multiplied = ") == (refusal == 0) && multiplied == number(line, "multiplied = "),
+          line + ", entries");
     check(work.margins_untouched(), line + ", around the work slice");
     if (refusal != 0) {
         check(out.untouched() && work.untouched(), line + ", slices");
         if (refusal != 11)
-            check(answer.refusal().number == refusal, line + ", C++ refusal");
+            check(answer.refusal().number == refusal && answer.multiplied() == 0, line + ", C++ refusal");
         return;
     }
     auto image = numbers(line, "-> ");
     check(out.ends_as(image), line);
-    check(answer.ok() && answer.value() == image, line + ", C++");
+    check(answer.ok() && answer.value() == image && answer.multiplied() == multiplied, line + ", C++");
 }
 
 // ---- Section 4: the reader ----
@@ -352,7 +360,7 @@ struct Section {
 };
 
 const std::map<char, Section> sections = {
-    {'1', {system_case, 19}}, {'2', {recurrence_case, 15}}, {'3', {product_case, 36}}, {'4', {reader_case, 39}},
+    {'1', {system_case, 19}}, {'2', {recurrence_case, 15}}, {'3', {product_case, 47}}, {'4', {reader_case, 39}},
     {'5', {text_case, 20}},   {'6', {writer_case, 9}},      {'7', {refusal_case, 53}}, {'8', {field_case, 14}},
 };
 

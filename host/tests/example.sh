@@ -3,8 +3,8 @@
 #     sh example.sh PROGRAM FOLDER
 #
 # Without words it gives, byte for byte, the answers that evidence/reference.py gave (*.answer); with words the same but
-# for the passes and the counts, whatever they are, and the bill adds up. What is no system is refused, by number and
-# exit status.
+# for the passes and the counts, whatever they are, and the bill adds up, as do the entries multiplied. What is no
+# system is refused, by number and exit status.
 set -eu
 program=$1 examples=$2
 
@@ -13,18 +13,21 @@ fail() {
     exit 1
 }
 
-# The kind, the degree, f and the vector, without the passes and applications
+# The kind, the degree, f and the vector, without the passes and counts
 verdict() {
     "$program" "$@" 2>/dev/null | grep -v '^pass' | cut -f 1-3
 }
 
-# A line for each pass, and their sum with the close is what the first line says
+# A line for each pass, and their sum with the close is what the first line says; each multiplied as many entries as
+# the system's text ($1) has
 adds_up() {
-    "$program" "$@" 2>/dev/null | awk -F '\t' '
-        $1 == "answer" { passes = $4; applications = $5 }
+    entries=$(grep -c '^a' "$1" || true)
+    shift
+    "$program" "$@" 2>/dev/null | awk -F '\t' -v entries="$entries" '
+        $1 == "answer" { passes = $4; applications = $5; multiplied = $6 }
         $1 == "pass" && $2 == found + 1 { found++; sum += $5 }
         $1 == "close" { closed++; sum += $2 }
-        END { exit !(closed == 1 && found == passes && sum == applications) }'
+        END { exit !(closed == 1 && found == passes && sum == applications && sum * entries == multiplied) }'
 }
 
 refused() {
@@ -44,7 +47,7 @@ for system in "$examples"/*.system; do
     [ -n "$without" ] || fail "$system is not answered"
     for vectors in 1 1 2 64; do
         [ "$(verdict -r "$vectors" "$system")" = "$without" ] || fail "$system with $vectors vectors of words"
-        adds_up -r "$vectors" "$system" || fail "the bill of $system with $vectors vectors of words"
+        adds_up "$system" -r "$vectors" "$system" || fail "the bill of $system with $vectors vectors of words"
     done
     [ "$(verdict -r 1 <"$system")" = "$without" ] || fail "$system from standard input"
 done

@@ -167,6 +167,25 @@ std::vector<std::uint32_t> draw_words(std::uint32_t p, std::size_t size, std::si
 
 // ---- What is tested ----
 
+// The entries of the dense matrix
+std::uint64_t entries_of(const Rows &rows) {
+    std::uint64_t count = 0;
+    for (const auto &row : rows)
+        count += std::uint64_t(row.size()) - std::uint64_t(std::count(row.begin(), row.end(), 0u));
+    return count;
+}
+
+// A call multiplies each entry once for each product that it makes, whatever the vector holds.
+void entries(const System &system, const Vector &v, const Polynomial &g) {
+    auto once = entries_of(dense(system));
+    const auto &[field, a, b] = system;
+    check(filzeur::product(field, a, v).multiplied() == once, "product's entries");
+    check(filzeur::transposed(field, a, v).multiplied() == once, "transposed's entries");
+    check(filzeur::apply(field, a, g, v).multiplied() == (g.size() - 1) * once, "apply's entries");
+    check(filzeur::takes(field, a, v, b).multiplied() == once, "takes's entries");
+    check(filzeur::is_null(field, a, v).multiplied() == once, "is_null's entries");
+}
+
 void products(const System &system) {
     auto p = system.field.p;
     auto rows = dense(system);
@@ -185,6 +204,8 @@ void products(const System &system) {
     const Vector zero(rows.size());
     check(filzeur::is_null(system.field, system.matrix, v).value() == (v != zero && times(p, rows, v) == zero),
           "is_null");
+    entries(system, v, g);
+    entries(system, zero, {1});
 }
 
 void text(const System &system) {
@@ -236,21 +257,25 @@ void bill_lengths(const System &system, const std::vector<std::uint32_t> &words)
                                          words.size(), vector.data(), n, f.data(), n + 1, bill.data(), places,
                                          work.data(), work_length);
         };
-        check(solve(work.size() - 1).refusal == 11 && bill.untouched(), "a refused call's bill");
+        auto refused = solve(work.size() - 1);
+        check(refused.refusal == 11 && refused.multiplied == 0 && bill.untouched(), "a refused call's bill");
         auto verdict = solve(work.size());
         check(verdict.refusal == 0 && verdict.passes == run.passes && verdict.applications == run.applications &&
-                  vector.ends_as(run.vector),
+                  verdict.multiplied == run.multiplied && vector.ends_as(run.vector),
               "the same run for every bill");
         auto billed = std::ptrdiff_t(std::min(places - places % 3, all.size()));
         check(bill.ends_as(Vector(all.begin(), all.begin() + billed)), "whole passes on a bill");
     }
 }
 
-// Code from before the bill: six initialisers, six names bound, and passes is their number.
+// Code from before the bill: six initialisers, six names bound, and passes is their number. Code from before the
+// entries multiplied: seven initialisers, functions of the types that they had, and results made of a value alone.
 void earlier_code() {
     filzeur::Answer answer{Kind::solved, 1, 2, 7, {0, 5}, {4, 1}};
     std::uint64_t passes = answer.passes;
-    check(passes == 2 && answer.bill.empty(), "an answer made without a bill");
+    check(passes == 2 && answer.bill.empty() && answer.multiplied == 0, "an answer made without a bill");
+    filzeur::Answer billed{Kind::solved, 1, 1, 4, {5, 5}, {4, 1}, {{2, 1, 4}}};
+    check(billed.bill.size() == 1 && billed.multiplied == 0, "an answer made with a bill");
     const auto &[kind, degree, number, applications, vector, polynomial] = answer;
     check(kind == Kind::solved && degree == 1 && number == 2 && applications == 7 && &vector == &answer.vector &&
               polynomial == Polynomial{4, 1},
@@ -261,6 +286,26 @@ void earlier_code() {
     auto &[k2, d2, n2, a2, x2, f2] = answer;
     k2 = Kind::singular, d2 = n2 = a2 = 0, x2 = f2 = {};
     check(answer.kind == Kind::singular && answer.passes == 0 && answer.vector.empty(), "six names, written through");
+
+    using filzeur::Field, filzeur::Matrix, filzeur::Result;
+    Result<Vector> (*product)(const Field &, const Matrix &, const Vector &) = filzeur::product;
+    Result<Vector> (*transposed)(const Field &, const Matrix &, const Vector &) = filzeur::transposed;
+    Result<Vector> (*apply)(const Field &, const Matrix &, const Polynomial &, const Vector &) = filzeur::apply;
+    Result<filzeur::Answer> (*solve)(const System &, const std::vector<std::uint32_t> &) = filzeur::solve;
+    Result<bool> (*takes)(const Field &, const Matrix &, const Vector &, const Vector &) = filzeur::takes;
+    Result<bool> (*is_null)(const Field &, const Matrix &, const Vector &) = filzeur::is_null;
+    const Matrix diagonal{{0, 1, 2}, {0, 1}, {2, 3}};
+    check(product({7}, diagonal, {1, 1}).value() == Vector{2, 3} &&
+              transposed({7}, diagonal, {1, 1}).value() == Vector{2, 3} &&
+              apply({7}, diagonal, {0, 1}, {1, 1}).value() == Vector{2, 3} &&
+              solve({{7}, diagonal, {1, 1}}, {}).value().vector == Vector{4, 5} &&
+              takes({7}, diagonal, {4, 5}, {1, 1}).value() && !is_null({7}, diagonal, {4, 5}).value(),
+          "functions of the types that they had");
+    Result<Vector> made = Vector{1, 2}, braced{{1, 2}}, refused = filzeur::Refusal{8};
+    Result<bool> yes = true, no{false};
+    check(made.value() == Vector{1, 2} && braced.value() == Vector{1, 2} && refused.refusal().number == 8 &&
+              yes.value() && !no.value() && made.multiplied() + refused.multiplied() + yes.multiplied() == 0,
+          "results of a value alone, or of a refusal");
 }
 
 // The third condition: the verdict by dense elimination, and the same verdict for all words.
@@ -286,6 +331,7 @@ void solver(const System &system) {
               "the same verdict for other words");
         check(again.passes <= vectors + n, "passes at most R + n");
         bill(n, again);
+        check(again.multiplied == again.applications * entries_of(rows), "a run's entries");
         if (system.right == zero)
             check(again.passes == 0 && again.applications == 0, "nothing counted for b = 0");
         if (again.passes == 1)
@@ -299,7 +345,7 @@ void text_call(const System &system) {
     bool solved = run.kind == Kind::solved;
     std::ostringstream text;
     text << "answer\t" << (solved ? "solved" : "singular") << '\t' << run.degree << '\t' << run.passes << '\t'
-         << run.applications << '\n';
+         << run.applications << '\t' << run.multiplied << '\n';
     for (std::size_t i = 0; i < run.bill.size(); ++i)
         text << "pass\t" << i + 1 << '\t' << run.bill[i].left << '\t' << run.bill[i].degree << '\t'
              << run.bill[i].applications << '\n';
@@ -341,9 +387,10 @@ void largest() {
     auto answer = filzeur::solve(system, draw_words(p, n, 1)).value();
     check(answer.degree <= per_row + 1, "the degree of a matrix of rank 16");
     bill(n, answer);
+    check(answer.multiplied == answer.applications * FILZEUR_MAX_ENTRIES, "the entries of the largest run");
     auto yes = answer.kind == Kind::solved ? filzeur::takes(system.field, system.matrix, answer.vector, system.right)
                                            : filzeur::is_null(system.field, system.matrix, answer.vector);
-    check(yes.value(), "the largest answer multiplies out");
+    check(yes.value() && yes.multiplied() == FILZEUR_MAX_ENTRIES, "the largest answer multiplies out");
 
     auto s = elements(p, FILZEUR_MAX_LIST);
     check(filzeur::recurrence({p}, s).value().size() == FILZEUR_MAX_LIST / 2 + 1, "the longest list");
@@ -383,6 +430,34 @@ void refusals() {
     check(filzeur::recurrence({7}, {}).value() == filzeur::Polynomial{1}, "the empty list");
 }
 
+// The number beside each refusal, of calls that make no product, of a matrix without entries and of the empty sum.
+void nothing_multiplied() {
+    const filzeur::Matrix u{{0, 1, 1}, {1}, {1}}, none{{0, 0, 0}, {}, {}};
+    const System system{{7}, u, {0, 1}};
+    check(filzeur::product({7}, u, {7, 0}).multiplied() == 0 && filzeur::transposed({6}, u, {1, 0}).multiplied() == 0 &&
+              filzeur::apply({7}, u, {}, {1, 0}).multiplied() == 0 &&
+              filzeur::takes({7}, u, {1}, {1, 0}).multiplied() == 0 &&
+              filzeur::is_null({7}, u, {7, 0}).multiplied() == 0 && filzeur::solve(system, {1}).multiplied() == 0,
+          "nothing multiplied beside a refusal");
+    check(filzeur::read_system("system\t7\t1\t1\na\t1\t1\t1\nend\n").multiplied() == 0 &&
+              filzeur::write_system(system).multiplied() == 0 && filzeur::recurrence({7}, {1, 2}).multiplied() == 0 &&
+              filzeur::Field{7}.product(2, 3).multiplied() == 0,
+          "nothing multiplied without a product");
+    check(filzeur::apply({7}, u, {3}, {1, 2}).multiplied() == 0 && filzeur::apply({7}, u, {0}, {1, 2}).ok(),
+          "nothing multiplied for one coefficient");
+    auto singular = filzeur::solve({{7}, none, {0, 3}});
+    check(filzeur::product({7}, none, {1, 2}).multiplied() == 0 &&
+              filzeur::is_null({7}, none, {1, 2}).multiplied() == 0 && singular.value().applications == 7 &&
+              singular.value().multiplied == 0 && singular.multiplied() == 0,
+          "nothing multiplied without entries");
+    auto run = filzeur::solve(system);
+    check(run.value().applications == 6 && run.value().multiplied == 6 && run.multiplied() == 6,
+          "one entry, six times");
+    check(filzeur::is_null({7}, u, {0, 0}).multiplied() == 1 &&
+              filzeur::takes({7}, u, {0, 0}, {1, 0}).multiplied() == 1,
+          "a zero vector offered");
+}
+
 // Size 0 in every call, and what is refused there.
 void nothing_left() {
     const filzeur::Matrix a{{0}, {}, {}};
@@ -395,11 +470,14 @@ void nothing_left() {
     check(filzeur::product({7}, a, {}).value().empty() && filzeur::transposed({7}, a, {}).value().empty() &&
               filzeur::apply({7}, a, {6}, {}).value().empty(),
           "size 0, multiplied");
+    check(answer.multiplied == 0 && filzeur::product({7}, a, {}).multiplied() == 0 &&
+              filzeur::takes({7}, a, {}, {}).multiplied() == 0 && filzeur::is_null({7}, a, {}).multiplied() == 0,
+          "size 0, no entries");
     check(filzeur::takes({7}, a, {}, {}).value(), "size 0, Ax = b");
     check(!filzeur::is_null({7}, a, {}).value(), "the empty vector is zero");
     check(filzeur::write_system(system).value() == text && filzeur::read_system(text).value() == system,
           "size 0, written and read");
-    check(filzeur::answer_text(text).value() == "answer\tsolved\t0\t0\t0\nclose\t0\nf\t0\t1\nend\n",
+    check(filzeur::answer_text(text).value() == "answer\tsolved\t0\t0\t0\t0\nclose\t0\nf\t0\t1\nend\n",
           "size 0, in the text call");
 
     check(filzeur::solve({{6}, a, {}}).refusal().number == 3, "size 0, and a composite modulus");
@@ -437,6 +515,7 @@ int main(int argc, char **argv) {
     }
     earlier_code();
     refusals();
+    nothing_multiplied();
     nothing_left();
     largest();
     return tests::report("random");

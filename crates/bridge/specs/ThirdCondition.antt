@@ -31,7 +31,7 @@ use lib.Seq.{getD-drop}
 use borrow.Author.Tests.{eq-eqb, ne-eqb}
 use Rattle.meaning.specs.List.{at, sum as sumℕ, table, zeros, every, isZero}
 use Rattle.meaning.specs.Field.{minus, times, inverse}
-use Rattle.meaning.specs.Matrix.{Matrix, size, product, power, apply}
+use Rattle.meaning.specs.Matrix.{Matrix, size, product, power, apply, multiplied}
 use Rattle.meaning.specs.Recurrence.{isMonic}
 use Rattle.meaning.specs.Solver.{vectorCount, vectors, projections, Run, begin, run, Kind, solved, singular, spent, applications, verdict, close, solve, nothingLeft}
 use Rattle.meaning.specs.ThirdCondition.{inSpan, termCost, ThirdCondition, SameAnswer}
@@ -391,7 +391,7 @@ everyTwoRuns p A b words words′ e e′ =
     a = accepted p A b words e
 
 empty-close : (p : ℕ) (A : Matrix) → size A ≡ 0 → close p A [] (begin []) ≡ nothingLeft
-unfolding close begin verdict table
+unfolding close begin verdict table multiplied spent sumℕ
 empty-close p A none = rw none refl
 
 pub everyEmptyRun : EveryEmptyRun

@@ -4,4 +4,5 @@ pub mod Matrix
 pub mod Recurrence
 pub mod Solver
 pub mod Pass
+pub mod Products
 pub mod Answers

@@ -229,6 +229,7 @@ pub record Applicable (p : ℕ) (A : Matrix) (g v out work : List ℕ) : Type 0 
   pub valid : Valid p A
   pub vector : Vector p (size A) v
   pub some : 0 < length g
+  pub few : length g ≤ size A + 1
   pub coefficients : Vector p (length g) g
   pub places : length out ≡ size A
   pub room : 2 * size A ≤ length work
@@ -250,6 +251,7 @@ apply-accepted p A g v out work e =
           vector-of p v (size A) (eqb-true (length v) (size A) (and-right (within 1 (size A + 1) (length g)) (eqb (length v) (size A)) lengths))
           (and-right (elements p g) (elements p v) below);
       some = leb-true 1 (length g) (and-left (leb 1 (length g)) (leb (length g) (size A + 1)) range);
+      few = leb-true (length g) (size A + 1) (and-right (leb 1 (length g)) (leb (length g) (size A + 1)) range);
       coefficients = vector-of p g (length g) refl (and-left (elements p g) (elements p v) below);
       places = eqb-true (length out) (size A) (and-left (eqb (length out) (size A)) (leb (2 * size A) (length work)) slices);
       room = leb-true (2 * size A) (length work) (and-right (eqb (length out) (size A)) (leb (2 * size A) (length work)) slices);

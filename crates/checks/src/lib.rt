@@ -9,17 +9,23 @@ ghost use mathlib.Core.List.{[]};
 ghost use Prim.Native.Nat.{_+_, _-_, _≤_, _<_};
 ghost use lib.Dec.{leb};
 ghost use lib.ListN.{length};
-ghost use Rattle.meaning.specs.List.{at, all, allFrom, every};
+ghost use Rattle.meaning.specs.List.{at, sumFrom, all, allFrom, every};
 ghost use Rattle.meaning.specs.Matrix.{matrix};
 ghost use Rattle.meaning.specs.Refusal.{wordsTaken, first, elements, sizeTaken, startsTaken, columnsTaken, valueTaken, matrixChecks};
 ghost use Rattle.meaning.specs.Calls.{systemChecks, productRefusal, applyRefusal, takesRefusal, recurrenceRefusal, solverRefusal};
 ghost use Rattle.checks.specs.Pass.{residualAt, stateChecks, passRefusal};
 ghost use Rattle.checks.specs.Matrix.{columnTaken, rises, Ordered};
+ghost use Rattle.checks.specs.Products.{Few, added};
+
+// Products with a matrix: how many were made, and how many of its entries they multiplied.
+pub struct Products {
+    pub made: usize,
+    pub multiplied: u64,
+}
 
 // What a call that writes a slice answers.
 pub enum Writing {
-    // How many products with the matrix were made.
-    Done(u64),
+    Done(Products),
     // The number of the first check that turned the input down.
     Refused(u32),
 }
@@ -29,6 +35,27 @@ pub fn wide(x: u32) -> usize
     ensures { λ r. ⌜ (r ≡ x) × (r ≤ 4294967295) ⌝ }
 {
     x as usize
+}
+
+// The entries multiplied in some rows and in the next one, which has those from `from` up to but not including `to`.
+pub fn with_row(multiplied: u64, from: usize, to: usize) -> u64
+    requires { ⌜ (multiplied ≤ from) × (from ≤ to) ⌝ }
+    ensures { λ r. ⌜ (r ≡ multiplied + sumFrom from to (λ k. 1)) × (r ≤ to) ⌝ }
+{
+    multiplied + (to - from) as u64
+}
+
+impl Products {
+    // Some products and some more.
+    pub fn and(self, more: Products) -> Self
+        requires { ⌜ Few self × Few more ⌝ }
+        ensures { λ r. ⌜ r ≡ added self more ⌝ }
+    {
+        Products {
+            made: self.made + more.made,
+            multiplied: self.multiplied + more.multiplied,
+        }
+    }
 }
 
 // 4: the size, 0 to 4,096, and some starts.

@@ -22,24 +22,26 @@ pub degree-answered : (a : Answer) (number L : ℕ) → GivesDegree a number L �
 degree-answered (Degree k) number L g e = ap Degree (sym (g .1))
 degree-answered (Refused k) number L g e = absurd (g .1 (sym (g .0) ∙ e))
 
-abbrev verdict : ℕ → ℕ → ℕ → ℕ → ℕ → Verdict
-verdict number kind degree passes applications =
-    record { refusal = number; kind = kind; degree = degree; passes = passes; applications = applications }
+abbrev verdict : ℕ → ℕ → ℕ → ℕ → ℕ → ℕ → Verdict
+verdict number kind degree passes applications multiplied =
+    record { refusal = number; kind = kind; degree = degree; passes = passes; applications = applications; multiplied = multiplied }
 
 pub verdict-counted : (k : Kind) (c : Counts) (number : ℕ) (o : Outcome) → number ≡ 0 → o .kind ≡ k → Counted c o
-    → record { refusal = 0; kind = kindNumber k; degree = c .degree; passes = c .passes; applications = c .applications } ≡ verdictOf number o
+    → record { refusal = 0; kind = kindNumber k; degree = c .degree; passes = c .passes; applications = c .applications; multiplied = c .multiplied }
+    ≡ verdictOf number o
 verdict-counted k c number o zero kind counted =
-    ap₂ (λ t d. verdict 0 t d (c .passes) (c .applications)) (sym (ap kindNumber kind)) (counted .degree)
-    ∙ ap₂ (λ t a. verdict 0 (kindNumber (o .kind)) (o .degree) t a) (counted .passes) (counted .applications)
+    ap₂ (λ t d. verdict 0 t d (c .passes) (c .applications) (c .multiplied)) (sym (ap kindNumber kind)) (counted .degree)
+    ∙ ap₂ (λ t a. verdict 0 (kindNumber (o .kind)) (o .degree) t a (c .multiplied)) (counted .passes) (counted .applications)
+    ∙ ap (verdict 0 (kindNumber (o .kind)) (o .degree) (passCount o) (applications o)) (counted .multiplied)
     ∙ ap (λ t. verdictOf t o) (sym zero)
 
 pub verdict-refused : (k number : ℕ) (o : Outcome) → number ≡ k → k ≢ 0
-    → record { refusal = k; kind = 0; degree = 0; passes = 0; applications = 0 } ≡ verdictOf number o
-verdict-refused k number o e some = ap (λ t. verdict t 0 0 0 0) (sym e) ∙ sym (ap unless off)
+    → record { refusal = k; kind = 0; degree = 0; passes = 0; applications = 0; multiplied = 0 } ≡ verdictOf number o
+verdict-refused k number o e some = ap (λ t. verdict t 0 0 0 0 0) (sym e) ∙ sym (ap unless off)
   where
     unless : Bool → Verdict
     unless t =
-        verdict number (cond t (kindNumber (o .kind)) 0) (cond t (o .degree) 0) (cond t (passCount o) 0) (cond t (applications o) 0)
+        verdict number (cond t (kindNumber (o .kind)) 0) (cond t (o .degree) 0) (cond t (passCount o) 0) (cond t (applications o) 0) (cond t (o .multiplied) 0)
 
     off : eqb number 0 ≡ false
     off = ne-eqb number 0 (λ z. some (sym e ∙ z))

@@ -6,8 +6,9 @@ use wiedemann::offered::takes;
 ghost use mathlib.Core.Path.{_≡_};
 ghost use mathlib.Core.Bool.{Bool};
 ghost use Prim.Native.Nat.{ℕ};
-ghost use Rattle.meaning.specs.Matrix.{matrix};
-ghost use Rattle.meaning.specs.Calls.{takesRefusal, takesAnswer, isNullRefusal, isNullAnswer};
+ghost use Rattle.meaning.specs.Matrix.{Matrix, matrix, multiplied};
+ghost use Rattle.meaning.specs.Refusal.{unlessRefused};
+ghost use Rattle.meaning.specs.Calls.{takesRefusal, takesAnswer, takesCount, isNullRefusal, isNullAnswer, isNullCount};
 ghost use Rattle.wiedemann.specs.Answers.{Decides};
 ghost use Rattle.host.specs.Answers.{yesOf};
 
@@ -16,15 +17,24 @@ pub struct Yes {
     pub refusal: u32,
     // 1 or 0
     pub yes: u32,
+    pub multiplied: u64,
 }
 
 fn numbers_of(offered: Offered) -> Yes
-    ensures { λ r. ⌜ ((number : ℕ) (answer : Bool) → Decides offered number answer → r ≡ yesOf number answer) ⌝ }
+    ensures { λ r. ⌜ ((number : ℕ) (answer : Bool) (A : Matrix) → Decides offered number answer A
+        → r ≡ yesOf number answer (unlessRefused number (multiplied 1 A) 0)) ⌝ }
 {
     match offered {
-        Offered::Yes => Yes { refusal: 0, yes: 1 },
-        Offered::No => Yes { refusal: 0, yes: 0 },
-        Offered::Refused(refusal) => Yes { refusal, yes: 0 },
+        Offered::Answer(answer, multiplied) => Yes {
+            refusal: 0,
+            yes: answer as u32,
+            multiplied,
+        },
+        Offered::Refused(refusal) => Yes {
+            refusal,
+            yes: 0,
+            multiplied: 0,
+        },
     }
 }
 
@@ -38,7 +48,8 @@ pub extern "C" fn filzeur_takes(
     b: &[u32],
 ) -> Yes
     ensures { λ r. ⌜ r ≡ yesOf (takesRefusal p (matrix (now (starts .entry)) (now (columns .entry)) (now (values .entry))) (now (x .entry))
-        (now (b .entry))) (takesAnswer p (matrix (now (starts .entry)) (now (columns .entry)) (now (values .entry))) (now (x .entry)) (now (b .entry))) ⌝ }
+        (now (b .entry))) (takesAnswer p (matrix (now (starts .entry)) (now (columns .entry)) (now (values .entry))) (now (x .entry)) (now (b .entry)))
+        (takesCount p (matrix (now (starts .entry)) (now (columns .entry)) (now (values .entry))) (now (x .entry)) (now (b .entry))) ⌝ }
 {
     numbers_of(takes(Field { p }, starts, columns, values, x, b))
 }
@@ -52,7 +63,8 @@ pub extern "C" fn filzeur_is_null(
     w: &[u32],
 ) -> Yes
     ensures { λ r. ⌜ r ≡ yesOf (isNullRefusal p (matrix (now (starts .entry)) (now (columns .entry)) (now (values .entry))) (now (w .entry)))
-        (isNullAnswer p (matrix (now (starts .entry)) (now (columns .entry)) (now (values .entry))) (now (w .entry))) ⌝ }
+        (isNullAnswer p (matrix (now (starts .entry)) (now (columns .entry)) (now (values .entry))) (now (w .entry)))
+        (isNullCount p (matrix (now (starts .entry)) (now (columns .entry)) (now (values .entry))) (now (w .entry))) ⌝ }
 {
     numbers_of(is_null(Field { p }, starts, columns, values, w))
 }

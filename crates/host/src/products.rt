@@ -7,17 +7,31 @@ use wiedemann::matrix::product;
 ghost use mathlib.Core.Path.{_≡_};
 ghost use mathlib.Core.Logic.{_≢_};
 ghost use Prim.Native.Nat.{ℕ};
-ghost use Rattle.meaning.specs.Matrix.{matrix};
+ghost use Rattle.meaning.specs.Matrix.{Matrix, matrix, multiplied};
 ghost use Rattle.meaning.specs.Matrix as meaning;
-ghost use Rattle.meaning.specs.Calls.{productRefusal, productAfter, applyRefusal, applyAfter};
+ghost use Rattle.meaning.specs.Calls.{productRefusal, productAfter, productCount, applyRefusal, applyAfter, applyCount};
+ghost use Rattle.meaning.specs.Refusal.{unlessRefused};
 ghost use Rattle.checks.specs.Answers.{Writes};
+ghost use Rattle.host.specs.Answers.{writtenOf};
 
-fn number_of(writing: Writing) -> u32
-    ensures { λ r. ⌜ ((number products : ℕ) → Writes writing number products → r ≡ number) ⌝ }
+#[repr(C)]
+pub struct Written {
+    pub refusal: u32,
+    pub multiplied: u64,
+}
+
+fn numbers_of(writing: Writing) -> Written
+    ensures { λ r. ⌜ ((number k : ℕ) (A : Matrix) → Writes writing number k A → r ≡ writtenOf number (unlessRefused number (multiplied k A) 0)) ⌝ }
 {
     match writing {
-        Writing::Done(_) => 0,
-        Writing::Refused(number) => number,
+        Writing::Done(done) => Written {
+            refusal: 0,
+            multiplied: done.multiplied,
+        },
+        Writing::Refused(refusal) => Written {
+            refusal,
+            multiplied: 0,
+        },
     }
 }
 
@@ -29,11 +43,12 @@ pub extern "C" fn filzeur_product(
     values: &[u32],
     v: &[u32],
     out: &mut [u32],
-) -> u32
-    ensures { λ r. ⌜ r ≡ productRefusal p (matrix (now (starts .entry)) (now (columns .entry)) (now (values .entry))) (now (v .entry)) (now (out .entry)) ⌝ }
+) -> Written
+    ensures { λ r. ⌜ r ≡ writtenOf (productRefusal p (matrix (now (starts .entry)) (now (columns .entry)) (now (values .entry))) (now (v .entry)) (now (out .entry)))
+        (productCount p (matrix (now (starts .entry)) (now (columns .entry)) (now (values .entry))) (now (v .entry)) (now (out .entry))) ⌝ }
     ensures { λ _. ⌜ now (out .exit) ≡ productAfter meaning.product p (matrix (now (starts .entry)) (now (columns .entry)) (now (values .entry))) (now (v .entry)) (now (out .entry)) ⌝ }
 {
-    number_of(product(Field { p }, starts, columns, values, v, out))
+    numbers_of(product(Field { p }, starts, columns, values, v, out))
 }
 
 #[no_mangle]
@@ -44,11 +59,12 @@ pub extern "C" fn filzeur_transposed(
     values: &[u32],
     v: &[u32],
     out: &mut [u32],
-) -> u32
-    ensures { λ r. ⌜ r ≡ productRefusal p (matrix (now (starts .entry)) (now (columns .entry)) (now (values .entry))) (now (v .entry)) (now (out .entry)) ⌝ }
+) -> Written
+    ensures { λ r. ⌜ r ≡ writtenOf (productRefusal p (matrix (now (starts .entry)) (now (columns .entry)) (now (values .entry))) (now (v .entry)) (now (out .entry)))
+        (productCount p (matrix (now (starts .entry)) (now (columns .entry)) (now (values .entry))) (now (v .entry)) (now (out .entry))) ⌝ }
     ensures { λ _. ⌜ now (out .exit) ≡ productAfter meaning.transposed p (matrix (now (starts .entry)) (now (columns .entry)) (now (values .entry))) (now (v .entry)) (now (out .entry)) ⌝ }
 {
-    number_of(transposed(Field { p }, starts, columns, values, v, out))
+    numbers_of(transposed(Field { p }, starts, columns, values, v, out))
 }
 
 #[no_mangle]
@@ -61,12 +77,14 @@ pub extern "C" fn filzeur_apply(
     v: &[u32],
     out: &mut [u32],
     work: &mut [u32],
-) -> u32
-    ensures { λ r. ⌜ r ≡ applyRefusal p (matrix (now (starts .entry)) (now (columns .entry)) (now (values .entry))) (now (g .entry)) (now (v .entry)) (now (out .entry)) (now (work .entry)) ⌝ }
+) -> Written
+    ensures { λ r. ⌜ r ≡ writtenOf
+        (applyRefusal p (matrix (now (starts .entry)) (now (columns .entry)) (now (values .entry))) (now (g .entry)) (now (v .entry)) (now (out .entry)) (now (work .entry)))
+        (applyCount p (matrix (now (starts .entry)) (now (columns .entry)) (now (values .entry))) (now (g .entry)) (now (v .entry)) (now (out .entry)) (now (work .entry))) ⌝ }
     ensures { λ _. ⌜ now (out .exit) ≡ applyAfter p (matrix (now (starts .entry)) (now (columns .entry)) (now (values .entry))) (now (g .entry))
         (now (v .entry)) (now (out .entry)) (now (work .entry)) ⌝ }
     ensures { λ _. ⌜ (applyRefusal p (matrix (now (starts .entry)) (now (columns .entry)) (now (values .entry))) (now (g .entry)) (now (v .entry))
         (now (out .entry)) (now (work .entry)) ≢ 0 → now (work .exit) ≡ now (work .entry)) ⌝ }
 {
-    number_of(apply(Field { p }, starts, columns, values, g, v, out, work))
+    numbers_of(apply(Field { p }, starts, columns, values, g, v, out, work))
 }

@@ -18,11 +18,12 @@ pub struct Verdict {
     pub degree: u64,
     pub passes: u64,
     pub applications: u64,
+    pub multiplied: u64,
 }
 
 // What a run that was not refused answers.
 fn counted(kind: u32, c: Counts) -> Verdict
-    ensures { λ r. ⌜ r ≡ record { refusal = 0; kind = kind; degree = c .degree; passes = c .passes; applications = c .applications } ⌝ }
+    ensures { λ r. ⌜ r ≡ record { refusal = 0; kind = kind; degree = c .degree; passes = c .passes; applications = c .applications; multiplied = c .multiplied } ⌝ }
 {
     Verdict {
         refusal: 0,
@@ -30,6 +31,7 @@ fn counted(kind: u32, c: Counts) -> Verdict
         degree: c.degree as u64,
         passes: c.passes,
         applications: c.applications,
+        multiplied: c.multiplied,
     }
 }
 
@@ -45,6 +47,7 @@ fn numbers_of(verdict: solver::Verdict) -> Verdict
             degree: 0,
             passes: 0,
             applications: 0,
+            multiplied: 0,
         },
     }
 }

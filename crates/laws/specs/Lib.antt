@@ -4,6 +4,7 @@ pub mod Bool
 pub mod List
 pub mod Written
 pub mod Part
+pub mod Products
 pub mod Lent
 pub mod Recurrence
 pub mod Refusal

@@ -1,9 +1,9 @@
 // Makes the five calls on each of the matrices that standard input lists, after their number. A case is seven lists: its modulus and the places of out
 // and work; starts, columns, values, g, v and b. A line of the output is what product, transposed and apply answer and leave (the refusal's number,
-// or 0 and how many products were made; out and two places behind it; of work, after apply, what it may not change: two places behind it and,
-// where it refuses, all) and what the two checks say (the refusal's number, or 0 and 1 for yes, 0 for no): after the product whether A takes v to
-// what it left, at the end whether A takes v to b and whether v is a null vector. A large case is its first list alone, with the numbers that
-// make the others. vectors.py makes cases and output.
+// or 0, how many products were made and how many entries they multiplied; out and two places behind it; of work, after apply, what it may not
+// change: two places behind it and, where it refuses, all) and what the two checks say (the refusal's number, or 0, 1 for yes and 0 for no, and
+// how many entries were multiplied): after the product whether A takes v to what it left, at the end whether A takes v to b and whether v is a
+// null vector. A large case is its first list alone, with the numbers that make the others. vectors.py makes cases and output.
 ghost use Prim.Native.Nat.{_≤_};
 use checks::Writing;
 use field::Field;
@@ -21,7 +21,8 @@ fn print_writing(writing: Writing, work: usize) -> usize {
     match writing {
         Writing::Done(products) => {
             print(0);
-            print(products);
+            print(products.made as u64);
+            print(products.multiplied);
             work
         }
         Writing::Refused(number) => {
@@ -33,13 +34,10 @@ fn print_writing(writing: Writing, work: usize) -> usize {
 
 fn print_verdict(verdict: Offered) {
     match verdict {
-        Offered::Yes => {
+        Offered::Answer(yes, multiplied) => {
             print(0);
-            print(1);
-        }
-        Offered::No => {
-            print(0);
-            print(0);
+            print(if yes { 1 } else { 0 });
+            print(multiplied);
         }
         Offered::Refused(number) => print(number as u64),
     }

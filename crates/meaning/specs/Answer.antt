@@ -1,6 +1,6 @@
 -- Document 01, "System text", the answer's lines, with request (i)'s bill.
 --     passLines k qs   `pass`, number from k, left, degree t, applications of that pass, a line for each pass
---     answerText o     `answer`, kind, D, passes, applications; the `pass` lines from 1; `close`, D − 1 (0 if D = 0); `f`, power, coefficient for
+--     answerText o     `answer`, kind, D, passes, applications, request (iii)'s entries; the `pass` lines from 1; `close`, D − 1 (0 if D = 0); `f`, power, coefficient for
 --                      powers 0 to D; `x` or `w`, place from 1, element, for all places; `end`
 --     refusedText k    what the program prints for a refusal: `refused`, number
 --     total w i ls     the sum of the numbers in field i, counted from 0, of the lines that begin with the word w
@@ -28,7 +28,8 @@ passLines k (q ∷ qs) = line (bytes "pass" ∷ decimal k ∷ map decimal (charg
 
 unfoldable pub answerText : Outcome → List ℕ
 answerText o =
-    line (bytes "answer" ∷ kindWord (o .kind) ∷ decimal (o .degree) ∷ decimal (passCount o) ∷ decimal (applications o) ∷ [])
+    line
+    (bytes "answer" ∷ kindWord (o .kind) ∷ decimal (o .degree) ∷ decimal (passCount o) ∷ decimal (applications o) ∷ decimal (o .multiplied) ∷ [])
     ++ passLines 1 (o .passes) ++ line (bytes "close" ∷ decimal (closeCost o) ∷ [])
     ++ flat (table (o .degree + 1) (λ i. line (bytes "f" ∷ decimal i ∷ decimal (at (o .polynomial) i) ∷ [])))
     ++ flat (table (length (o .vector)) (λ i. line (vectorWord (o .kind) ∷ decimal (i + 1) ∷ decimal (at (o .vector) i) ∷ [])))

@@ -8,18 +8,19 @@
 --     takes, isNull                            the two checks of offered answers
 --     reader, writer                           system text
 --     text, program                            the text call and the program
--- Each name goes on with Refusal (the number), Answer (what is returned) or After (a lent slice).
+-- Each name goes on with Refusal (the number), Answer (what is returned), After (a lent slice) or Count (request (iii): the entries multiplied; that of
+-- a run stands in its outcome). EveryProduct and EveryRunByEntry say that the counts are those of the entries.
 use mathlib.Core.Path.{_≡_}
 use mathlib.Core.Bool.{Bool, false, not, _&&_}
 use mathlib.Core.List.{List, [], _∷_, _++_}
-use Prim.Native.Nat.{ℕ, _+_, _*_}
+use Prim.Native.Nat.{ℕ, _+_, _-_, _*_}
 use lib.Dec.{eqb, ltb, leb}
 use lib.ListN.{length}
 use Rattle.meaning.specs.List.{padded, overwrite}
 use Rattle.meaning.specs.Field.{isModulus, inverse}
-use Rattle.meaning.specs.Matrix.{Matrix, size, apply}
+use Rattle.meaning.specs.Matrix.{Matrix, size, apply, entryCount, multiplied}
 use Rattle.meaning.specs.Recurrence.{degree, generator}
-use Rattle.meaning.specs.Solver.{billed, solve, nothingLeft, takes, isNull}
+use Rattle.meaning.specs.Solver.{applications, billed, solve, nothingLeft, takes, isNull}
 use Rattle.meaning.specs.ThirdCondition.{ThirdCondition, SameAnswer}
 use Rattle.meaning.specs.Text.{Document, document, inForm, System, system, write}
 use Rattle.meaning.specs.Answer.{answerText, refusedText}
@@ -67,8 +68,20 @@ applyRefusal p A g v out work =
     ∷ check 11 (not (eqb (length out) (size A) && leb (2 * size A) (length work)))
     ∷ []))
 
+-- .. and what both answer: one product
+abbrev pub productCount : ℕ → Matrix → List ℕ → List ℕ → ℕ
+productCount p A v out = unlessRefused (productRefusal p A v out) (multiplied 1 A) 0
+
+-- request (iii), of an accepted matrix: a product multiplies its entries, k products k times as many; proved with the checks
+abbrev pub EveryProduct : Type 0
+EveryProduct = (p : ℕ) (A : Matrix) → first (matrixChecks p A) ≡ 0 → (k : ℕ) → multiplied k A ≡ k * entryCount A
+
 abbrev pub applyAfter : ℕ → Matrix → List ℕ → List ℕ → List ℕ → List ℕ → List ℕ
 applyAfter p A g v out work = unlessRefused (applyRefusal p A g v out work) (apply p A g v) out
+
+-- "k coefficients make k − 1 products"
+abbrev pub applyCount : ℕ → Matrix → List ℕ → List ℕ → List ℕ → List ℕ → ℕ
+applyCount p A g v out work = unlessRefused (applyRefusal p A g v out work) (multiplied (length g - 1) A) 0
 
 -- ---- the shortest recurrence
 
@@ -131,6 +144,12 @@ EveryTwoRuns =
     (p : ℕ) (A : Matrix) (b words words′ : List ℕ) → first (runChecks p A b words) ≡ 0 → first (runChecks p A b words′) ≡ 0
     → SameAnswer (solve p A b words) (solve p A b words′)
 
+-- request (iii): "equal to applications × entries"
+abbrev pub EveryRunByEntry : Type 0
+EveryRunByEntry =
+    (p : ℕ) (A : Matrix) (b words : List ℕ) → first (runChecks p A b words) ≡ 0
+    → solve p A b words .multiplied ≡ applications (solve p A b words) * entryCount A
+
 -- request (ii): what every run on size 0 ends with
 abbrev pub EveryEmptyRun : Type 0
 EveryEmptyRun =
@@ -149,11 +168,18 @@ takesRefusal p A x b =
 abbrev pub takesAnswer : ℕ → Matrix → List ℕ → List ℕ → Bool
 takesAnswer p A x b = unlessRefused (takesRefusal p A x b) (takes p A x b) false
 
+-- "an offered-answer check makes one" product, whatever the vector is
+abbrev pub takesCount : ℕ → Matrix → List ℕ → List ℕ → ℕ
+takesCount p A x b = unlessRefused (takesRefusal p A x b) (multiplied 1 A) 0
+
 unfoldable pub isNullRefusal : ℕ → Matrix → List ℕ → ℕ
 isNullRefusal p A w = first (systemChecks p A w)
 
 abbrev pub isNullAnswer : ℕ → Matrix → List ℕ → Bool
 isNullAnswer p A w = unlessRefused (isNullRefusal p A w) (isNull p A w) false
+
+abbrev pub isNullCount : ℕ → Matrix → List ℕ → ℕ
+isNullCount p A w = unlessRefused (isNullRefusal p A w) (multiplied 1 A) 0
 
 -- ---- system text
 

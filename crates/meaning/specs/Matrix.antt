@@ -6,6 +6,11 @@
 --     transposed       "the same entries with row and column exchanged"
 --     power p A k v    Aᵏv
 --     apply p A g v    "g(A)v is the sum of g[i] × Aⁱv", g's lowest power first
+-- and document 02, request (iii): "how many entries it multiplied, which is the entry count".
+--     entryCount       the number of entries
+--     rowEntries A i   how many of them a product multiplies in row i: each of the row's counts once
+--     perProduct A     .. and in all rows
+--     multiplied k A   .. and in k products, one after the other
 use mathlib.Core.Bool.{cond}
 use mathlib.Core.List.{List}
 use Prim.Native.Nat.{ℕ, zero, suc, _+_, _-_, _*_, _%_}
@@ -24,6 +29,9 @@ matrix s c v = record { starts = s; columns = c; values = v }
 abbrev pub size : Matrix → ℕ
 size A = length (A .starts) - 1
 
+abbrev pub entryCount : Matrix → ℕ
+entryCount A = length (A .columns)
+
 abbrev pub rowSum : Matrix → ℕ → (ℕ → ℕ) → ℕ
 rowSum A i g = sumFrom (at (A .starts) i) (at (A .starts) (i + 1)) g
 
@@ -41,3 +49,12 @@ power p A (suc k) v = product p A (power p A k v)
 
 unfoldable pub apply : ℕ → Matrix → List ℕ → List ℕ → List ℕ
 apply p A g v = table (size A) (λ j. sum (length g) (λ i. at g i * at (power p A i v) j) % p)
+
+abbrev pub rowEntries : Matrix → ℕ → ℕ
+rowEntries A i = rowSum A i (λ k. 1)
+
+unfoldable pub perProduct : Matrix → ℕ
+perProduct A = sum (size A) (rowEntries A)
+
+unfoldable pub multiplied : ℕ → Matrix → ℕ
+multiplied k A = sum k (λ i. perProduct A)

@@ -13,22 +13,22 @@ use Prim.Native.String.{String}
 use lib.ListN.{length, replicate}
 use Rattle.meaning.specs.List.{sum, table, all, every, chainFrom, chain, equal, least, select, flat, bytes}
 use Rattle.meaning.specs.Field.{isPrime, isModulus, plus, minus, times, inverse}
-use Rattle.meaning.specs.Matrix.{product, transposed, power, apply, Matrix, matrix}
+use Rattle.meaning.specs.Matrix.{product, transposed, power, apply, perProduct, multiplied, Matrix, matrix}
 use Rattle.meaning.specs.Recurrence.{isMonic, recurs, start, discrepancy, update, step, steps, reversed, degree, generator, Steps}
 use Rattle.meaning.specs.Solver.{vectorCount, vectors, units, projections, dot, terms, multiply, Pass, begin, passTerms, pass, run, spent, bill, verdict, close, solve, takes, isNull, Kind, solved, singular, passCount, applications}
 use Rattle.meaning.specs.Text.{digits, decimal, valueAfter, isNumeral, line, onFirst, parts, hasForm, formOf, lineOf, lineFields, lines, saying, inForm, document, system, writeRow, writeElement, write}
 use Rattle.meaning.specs.Answer.{passLines, answerText, refusedText}
 use Rattle.meaning.specs.Refusal.{first, elements, sizeTaken, startsTaken, columnsTaken, matrixChecks, wordsTaken, countTaken, before, placesTaken, documentChecks}
-use Rattle.meaning.specs.Calls.{fieldRefusal, operationRefusal, inverseRefusal, productRefusal, applyRefusal, recurrenceRefusal, systemChecks, runChecks, solverRefusal, takesRefusal, isNullRefusal, textChecks, readerRefusal, writerRefusal, textRefusal, solvedText, programOutput, operationAnswer, inverseAnswer, productAfter, applyAfter, recurrenceAnswer, recurrenceAfter, vectorAfter, polynomialAfter, billAfter, takesAnswer, isNullAnswer, readerAnswer, readerAfter, writerAnswer, writerAfter, textAnswer}
+use Rattle.meaning.specs.Calls.{fieldRefusal, operationRefusal, inverseRefusal, productRefusal, applyRefusal, recurrenceRefusal, systemChecks, runChecks, solverRefusal, takesRefusal, isNullRefusal, textChecks, readerRefusal, writerRefusal, textRefusal, solvedText, programOutput, operationAnswer, inverseAnswer, productAfter, productCount, applyAfter, applyCount, recurrenceAnswer, recurrenceAfter, vectorAfter, polynomialAfter, billAfter, takesAnswer, takesCount, isNullAnswer, isNullCount, readerAnswer, readerAfter, writerAnswer, writerAfter, textAnswer}
 
 -- every definition open, so that the rows compute
 unfoldable compute : Unit {0}
-unfolding sum table all every chainFrom chain equal least select flat bytes isPrime isModulus plus minus times inverse product transposed power apply isMonic recurs start discrepancy update step steps reversed degree generator vectorCount vectors units projections dot terms multiply begin passTerms pass run spent bill verdict close solve takes isNull digits decimal valueAfter isNumeral line onFirst parts hasForm formOf lineOf lineFields lines saying inForm document system writeRow writeElement write passLines answerText refusedText first elements sizeTaken startsTaken columnsTaken matrixChecks wordsTaken countTaken before placesTaken documentChecks fieldRefusal operationRefusal inverseRefusal productRefusal applyRefusal recurrenceRefusal systemChecks runChecks solverRefusal takesRefusal isNullRefusal textChecks readerRefusal writerRefusal textRefusal solvedText programOutput
+unfolding sum table all every chainFrom chain equal least select flat bytes isPrime isModulus plus minus times inverse product transposed power apply perProduct multiplied isMonic recurs start discrepancy update step steps reversed degree generator vectorCount vectors units projections dot terms multiply begin passTerms pass run spent bill verdict close solve takes isNull digits decimal valueAfter isNumeral line onFirst parts hasForm formOf lineOf lineFields lines saying inForm document system writeRow writeElement write passLines answerText refusedText first elements sizeTaken startsTaken columnsTaken matrixChecks wordsTaken countTaken before placesTaken documentChecks fieldRefusal operationRefusal inverseRefusal productRefusal applyRefusal recurrenceRefusal systemChecks runChecks solverRefusal takesRefusal isNullRefusal textChecks readerRefusal writerRefusal textRefusal solvedText programOutput
 compute = tt
 
 pub data Case : Type 0 where
-  -- a run on p, A, b and words: kind, vector, f, passes, applications
-  solver-gives : (p : ℕ) (A : Matrix) (b words : List ℕ) → Kind → (vector f : List ℕ) (passes applications : ℕ) → Case
+  -- a run on p, A, b and words: kind, vector, f, passes, applications, entries multiplied
+  solver-gives : (p : ℕ) (A : Matrix) (b words : List ℕ) → Kind → (vector f : List ℕ) (passes applications multiplied : ℕ) → Case
   -- the vector and polynomial slices after it
   solver-leaves : (p : ℕ) (A : Matrix) (b words vector polynomial : List ℕ) → Case
   -- its passes
@@ -45,13 +45,16 @@ pub data Case : Type 0 where
   recurrence-refuses : (p : ℕ) (s : List ℕ) (polynomial work number : ℕ) → Case
   -- q, t, L and e after r terms
   steps-give : (p : ℕ) (s : List ℕ) (r : ℕ) (q t : List ℕ) (L e : ℕ) → Case
-  product-gives transposed-gives : (p : ℕ) (A : Matrix) (v out : List ℕ) → Case
-  apply-gives : (p : ℕ) (A : Matrix) (g v out : List ℕ) → Case
+  -- the slice, and the entries multiplied
+  product-gives transposed-gives : (p : ℕ) (A : Matrix) (v out : List ℕ) (multiplied : ℕ) → Case
+  apply-gives : (p : ℕ) (A : Matrix) (g v out : List ℕ) (multiplied : ℕ) → Case
+  -- the refusal of both products for a slice of that length
+  product-refuses : (p : ℕ) (A : Matrix) (v : List ℕ) (out number : ℕ) → Case
   -- the refusal for slices of these lengths (out, work)
   apply-refuses : (p : ℕ) (A : Matrix) (g v : List ℕ) (out work number : ℕ) → Case
   -- the two checks of offered answers
-  takes-says : (p : ℕ) (A : Matrix) (x b : List ℕ) (number : ℕ) → Bool → Case
-  isNull-says : (p : ℕ) (A : Matrix) (w : List ℕ) (number : ℕ) → Bool → Case
+  takes-says : (p : ℕ) (A : Matrix) (x b : List ℕ) (number : ℕ) → Bool → (multiplied : ℕ) → Case
+  isNull-says : (p : ℕ) (A : Matrix) (w : List ℕ) (number : ℕ) → Bool → (multiplied : ℕ) → Case
   -- the reader: p, n and the entry count, and the four slices, which held 9s
   reader-gives : (text : String) (starts columns values right p n count : ℕ) (starts′ columns′ values′ right′ : List ℕ) → Case
   reader-refuses : (text : String) (starts columns values right number : ℕ) → Case
@@ -69,10 +72,11 @@ abbrev pub nines : ℕ → List ℕ
 nines k = replicate k 9
 
 abbrev pub Holds : Case → Type 0
-Holds (solver-gives p A b words k x f n a) =
+Holds (solver-gives p A b words k x f n a m) =
     let o = solve p A b words in
-    _≡_ {A = ℕ × Kind × List ℕ × List ℕ × ℕ × ℕ}
-    (first (runChecks p A b words), o .kind, o .vector, o .polynomial, passCount o, applications o) (0, k, x, f, n, a)
+    _≡_ {A = ℕ × Kind × List ℕ × List ℕ × ℕ × ℕ × ℕ}
+    (first (runChecks p A b words), o .kind, o .vector, o .polynomial, passCount o, applications o, o .multiplied)
+    (0, k, x, f, n, a, m)
 Holds (solver-makes p A b words qs) = solve p A b words .passes ≡ qs
 Holds (solver-leaves p A b words x f) =
     let v = nines (length x) in
@@ -104,20 +108,29 @@ Holds (recurrence-refuses p s polynomial work k) =
     (recurrenceRefusal p s out room, recurrenceAnswer p s out room, recurrenceAfter p s out room)
     (k, 0, out)
 Holds (steps-give p s r q t L e) = _≡_ {A = Steps} (steps p s r) (record { q = q; t = t; L = L; e = e })
-Holds (product-gives p A v out) =
+Holds (product-gives p A v out m) =
     let old = nines (length out) in
-    _≡_ {A = ℕ × List ℕ} (productRefusal p A v old, productAfter product p A v old) (0, out)
-Holds (transposed-gives p A v out) =
+    _≡_ {A = ℕ × List ℕ × ℕ} (productRefusal p A v old, productAfter product p A v old, productCount p A v old) (0, out, m)
+Holds (transposed-gives p A v out m) =
     let old = nines (length out) in
-    _≡_ {A = ℕ × List ℕ} (productRefusal p A v old, productAfter transposed p A v old) (0, out)
-Holds (apply-gives p A g v out) =
+    _≡_ {A = ℕ × List ℕ × ℕ} (productRefusal p A v old, productAfter transposed p A v old, productCount p A v old) (0, out, m)
+Holds (product-refuses p A v out k) =
+    let old = nines out in
+    _≡_ {A = ℕ × List ℕ × List ℕ × ℕ}
+    (productRefusal p A v old, productAfter product p A v old, productAfter transposed p A v old, productCount p A v old)
+    (k, old, old, 0)
+Holds (apply-gives p A g v out m) =
     let old = nines (length out) in
-    _≡_ {A = ℕ × List ℕ} (applyRefusal p A g v old (nines 8), applyAfter p A g v old (nines 8)) (0, out)
+    let work = nines 8 in
+    _≡_ {A = ℕ × List ℕ × ℕ} (applyRefusal p A g v old work, applyAfter p A g v old work, applyCount p A g v old work) (0, out, m)
 Holds (apply-refuses p A g v out work k) =
     let old = nines out in
-    _≡_ {A = ℕ × List ℕ} (applyRefusal p A g v old (nines work), applyAfter p A g v old (nines work)) (k, old)
-Holds (takes-says p A x b k answer) = _≡_ {A = ℕ × Bool} (takesRefusal p A x b, takesAnswer p A x b) (k, answer)
-Holds (isNull-says p A w k answer) = _≡_ {A = ℕ × Bool} (isNullRefusal p A w, isNullAnswer p A w) (k, answer)
+    let w = nines work in
+    _≡_ {A = ℕ × List ℕ × ℕ} (applyRefusal p A g v old w, applyAfter p A g v old w, applyCount p A g v old w) (k, old, 0)
+Holds (takes-says p A x b k answer m) =
+    _≡_ {A = ℕ × Bool × ℕ} (takesRefusal p A x b, takesAnswer p A x b, takesCount p A x b) (k, answer, m)
+Holds (isNull-says p A w k answer m) =
+    _≡_ {A = ℕ × Bool × ℕ} (isNullRefusal p A w, isNullAnswer p A w, isNullCount p A w) (k, answer, m)
 Holds (reader-gives text starts columns values right p n count starts′ columns′ values′ right′) =
     let l = bytes text in
     let s = nines starts in
@@ -180,18 +193,18 @@ abbrev pub proved-cases : List Case
 proved-cases =
     text-gives
     "system\t7\t2\t3\na\t1\t1\t2\na\t1\t2\t1\na\t2\t2\t3\nb\t1\t1\nb\t2\t1\nend\n"
-    "answer\tsolved\t1\t1\t4\npass\t1\t2\t1\t4\nclose\t0\nf\t0\t4\nf\t1\t1\nx\t1\t5\nx\t2\t5\nend\n"
-    ∷ solver-gives 7 diag23 (1 ∷ 1 ∷ []) [] solved (4 ∷ 5 ∷ []) (6 ∷ 2 ∷ 1 ∷ []) 2 7
-    ∷ solver-gives 7 diag23 (1 ∷ 1 ∷ []) (1 ∷ 1 ∷ []) solved (4 ∷ 5 ∷ []) (6 ∷ 2 ∷ 1 ∷ []) 1 6
-    ∷ solver-gives 7 diag23 (1 ∷ 1 ∷ []) (0 ∷ 0 ∷ []) solved (4 ∷ 5 ∷ []) (6 ∷ 2 ∷ 1 ∷ []) 3 10
-    ∷ solver-gives 7 diag23 (0 ∷ 1 ∷ []) [] solved (0 ∷ 5 ∷ []) (4 ∷ 1 ∷ []) 2 7
-    ∷ solver-gives 7 U (0 ∷ 1 ∷ []) [] singular (1 ∷ 0 ∷ []) (0 ∷ 0 ∷ 1 ∷ []) 1 6
-    ∷ solver-gives 7 U (1 ∷ 0 ∷ []) [] singular (1 ∷ 0 ∷ []) (0 ∷ 1 ∷ []) 1 4
+    "answer\tsolved\t1\t1\t4\t12\npass\t1\t2\t1\t4\nclose\t0\nf\t0\t4\nf\t1\t1\nx\t1\t5\nx\t2\t5\nend\n"
+    ∷ solver-gives 7 diag23 (1 ∷ 1 ∷ []) [] solved (4 ∷ 5 ∷ []) (6 ∷ 2 ∷ 1 ∷ []) 2 7 14
+    ∷ solver-gives 7 diag23 (1 ∷ 1 ∷ []) (1 ∷ 1 ∷ []) solved (4 ∷ 5 ∷ []) (6 ∷ 2 ∷ 1 ∷ []) 1 6 12
+    ∷ solver-gives 7 diag23 (1 ∷ 1 ∷ []) (0 ∷ 0 ∷ []) solved (4 ∷ 5 ∷ []) (6 ∷ 2 ∷ 1 ∷ []) 3 10 20
+    ∷ solver-gives 7 diag23 (0 ∷ 1 ∷ []) [] solved (0 ∷ 5 ∷ []) (4 ∷ 1 ∷ []) 2 7 14
+    ∷ solver-gives 7 U (0 ∷ 1 ∷ []) [] singular (1 ∷ 0 ∷ []) (0 ∷ 0 ∷ 1 ∷ []) 1 6 6
+    ∷ solver-gives 7 U (1 ∷ 0 ∷ []) [] singular (1 ∷ 0 ∷ []) (0 ∷ 1 ∷ []) 1 4 4
     -- b = (0,0), which names no matrix: diag(2,3), U, and a matrix without entries
-    ∷ solver-gives 7 diag23 (0 ∷ 0 ∷ []) [] solved (0 ∷ 0 ∷ []) (1 ∷ []) 0 0
-    ∷ solver-gives 7 U (0 ∷ 0 ∷ []) [] solved (0 ∷ 0 ∷ []) (1 ∷ []) 0 0
-    ∷ solver-gives 7 (matrix (0 ∷ 0 ∷ 0 ∷ []) [] []) (0 ∷ 0 ∷ []) [] solved (0 ∷ 0 ∷ []) (1 ∷ []) 0 0
-    ∷ solver-gives 2 (matrix (0 ∷ 1 ∷ []) (0 ∷ []) (1 ∷ [])) (1 ∷ []) [] solved (1 ∷ []) (1 ∷ 1 ∷ []) 1 2
+    ∷ solver-gives 7 diag23 (0 ∷ 0 ∷ []) [] solved (0 ∷ 0 ∷ []) (1 ∷ []) 0 0 0
+    ∷ solver-gives 7 U (0 ∷ 0 ∷ []) [] solved (0 ∷ 0 ∷ []) (1 ∷ []) 0 0 0
+    ∷ solver-gives 7 (matrix (0 ∷ 0 ∷ 0 ∷ []) [] []) (0 ∷ 0 ∷ []) [] solved (0 ∷ 0 ∷ []) (1 ∷ []) 0 0 0
+    ∷ solver-gives 2 (matrix (0 ∷ 1 ∷ []) (0 ∷ []) (1 ∷ [])) (1 ∷ []) [] solved (1 ∷ []) (1 ∷ 1 ∷ []) 1 2 2
     ∷ recurrence-gives 7 (1 ∷ 2 ∷ 4 ∷ 1 ∷ []) 1 (5 ∷ 1 ∷ 0 ∷ 0 ∷ 0 ∷ [])
     ∷ recurrence-gives 7 (0 ∷ 1 ∷ []) 2 (0 ∷ 0 ∷ 1 ∷ [])
     ∷ []
@@ -204,25 +217,25 @@ proved-rows = (refl, (refl, (refl, (refl, (refl, (refl, (refl, (refl, (refl, (re
 abbrev pub more-cases : List Case
 more-cases =
     -- words 8, 8 act as 1, 1; for n = 2, 128 words are taken, 127 and 130 get 10
-    solver-gives 7 diag23 (1 ∷ 1 ∷ []) (8 ∷ 8 ∷ []) solved (4 ∷ 5 ∷ []) (6 ∷ 2 ∷ 1 ∷ []) 1 6
-    ∷ solver-gives 7 diag23 (1 ∷ 1 ∷ []) (replicate 128 4294967295) solved (4 ∷ 5 ∷ []) (6 ∷ 2 ∷ 1 ∷ []) 1 6
+    solver-gives 7 diag23 (1 ∷ 1 ∷ []) (8 ∷ 8 ∷ []) solved (4 ∷ 5 ∷ []) (6 ∷ 2 ∷ 1 ∷ []) 1 6 12
+    ∷ solver-gives 7 diag23 (1 ∷ 1 ∷ []) (replicate 128 4294967295) solved (4 ∷ 5 ∷ []) (6 ∷ 2 ∷ 1 ∷ []) 1 6 12
     ∷ solver-refuses 7 diag23 (1 ∷ 1 ∷ []) (replicate 127 1) 2 3 48 10
     ∷ solver-refuses 7 diag23 (1 ∷ 1 ∷ []) (replicate 130 1) 2 3 0 10
     -- restarts: p = 2 with first factor z; p = 3 with a word vector and a pass of degree 0 in the middle; a word vector that is zero modulo p
-    ∷ solver-gives 2 (matrix (0 ∷ 0 ∷ 1 ∷ []) (1 ∷ []) (1 ∷ [])) (1 ∷ 1 ∷ []) [] singular (1 ∷ 0 ∷ []) (0 ∷ 1 ∷ 1 ∷ []) 2 7
-    ∷ solver-gives 3 (matrix (0 ∷ 1 ∷ 2 ∷ 3 ∷ []) (0 ∷ 1 ∷ 2 ∷ []) (1 ∷ 2 ∷ 2 ∷ [])) (2 ∷ 2 ∷ 1 ∷ []) (5 ∷ 5 ∷ 2 ∷ []) solved (2 ∷ 1 ∷ 2 ∷ []) (2 ∷ 0 ∷ 1 ∷ []) 3 14
-    ∷ solver-gives 3 (matrix (0 ∷ 1 ∷ 2 ∷ 3 ∷ []) (0 ∷ 2 ∷ 1 ∷ []) (1 ∷ 1 ∷ 1 ∷ [])) (1 ∷ 2 ∷ 0 ∷ []) (3 ∷ 0 ∷ 6 ∷ 4 ∷ 2 ∷ 5 ∷ []) solved (1 ∷ 0 ∷ 2 ∷ []) (2 ∷ 0 ∷ 1 ∷ []) 4 19
+    ∷ solver-gives 2 (matrix (0 ∷ 0 ∷ 1 ∷ []) (1 ∷ []) (1 ∷ [])) (1 ∷ 1 ∷ []) [] singular (1 ∷ 0 ∷ []) (0 ∷ 1 ∷ 1 ∷ []) 2 7 7
+    ∷ solver-gives 3 (matrix (0 ∷ 1 ∷ 2 ∷ 3 ∷ []) (0 ∷ 1 ∷ 2 ∷ []) (1 ∷ 2 ∷ 2 ∷ [])) (2 ∷ 2 ∷ 1 ∷ []) (5 ∷ 5 ∷ 2 ∷ []) solved (2 ∷ 1 ∷ 2 ∷ []) (2 ∷ 0 ∷ 1 ∷ []) 3 14 42
+    ∷ solver-gives 3 (matrix (0 ∷ 1 ∷ 2 ∷ 3 ∷ []) (0 ∷ 2 ∷ 1 ∷ []) (1 ∷ 1 ∷ 1 ∷ [])) (1 ∷ 2 ∷ 0 ∷ []) (3 ∷ 0 ∷ 6 ∷ 4 ∷ 2 ∷ 5 ∷ []) solved (1 ∷ 0 ∷ 2 ∷ []) (2 ∷ 0 ∷ 1 ∷ []) 4 19 57
     -- three passes of degree 1; the same in one pass with words; no entries; n = 1, singular and solved; a singular matrix, solved
-    ∷ solver-gives 5 (matrix (0 ∷ 1 ∷ 2 ∷ 3 ∷ []) (0 ∷ 1 ∷ 2 ∷ []) (1 ∷ 2 ∷ 3 ∷ [])) (1 ∷ 1 ∷ 1 ∷ []) [] solved (1 ∷ 3 ∷ 2 ∷ []) (4 ∷ 1 ∷ 4 ∷ 1 ∷ []) 3 14
-    ∷ solver-gives 5 (matrix (0 ∷ 1 ∷ 2 ∷ 3 ∷ []) (0 ∷ 1 ∷ 2 ∷ []) (1 ∷ 2 ∷ 3 ∷ [])) (1 ∷ 1 ∷ 1 ∷ []) (6 ∷ 11 ∷ 4294967294 ∷ 1 ∷ 0 ∷ 0 ∷ []) solved (1 ∷ 3 ∷ 2 ∷ []) (4 ∷ 1 ∷ 4 ∷ 1 ∷ []) 1 10
-    ∷ solver-gives 5 (matrix (0 ∷ 0 ∷ 0 ∷ []) [] []) (0 ∷ 3 ∷ []) [] singular (0 ∷ 3 ∷ []) (0 ∷ 1 ∷ []) 2 7
-    ∷ solver-gives 11 (matrix (0 ∷ 0 ∷ []) [] []) (4 ∷ []) [] singular (4 ∷ []) (0 ∷ 1 ∷ []) 1 2
-    ∷ solver-gives 13 (matrix (0 ∷ 1 ∷ []) (0 ∷ []) (5 ∷ [])) (3 ∷ []) (26 ∷ []) solved (11 ∷ []) (8 ∷ 1 ∷ []) 2 3
-    ∷ solver-gives 7 (matrix (0 ∷ 1 ∷ 1 ∷ []) (0 ∷ []) (2 ∷ [])) (1 ∷ 0 ∷ []) [] solved (4 ∷ 0 ∷ []) (5 ∷ 1 ∷ []) 1 4
+    ∷ solver-gives 5 (matrix (0 ∷ 1 ∷ 2 ∷ 3 ∷ []) (0 ∷ 1 ∷ 2 ∷ []) (1 ∷ 2 ∷ 3 ∷ [])) (1 ∷ 1 ∷ 1 ∷ []) [] solved (1 ∷ 3 ∷ 2 ∷ []) (4 ∷ 1 ∷ 4 ∷ 1 ∷ []) 3 14 42
+    ∷ solver-gives 5 (matrix (0 ∷ 1 ∷ 2 ∷ 3 ∷ []) (0 ∷ 1 ∷ 2 ∷ []) (1 ∷ 2 ∷ 3 ∷ [])) (1 ∷ 1 ∷ 1 ∷ []) (6 ∷ 11 ∷ 4294967294 ∷ 1 ∷ 0 ∷ 0 ∷ []) solved (1 ∷ 3 ∷ 2 ∷ []) (4 ∷ 1 ∷ 4 ∷ 1 ∷ []) 1 10 30
+    ∷ solver-gives 5 (matrix (0 ∷ 0 ∷ 0 ∷ []) [] []) (0 ∷ 3 ∷ []) [] singular (0 ∷ 3 ∷ []) (0 ∷ 1 ∷ []) 2 7 0
+    ∷ solver-gives 11 (matrix (0 ∷ 0 ∷ []) [] []) (4 ∷ []) [] singular (4 ∷ []) (0 ∷ 1 ∷ []) 1 2 0
+    ∷ solver-gives 13 (matrix (0 ∷ 1 ∷ []) (0 ∷ []) (5 ∷ [])) (3 ∷ []) (26 ∷ []) solved (11 ∷ []) (8 ∷ 1 ∷ []) 2 3 3
+    ∷ solver-gives 7 (matrix (0 ∷ 1 ∷ 1 ∷ []) (0 ∷ []) (2 ∷ [])) (1 ∷ 0 ∷ []) [] solved (4 ∷ 0 ∷ []) (5 ∷ 1 ∷ []) 1 4 4
     -- singular though the system has a solution; n = 4, where a t kept over a restart shows
-    ∷ solver-gives 2 (matrix (0 ∷ 0 ∷ 1 ∷ 2 ∷ []) (0 ∷ 1 ∷ []) (1 ∷ 1 ∷ [])) (0 ∷ 1 ∷ 0 ∷ []) [] singular (0 ∷ 0 ∷ 1 ∷ []) (0 ∷ 0 ∷ 1 ∷ []) 3 16
-    ∷ solver-gives 2 (matrix (0 ∷ 2 ∷ 3 ∷ 4 ∷ 4 ∷ []) (0 ∷ 1 ∷ 0 ∷ 3 ∷ []) (1 ∷ 1 ∷ 1 ∷ 1 ∷ [])) (1 ∷ 0 ∷ 0 ∷ 1 ∷ []) [] singular (0 ∷ 0 ∷ 1 ∷ 0 ∷ []) (0 ∷ 0 ∷ 1 ∷ 1 ∷ 1 ∷ []) 3 20
-    ∷ solver-gives 3 (matrix (0 ∷ 1 ∷ 1 ∷ 2 ∷ 3 ∷ []) (1 ∷ 3 ∷ 2 ∷ []) (2 ∷ 1 ∷ 2 ∷ [])) (2 ∷ 2 ∷ 1 ∷ 0 ∷ []) [] singular (1 ∷ 0 ∷ 0 ∷ 0 ∷ []) (0 ∷ 0 ∷ 1 ∷ 0 ∷ 1 ∷ []) 3 20
+    ∷ solver-gives 2 (matrix (0 ∷ 0 ∷ 1 ∷ 2 ∷ []) (0 ∷ 1 ∷ []) (1 ∷ 1 ∷ [])) (0 ∷ 1 ∷ 0 ∷ []) [] singular (0 ∷ 0 ∷ 1 ∷ []) (0 ∷ 0 ∷ 1 ∷ []) 3 16 32
+    ∷ solver-gives 2 (matrix (0 ∷ 2 ∷ 3 ∷ 4 ∷ 4 ∷ []) (0 ∷ 1 ∷ 0 ∷ 3 ∷ []) (1 ∷ 1 ∷ 1 ∷ 1 ∷ [])) (1 ∷ 0 ∷ 0 ∷ 1 ∷ []) [] singular (0 ∷ 0 ∷ 1 ∷ 0 ∷ []) (0 ∷ 0 ∷ 1 ∷ 1 ∷ 1 ∷ []) 3 20 80
+    ∷ solver-gives 3 (matrix (0 ∷ 1 ∷ 1 ∷ 2 ∷ 3 ∷ []) (1 ∷ 3 ∷ 2 ∷ []) (2 ∷ 1 ∷ 2 ∷ [])) (2 ∷ 2 ∷ 1 ∷ 0 ∷ []) [] singular (1 ∷ 0 ∷ 0 ∷ 0 ∷ []) (0 ∷ 0 ∷ 1 ∷ 0 ∷ 1 ∷ []) 3 20 60
     -- the passes one by one: what they leave to the next, and a pass of degree 0
     ∷ solver-makes 7 diag23 (1 ∷ 1 ∷ []) [] (made 2 1 4 ∷ made 1 1 2 ∷ [])
     ∷ solver-makes 7 diag23 (1 ∷ 1 ∷ []) (0 ∷ 0 ∷ []) (made 2 0 3 ∷ made 2 1 4 ∷ made 1 1 2 ∷ [])
@@ -273,21 +286,34 @@ more-cases =
     ∷ steps-give 7 [] 0 (1 ∷ []) [] 0 1
     ∷ steps-give 7 (0 ∷ 3 ∷ []) 2 (1 ∷ 0 ∷ []) (1 ∷ []) 2 3
     -- products, transposed products, polynomials of a matrix
-    ∷ product-gives 5 (matrix (0 ∷ 2 ∷ 3 ∷ 4 ∷ []) (0 ∷ 1 ∷ 2 ∷ 0 ∷ []) (1 ∷ 2 ∷ 3 ∷ 4 ∷ [])) (1 ∷ 2 ∷ 3 ∷ []) (0 ∷ 4 ∷ 4 ∷ [])
-    ∷ transposed-gives 5 (matrix (0 ∷ 2 ∷ 3 ∷ 4 ∷ []) (0 ∷ 1 ∷ 2 ∷ 0 ∷ []) (1 ∷ 2 ∷ 3 ∷ 4 ∷ [])) (1 ∷ 2 ∷ 3 ∷ []) (3 ∷ 2 ∷ 1 ∷ [])
-    ∷ product-gives 7 U (3 ∷ 5 ∷ []) (5 ∷ 0 ∷ [])
-    ∷ transposed-gives 7 U (3 ∷ 5 ∷ []) (0 ∷ 3 ∷ [])
-    ∷ apply-gives 5 (matrix (0 ∷ 2 ∷ 3 ∷ 4 ∷ []) (0 ∷ 1 ∷ 2 ∷ 0 ∷ []) (1 ∷ 2 ∷ 3 ∷ 4 ∷ [])) (2 ∷ 0 ∷ 1 ∷ 4 ∷ []) (1 ∷ 2 ∷ 3 ∷ []) (3 ∷ 1 ∷ 4 ∷ [])
-    ∷ apply-gives 7 U (6 ∷ []) (3 ∷ 5 ∷ []) (4 ∷ 2 ∷ [])
-    ∷ apply-gives 7 diag23 (6 ∷ 2 ∷ 1 ∷ []) (1 ∷ 1 ∷ []) (0 ∷ 0 ∷ [])
+    ∷ product-gives 5 (matrix (0 ∷ 2 ∷ 3 ∷ 4 ∷ []) (0 ∷ 1 ∷ 2 ∷ 0 ∷ []) (1 ∷ 2 ∷ 3 ∷ 4 ∷ [])) (1 ∷ 2 ∷ 3 ∷ []) (0 ∷ 4 ∷ 4 ∷ []) 4
+    ∷ transposed-gives 5 (matrix (0 ∷ 2 ∷ 3 ∷ 4 ∷ []) (0 ∷ 1 ∷ 2 ∷ 0 ∷ []) (1 ∷ 2 ∷ 3 ∷ 4 ∷ [])) (1 ∷ 2 ∷ 3 ∷ []) (3 ∷ 2 ∷ 1 ∷ []) 4
+    ∷ product-gives 7 U (3 ∷ 5 ∷ []) (5 ∷ 0 ∷ []) 1
+    ∷ transposed-gives 7 U (3 ∷ 5 ∷ []) (0 ∷ 3 ∷ []) 1
+    ∷ apply-gives 5 (matrix (0 ∷ 2 ∷ 3 ∷ 4 ∷ []) (0 ∷ 1 ∷ 2 ∷ 0 ∷ []) (1 ∷ 2 ∷ 3 ∷ 4 ∷ [])) (2 ∷ 0 ∷ 1 ∷ 4 ∷ []) (1 ∷ 2 ∷ 3 ∷ []) (3 ∷ 1 ∷ 4 ∷ []) 12
+    ∷ apply-gives 7 U (6 ∷ []) (3 ∷ 5 ∷ []) (4 ∷ 2 ∷ []) 0
+    ∷ apply-gives 7 diag23 (6 ∷ 2 ∷ 1 ∷ []) (1 ∷ 1 ∷ []) (0 ∷ 0 ∷ []) 4
+    -- request (iii): no entry is multiplied where there is none, beside a refusal or by a polynomial of one coefficient
+    ∷ product-gives 5 (matrix (0 ∷ 0 ∷ 0 ∷ []) [] []) (3 ∷ 4 ∷ []) (0 ∷ 0 ∷ []) 0
+    ∷ transposed-gives 5 (matrix (0 ∷ 0 ∷ 0 ∷ []) [] []) (3 ∷ 4 ∷ []) (0 ∷ 0 ∷ []) 0
+    ∷ apply-gives 5 (matrix (0 ∷ 0 ∷ 0 ∷ []) [] []) (1 ∷ 2 ∷ []) (3 ∷ 4 ∷ []) (3 ∷ 4 ∷ []) 0
+    ∷ apply-gives 7 diag23 (6 ∷ []) (1 ∷ 1 ∷ []) (6 ∷ 6 ∷ []) 0
+    ∷ product-refuses 7 diag23 (1 ∷ 7 ∷ []) 2 9
+    ∷ product-refuses 7 diag23 (1 ∷ 1 ∷ []) 3 11
+    ∷ apply-refuses 7 diag23 (1 ∷ 1 ∷ []) (1 ∷ 1 ∷ []) 2 3 11
     -- the two checks of offered answers
-    ∷ takes-says 7 U (0 ∷ 1 ∷ []) (1 ∷ 0 ∷ []) 0 true
-    ∷ takes-says 7 U (1 ∷ 0 ∷ []) (1 ∷ 0 ∷ []) 0 false
-    ∷ takes-says 7 U (0 ∷ 8 ∷ []) (1 ∷ 0 ∷ []) 9 false
-    ∷ isNull-says 7 U (5 ∷ 0 ∷ []) 0 true
-    ∷ isNull-says 7 U (0 ∷ 0 ∷ []) 0 false
-    ∷ isNull-says 7 U (0 ∷ 1 ∷ []) 0 false
-    ∷ isNull-says 7 U (7 ∷ 0 ∷ 0 ∷ []) 8 false
+    ∷ takes-says 7 U (0 ∷ 1 ∷ []) (1 ∷ 0 ∷ []) 0 true 1
+    ∷ takes-says 7 U (1 ∷ 0 ∷ []) (1 ∷ 0 ∷ []) 0 false 1
+    ∷ takes-says 7 U (0 ∷ 8 ∷ []) (1 ∷ 0 ∷ []) 9 false 0
+    ∷ isNull-says 7 U (5 ∷ 0 ∷ []) 0 true 1
+    ∷ isNull-says 7 U (0 ∷ 0 ∷ []) 0 false 1
+    ∷ isNull-says 7 U (0 ∷ 1 ∷ []) 0 false 1
+    ∷ isNull-says 7 U (7 ∷ 0 ∷ 0 ∷ []) 8 false 0
+    -- .. make a whole product, also of a zero vector and where the first row tells
+    ∷ takes-says 7 diag23 (0 ∷ 0 ∷ []) (0 ∷ 0 ∷ []) 0 true 2
+    ∷ takes-says 7 diag23 (0 ∷ 0 ∷ []) (1 ∷ 1 ∷ []) 0 false 2
+    ∷ isNull-says 7 diag23 (0 ∷ 0 ∷ []) 0 false 2
+    ∷ isNull-says 7 (matrix (0 ∷ 0 ∷ 0 ∷ []) [] []) (0 ∷ 1 ∷ []) 0 true 0
     -- the reader: good texts, and its refusals
     ∷ reader-gives "system\t7\t2\t3\na\t1\t1\t2\na\t1\t2\t1\na\t2\t2\t3\nb\t1\t1\nb\t2\t1\nend\n" 5 4 4 4 7 2 3 (0 ∷ 2 ∷ 3 ∷ 9 ∷ 9 ∷ []) (0 ∷ 1 ∷ 1 ∷ 9 ∷ []) (2 ∷ 1 ∷ 3 ∷ 9 ∷ []) (1 ∷ 1 ∷ 9 ∷ 9 ∷ [])
     ∷ reader-gives "system\t7\t2\t3\na\t1\t1\t2\na\t1\t2\t1\na\t2\t2\t3\nb\t1\t1\nb\t2\t1\nend\n" 3 3 3 2 7 2 3 (0 ∷ 2 ∷ 3 ∷ []) (0 ∷ 1 ∷ 1 ∷ []) (2 ∷ 1 ∷ 3 ∷ []) (1 ∷ 1 ∷ [])
@@ -322,23 +348,23 @@ more-cases =
     -- the text call
     ∷ text-gives
     "system\t2\t2\t1\na\t2\t2\t1\nb\t1\t1\nb\t2\t1\nend\n"
-    "answer\tsingular\t2\t2\t7\npass\t1\t2\t1\t4\npass\t2\t1\t1\t2\nclose\t1\nf\t0\t0\nf\t1\t1\nf\t2\t1\nw\t1\t1\nw\t2\t0\nend\n"
+    "answer\tsingular\t2\t2\t7\t7\npass\t1\t2\t1\t4\npass\t2\t1\t1\t2\nclose\t1\nf\t0\t0\nf\t1\t1\nf\t2\t1\nw\t1\t1\nw\t2\t0\nend\n"
     ∷ text-gives
     "system\t3\t2\t1\na\t1\t2\t2\nend\n"
-    "answer\tsolved\t0\t0\t0\nclose\t0\nf\t0\t1\nx\t1\t0\nx\t2\t0\nend\n"
+    "answer\tsolved\t0\t0\t0\t0\nclose\t0\nf\t0\t1\nx\t1\t0\nx\t2\t0\nend\n"
     ∷ text-gives
     "system\t13\t1\t1\na\t1\t1\t5\nb\t1\t3\nend\n"
-    "answer\tsolved\t1\t1\t2\npass\t1\t1\t1\t2\nclose\t0\nf\t0\t8\nf\t1\t1\nx\t1\t11\nend\n"
+    "answer\tsolved\t1\t1\t2\t2\npass\t1\t1\t1\t2\nclose\t0\nf\t0\t8\nf\t1\t1\nx\t1\t11\nend\n"
     ∷ text-gives
     "system\t5\t3\t3\na\t1\t1\t1\na\t2\t2\t2\na\t3\t3\t3\nb\t1\t1\nb\t2\t1\nb\t3\t1\nend\n"
-    "answer\tsolved\t3\t3\t14\npass\t1\t3\t1\t6\npass\t2\t2\t1\t4\npass\t3\t1\t1\t2\nclose\t2\nf\t0\t4\nf\t1\t1\nf\t2\t4\nf\t3\t1\nx\t1\t1\nx\t2\t3\nx\t3\t2\nend\n"
+    "answer\tsolved\t3\t3\t14\t42\npass\t1\t3\t1\t6\npass\t2\t2\t1\t4\npass\t3\t1\t1\t2\nclose\t2\nf\t0\t4\nf\t1\t1\nf\t2\t4\nf\t3\t1\nx\t1\t1\nx\t2\t3\nx\t3\t2\nend\n"
     -- diag(2,3) with b = (1,1), and with b = (0,1), where the first pass has degree 0
     ∷ text-gives
     "system\t7\t2\t2\na\t1\t1\t2\na\t2\t2\t3\nb\t1\t1\nb\t2\t1\nend\n"
-    "answer\tsolved\t2\t2\t7\npass\t1\t2\t1\t4\npass\t2\t1\t1\t2\nclose\t1\nf\t0\t6\nf\t1\t2\nf\t2\t1\nx\t1\t4\nx\t2\t5\nend\n"
+    "answer\tsolved\t2\t2\t7\t14\npass\t1\t2\t1\t4\npass\t2\t1\t1\t2\nclose\t1\nf\t0\t6\nf\t1\t2\nf\t2\t1\nx\t1\t4\nx\t2\t5\nend\n"
     ∷ text-gives
     "system\t7\t2\t2\na\t1\t1\t2\na\t2\t2\t3\nb\t2\t1\nend\n"
-    "answer\tsolved\t1\t2\t7\npass\t1\t2\t0\t3\npass\t2\t2\t1\t4\nclose\t0\nf\t0\t4\nf\t1\t1\nx\t1\t0\nx\t2\t5\nend\n"
+    "answer\tsolved\t1\t2\t7\t14\npass\t1\t2\t0\t3\npass\t2\t2\t1\t4\nclose\t0\nf\t0\t4\nf\t1\t1\nx\t1\t0\nx\t2\t5\nend\n"
     ∷ text-refuses "system\t7\t129\t0\nend\n" 7168 11
     ∷ text-refuses "system\t7\t129\t0\nb\t1\t7\nend\n" 7168 7
     ∷ text-refuses "system\t7\t4097\t0\nend\n" 7168 4
@@ -360,14 +386,14 @@ more-cases =
 
 pub more-rows : AllHold more-cases
 unfolding compute
-more-rows = (refl, (refl, (refl, (refl, (refl, (refl, (refl, (refl, (refl, (refl, (refl, (refl, (refl, (refl, (refl, (refl, (refl, (refl, (refl, (refl, (refl, (refl, (refl, (refl, (refl, (refl, (refl, (refl, (refl, (refl, (refl, (refl, (refl, (refl, (refl, (refl, (refl, (refl, (refl, (refl, (refl, (refl, (refl, (refl, (refl, (refl, (refl, (refl, (refl, (refl, (refl, (refl, (refl, (refl, (refl, (refl, (refl, (refl, (refl, (refl, (refl, (refl, (refl, (refl, (refl, (refl, (refl, (refl, (refl, (refl, (refl, (refl, (refl, (refl, (refl, (refl, (refl, (refl, (refl, (refl, (refl, (refl, (refl, (refl, (refl, (refl, (refl, (refl, (refl, (refl, (refl, (refl, (refl, (refl, (refl, (refl, (refl, (refl, (refl, (refl, (refl, (refl, (refl, (refl, (refl, (refl, (refl, (refl, (refl, (refl, (refl, (refl, (refl, (refl, (refl, (refl, (refl, (refl, (refl, (refl, (refl, (refl, (refl, tt)))))))))))))))))))))))))))))))))))))))))))))))))))))))))))))))))))))))))))))))))))))))))))))))))))))))))))))))))))))))))))
+more-rows = (refl, (refl, (refl, (refl, (refl, (refl, (refl, (refl, (refl, (refl, (refl, (refl, (refl, (refl, (refl, (refl, (refl, (refl, (refl, (refl, (refl, (refl, (refl, (refl, (refl, (refl, (refl, (refl, (refl, (refl, (refl, (refl, (refl, (refl, (refl, (refl, (refl, (refl, (refl, (refl, (refl, (refl, (refl, (refl, (refl, (refl, (refl, (refl, (refl, (refl, (refl, (refl, (refl, (refl, (refl, (refl, (refl, (refl, (refl, (refl, (refl, (refl, (refl, (refl, (refl, (refl, (refl, (refl, (refl, (refl, (refl, (refl, (refl, (refl, (refl, (refl, (refl, (refl, (refl, (refl, (refl, (refl, (refl, (refl, (refl, (refl, (refl, (refl, (refl, (refl, (refl, (refl, (refl, (refl, (refl, (refl, (refl, (refl, (refl, (refl, (refl, (refl, (refl, (refl, (refl, (refl, (refl, (refl, (refl, (refl, (refl, (refl, (refl, (refl, (refl, (refl, (refl, (refl, (refl, (refl, (refl, (refl, (refl, (refl, (refl, (refl, (refl, (refl, (refl, (refl, (refl, (refl, (refl, (refl, tt))))))))))))))))))))))))))))))))))))))))))))))))))))))))))))))))))))))))))))))))))))))))))))))))))))))))))))))))))))))))))))))))))))))
 
 -- document 02, request (ii): "size 0 with one start of 0 and no entries"
 abbrev pub nothing-left-cases : List Case
 nothing-left-cases =
     -- the solver, its slices and its bill
-    solver-gives 7 nothing [] [] solved [] (1 ∷ []) 0 0
-    ∷ solver-gives 251 nothing [] [] solved [] (1 ∷ []) 0 0
+    solver-gives 7 nothing [] [] solved [] (1 ∷ []) 0 0 0
+    ∷ solver-gives 251 nothing [] [] solved [] (1 ∷ []) 0 0 0
     ∷ solver-leaves 7 nothing [] [] [] (1 ∷ [])
     ∷ solver-bills 7 nothing [] [] 4 (9 ∷ 9 ∷ 9 ∷ 9 ∷ [])
     -- its refusals: no starts; an entry; a start that is not 0; an element of b; one word; a slice of another length
@@ -380,13 +406,13 @@ nothing-left-cases =
     ∷ solver-refuses 7 nothing [] [] 0 2 16 11
     ∷ solver-refuses 7 nothing [] [] 0 1 15 11
     -- products; a polynomial has one coefficient; A takes the empty vector to itself, and it is zero
-    ∷ product-gives 7 nothing [] []
-    ∷ transposed-gives 7 nothing [] []
-    ∷ apply-gives 7 nothing (6 ∷ []) [] []
+    ∷ product-gives 7 nothing [] [] 0
+    ∷ transposed-gives 7 nothing [] [] 0
+    ∷ apply-gives 7 nothing (6 ∷ []) [] [] 0
     ∷ apply-refuses 7 nothing [] [] 0 0 8
     ∷ apply-refuses 7 nothing (6 ∷ 1 ∷ []) [] 0 0 8
-    ∷ takes-says 7 nothing [] [] 0 true
-    ∷ isNull-says 7 nothing [] 0 false
+    ∷ takes-says 7 nothing [] [] 0 true 0
+    ∷ isNull-says 7 nothing [] 0 false 0
     -- the reader, into just enough places and into more; too few starts, a count without its line, an `a` line, a `b` line
     ∷ reader-gives "system\t7\t0\t0\nend\n" 1 0 0 0 7 0 0 (0 ∷ []) [] [] []
     ∷ reader-gives "system\t7\t0\t0\nend\n" 2 1 1 1 7 0 0 (0 ∷ 9 ∷ []) (9 ∷ []) (9 ∷ []) (9 ∷ [])
@@ -398,7 +424,7 @@ nothing-left-cases =
     ∷ writer-gives 7 nothing [] 17 17 "system\t7\t0\t0\nend\n"
     ∷ writer-gives 7 nothing [] 19 17 "system\t7\t0\t0\nend\n.."
     ∷ writer-gives 7 nothing [] 16 0 "................"
-    ∷ text-gives "system\t7\t0\t0\nend\n" "answer\tsolved\t0\t0\t0\nclose\t0\nf\t0\t1\nend\n"
+    ∷ text-gives "system\t7\t0\t0\nend\n" "answer\tsolved\t0\t0\t0\t0\nclose\t0\nf\t0\t1\nend\n"
     ∷ text-refuses "system\t7\t0\t0\nb\t1\t7\nend\n" 7168 6
     ∷ text-refuses "system\t7\t0\t0\nend\n" 7167 11
     ∷ []

@@ -11,7 +11,7 @@
 --     passTerms p A u        the terms of a pass with the projection u, left = n − D
 --     pass p A u             that pass: "f is their shortest recurrence", which knows its own terms only
 --     run p A us             "while r is not zero, make a pass with the next projection"
---     Kind, Outcome          solved or singular; what a run ends with
+--     Kind, Outcome          solved or singular; what a run ends with; request (iii): "the solver's result carries" the entries that its products multiplied
 --     passCount              "the passes", their number
 --     spent                  the applications of passes, summed
 --     closeCost              what the end takes: "D − 1 for G(A)b where D is at least 1", else 0
@@ -29,7 +29,7 @@ use lib.Dec.{eqb}
 use lib.ListN.{length, take, drop}
 use Rattle.meaning.specs.List.{at, sum, table, zeros, isZero, equal, flat, overwrite}
 use Rattle.meaning.specs.Field.{minus, times, inverse}
-use Rattle.meaning.specs.Matrix.{Matrix, size, product, power, apply}
+use Rattle.meaning.specs.Matrix.{Matrix, size, product, power, apply, multiplied}
 use Rattle.meaning.specs.Recurrence.{degree, generator}
 
 unfoldable pub vectorCount : ℕ → List ℕ → ℕ
@@ -101,6 +101,7 @@ pub record Outcome : Type 0 where
   pub polynomial : List ℕ
   pub degree : ℕ
   pub passes : List Pass
+  pub multiplied : ℕ
 
 abbrev pub passCount : Outcome → ℕ
 passCount o = length (o .passes)
@@ -143,13 +144,14 @@ close p A b c =
       polynomial = c .factor;
       degree = c .found;
       passes = c .passes;
+      multiplied = multiplied (spent (c .passes) + (c .found - 1)) A;
     }
 
 unfoldable pub solve : ℕ → Matrix → List ℕ → List ℕ → Outcome
 solve p A b words = close p A b (run p A (projections p (size A) words) (begin b))
 
 abbrev pub nothingLeft : Outcome
-nothingLeft = record { kind = solved; vector = []; polynomial = 1 ∷ []; degree = 0; passes = [] }
+nothingLeft = record { kind = solved; vector = []; polynomial = 1 ∷ []; degree = 0; passes = []; multiplied = 0 }
 
 -- "the first says yes exactly when Ax = b"
 unfoldable pub takes : ℕ → Matrix → List ℕ → List ℕ → Bool

@@ -9,6 +9,7 @@
 --     Midway             the run with the first j projections is what is held, and its passes stand on the bill
 --     midway-begin, midway-less, midway-state, midway-made, midway-next      at the start; r ≢ 0: a projection is left, a pass is not refused, and is made
 --     Finished, midway-end     r = 0: the whole run is what is held
+--     Bounded                  how large the counts of all passes may be
 --     Closable, closable       what the end asks: F is monic of degree D ≤ n
 use mathlib.Core.Path.{_≡_, refl, sym, ap, ap₂, _∙_, subst}
 use mathlib.Core.Logic.{_⊎_, inl, inr}
@@ -22,7 +23,7 @@ use native.Mathlib.Omega.{arith}
 use lib.ListN.{length, take, drop, getD, set, length-set, length-append, take-append-drop}
 use lib.Seq.{take-suc, take-all, getD-set-same, getD-set-other}
 use Rattle.meaning.specs.List.{at, isZero, padded}
-use Rattle.meaning.specs.Matrix.{Matrix, size}
+use Rattle.meaning.specs.Matrix.{Matrix, size, multiplied}
 use Rattle.meaning.specs.Refusal.{check, first, elements, matrixChecks, wordsTaken}
 use Rattle.meaning.specs.Calls.{systemChecks, runChecks}
 use Rattle.meaning.specs.Recurrence.{degree}
@@ -30,6 +31,7 @@ use Rattle.meaning.specs.Solver.{Pass, Run, projections, begin, spent, billed, 
 use Rattle.laws.specs.Accepted.{run-accepted}
 use Rattle.laws.specs.Bool.{and-both, test-cases, never}
 use Rattle.laws.specs.List.{length-table, table-of}
+use Rattle.laws.specs.Products.{multiplied-none, multiplied-add, multiplied-most}
 use Rattle.laws.specs.Recurrence.{monic-leading}
 use Rattle.laws.specs.Refusal.{first-append-zero, numbered-matrix, numbered-system}
 use Rattle.laws.specs.Solver.{spent-nil, spent-snoc, made-within}
@@ -43,6 +45,7 @@ use Rattle.bridge.specs.Run.{Stands, run-begun, run-nil, run-stop, run-pass, ru
 use Rattle.bridge.specs.ThirdCondition.{Accepted, accepted, projections-zero, end-monic}
 use Rattle.checks.specs.Valid.{Valid, Vector, valid-of, vector-elements}
 use Rattle.checks.specs.Matrix.{vectorChecks}
+use Rattle.checks.specs.Products.{per-product-low}
 use Rattle.wiedemann.specs.declared.pass.Pass.{Pass as CodePass}
 use Rattle.wiedemann.specs.declared.pass.Passed.{Passed}
 use Rattle.wiedemann.specs.declared.pass.Passed.the-variants.{Made, Refused}
@@ -70,19 +73,27 @@ system-of p A b words e =
     matrix = first-append-zero (matrixChecks p A) (vectorChecks p A b) (numbered-matrix p A) system .0
 
 abbrev pub none : Counts
-none = record { degree = 0; passes = 0; applications = 0 }
+none = record { degree = 0; passes = 0; applications = 0; multiplied = 0 }
 
 abbrev pub counted : Counts → CodePass → Counts
-counted c q = record { degree = c .degree + q .degree; passes = c .passes + 1; applications = c .applications + q .applications }
+counted c q =
+    record {
+      degree = c .degree + q .degree;
+      passes = c .passes + 1;
+      applications = c .applications + q .applications;
+      multiplied = c .multiplied + q .multiplied;
+    }
 
 -- what bounds the counts and the numbers of a pass that is added to them
 pub record Fits (c : Counts) (q : CodePass) : Type 0 where
   pub degree-low : c .degree ≤ 4096
   pub passes-low : c .passes < 65536
   pub applications-low : c .applications < 4294967296
+  pub multiplied-low : c .multiplied ≤ 8796093022208
   pub left-low : q .left ≤ 4096
   pub found-low : q .degree ≤ 8192
   pub cost-low : q .applications ≤ 16384
+  pub entries-low : q .multiplied ≤ 1073741824
 
 -- b in r's place, which was lent, and 1 in F's first: the run's beginning
 pub begun : (W b : List ℕ) (from m : ℕ) (Y : List ℕ) → from ≡ residualAt (length b) → m ≡ length b → from + m ≤ length W → Y ≡ padded m b
@@ -161,6 +172,7 @@ pub record Midway (p : ℕ) (A : Matrix) (b words B B′ W : List ℕ) (j : ℕ)
   pub passes : c .passes ≡ length made
   pub used : length made ≡ j
   pub applications : c .applications ≡ spent made
+  pub by-entry : c .multiplied ≡ multiplied (c .applications) A
   pub few : c .applications ≤ j * 16384
   pub room : 16 * size A + 16 ≤ length W
   pub within : j ≤ length (projections p (size A) words)
@@ -175,6 +187,7 @@ midway-begin {p} {A} {b} {words} {B} {W} s room e =
       passes = refl;
       used = refl;
       applications = sym spent-nil;
+      by-entry = sym (multiplied-none A);
       few = omega arith;
       room = room;
       within = omega arith;
@@ -186,6 +199,7 @@ pub record Finished (p : ℕ) (A : Matrix) (b words B B′ W : List ℕ) (c : Co
   pub bill : B′ ≡ billed B made
   pub passes : c .passes ≡ length made
   pub applications : c .applications ≡ spent made
+  pub by-entry : c .multiplied ≡ multiplied (c .applications) A
   pub few : c .applications ≤ 134217728
   pub room : 16 * size A + 16 ≤ length W
   pub state : held (size A) W (c .degree) made ≡ run p A (projections p (size A) words) (begin b)
@@ -273,13 +287,17 @@ module _ {p : ℕ} {A : Matrix} {b words B B′ W : List ℕ} {j : ℕ} {c : Cou
       let within = made-within p A (s .accepted .prime .two-le) u here there (passOf q) refl (made .1 .run (m .made)) in
       let low : q .left ≤ 4096 = omega (arith, within .left-low, sized) in
       let short : q .degree ≤ 8192 = omega (arith, within .degree-low, low) in
+      let cost : q .applications ≤ 16384 = omega (arith, within .cost, within .degree-low, low) in
       record {
         degree-low = omega (arith, below z, sized);
         passes-low = omega (arith, m .passes, m .used, m .within, most);
         applications-low = omega (arith, m .few, m .within, most);
+        multiplied-low =
+            omega (arith, m .by-entry, multiplied-most A 65536 (c .applications) (per-product-low (s .valid)), m .few, m .within, most);
         left-low = low;
         found-low = short;
-        cost-low = omega (arith, within .cost, within .degree-low, low);
+        cost-low = cost;
+        entries-low = omega (arith, made .1 .by-entry, multiplied-most A 65536 (q .applications) (per-product-low (s .valid)), cost);
       }
 
   pub midway-next : isZero (part (residualAt (size A)) (size A) W) ≡ false → (W′ : List ℕ) (r : Passed) (q : CodePass) → r ≡ Made q
@@ -294,6 +312,7 @@ module _ {p : ℕ} {A : Matrix} {b words B B′ W : List ℕ} {j : ℕ} {c : Cou
           passes = ap (λ k. k + 1) (m .passes) ∙ sym (length-append (m .made) (passOf q ∷ []));
           used = length-append (m .made) (passOf q ∷ []) ∙ ap (λ k. k + 1) (m .used);
           applications = ap (λ k. k + q .applications) (m .applications) ∙ sym (spent-snoc (m .made) (passOf q));
+          by-entry = ap₂ _+_ (m .by-entry) (made .1 .by-entry) ∙ sym (multiplied-add A (c .applications) (q .applications));
           few = omega (arith, m .few, fits .cost-low);
           room = omega (arith, made .1 .same-length, m .room);
           within = omega (arith, midway-less z);
@@ -309,6 +328,7 @@ module _ {p : ℕ} {A : Matrix} {b words B B′ W : List ℕ} {j : ℕ} {c : Cou
         bill = m .bill;
         passes = m .passes;
         applications = m .applications;
+        by-entry = m .by-entry;
         few = omega (arith, m .few, m .within, most);
         room = m .room;
         state =
@@ -320,11 +340,16 @@ module _ {p : ℕ} {A : Matrix} {b words B B′ W : List ℕ} {j : ℕ} {c : Cou
 
 -- ---- the end
 
+pub record Bounded (c : Counts) : Type 0 where
+  pub applications-low : c .applications ≤ 134217728
+  -- 2⁴³
+  pub multiplied-low : c .multiplied ≤ 8796093022208
+
 pub record Closable (p : ℕ) (A : Matrix) (W : List ℕ) (c : Counts) : Type 0 where
   pub found : c .degree ≤ size A
   pub one : at W (c .degree) ≡ 1
   pub room : 16 * size A + 16 ≤ length W
-  pub few : c .applications ≤ 134217728
+  pub few : Bounded c
   pub elements : (i : ℕ) → i ≤ c .degree → at W i < p
 
 pub closable : {p : ℕ} {A : Matrix} {b words B B′ W : List ℕ} {c : Counts} → CheckedSystem p A b → Finished p A b words B B′ W c → Closable p A W c
@@ -333,7 +358,11 @@ closable {p} {A} {b} {words} {B} {B′} {W} {c} s f =
       found = found;
       one = sym (place (c .degree) (omega arith)) ∙ ap (λ (q : Run). at (q .factor) (c .degree)) (f .state) ∙ ap (at (end .factor)) (ap (λ (q : Run). q .found) (f .state)) ∙ monic-leading p (end .found) (end .factor) (end-monic p h A b size-b reduced-b end stands zero-end);
       room = f .room;
-      few = f .few;
+      few =
+          record {
+            applications-low = f .few;
+            multiplied-low = omega (arith, f .by-entry, multiplied-most A 65536 (c .applications) (per-product-low (s .valid)), f .few);
+          };
       elements = λ i l. rw (← place i l, ap (λ (q : Run). at (q .factor) i) (f .state)) (stands .reduced-factor i (omega (arith, l, stands .size-factor, ap (λ (q : Run). q .found) (f .state))));
     }
   where

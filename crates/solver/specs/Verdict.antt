@@ -10,11 +10,11 @@
 --     constant, divisor, coefficients, taken-in      F[0], its inverse and G in the polynomial slice; G(A)b is not refused
 --     closed             so it is the meaning's `solve`
 --     refused, taken     a call that was refused, and one that was not
-use mathlib.Core.Path.{_≡_, refl, sym, ap, _∙_, subst}
+use mathlib.Core.Path.{_≡_, refl, sym, ap, ap₂, _∙_, subst}
 use mathlib.Core.Logic.{_≢_}
 use mathlib.Core.Bool.{true, false, not, cond, _&&_}
 use mathlib.Core.List.{List, [], _∷_}
-use Prim.Native.Nat.{ℕ, _+_, _-_, _*_, _<_}
+use Prim.Native.Nat.{ℕ, _+_, _-_, _*_, _≤_, _<_}
 use native.Mathlib.Omega.{arith}
 use lib.Dec.{eqb, leb}
 use lib.ListN.{length, take, drop, length-drop}
@@ -22,7 +22,7 @@ use lib.Seq.{take-all, getD-drop}
 use borrow.Author.Tests.{eq-eqb, ne-eqb, le-leb}
 use Rattle.meaning.specs.List.{at, padded}
 use Rattle.meaning.specs.Field.{inverse}
-use Rattle.meaning.specs.Matrix.{Matrix, size}
+use Rattle.meaning.specs.Matrix.{Matrix, size, entryCount, multiplied}
 use Rattle.meaning.specs.Solver.{Run, Kind, solved, singular, Outcome, passCount, applications, billed, verdict, close, solve}
 use Rattle.meaning.specs.ThirdCondition.{ThirdCondition, SameAnswer}
 use Rattle.meaning.specs.Refusal.{check, first, matrixChecks}
@@ -34,17 +34,28 @@ use Rattle.solver.specs.declared.Verdict.{Verdict}
 use Rattle.solver.specs.declared.Verdict.the-variants.{Solved, Singular, Refused}
 use Rattle.laws.specs.Part.{part, at-part, length-part}
 use Rattle.laws.specs.Lent.{part-of-take, take-padded}
+use Rattle.checks.specs.declared.Products.{Products}
+use Rattle.checks.specs.Products.{productsWith, per-product-low}
 use Rattle.checks.specs.Valid.{vector-elements}
 use Rattle.wiedemann.specs.Pass.{held}
 use Rattle.laws.specs.Bool.{and-both}
 use Rattle.laws.specs.List.{length-table, getD-table}
+use Rattle.laws.specs.Products.{multiplied-none, multiplied-add, multiplied-most, every-run-by-entry}
 use Rattle.laws.specs.Refusal.{first-nil, first-pass, first-append-none, first-append-zero, numbered-matrix, numbered-run, unlessRefused-none}
-use Rattle.solver.specs.Run.{CheckedSystem, Closable, Finished}
+use Rattle.solver.specs.Run.{CheckedSystem, Closable, Finished, closable}
 
 pub record Counted (c : Counts) (o : Outcome) : Type 0 where
   pub degree : c .degree ≡ o .degree
   pub passes : c .passes ≡ passCount o
   pub applications : c .applications ≡ applications o
+  pub multiplied : c .multiplied ≡ o .multiplied
+
+-- request (iii)
+pub record ByEntry (A : Matrix) (o : Outcome) : Type 0 where
+  -- "equal to applications × entries"
+  pub product : o .multiplied ≡ applications o * entryCount A
+  -- 64 bits are enough: at most 2⁴³ + 2²⁸
+  pub fits : o .multiplied ≤ 8796361457664
 
 -- "a refusal returns its number and no other answer"
 abbrev pub Says : Verdict → ℕ → Outcome → Type 0
@@ -60,6 +71,7 @@ pub record Leaves (p : ℕ) (A : Matrix) (b words vector polynomial bill work ve
   pub kept : solverRefusal p A b words vector polynomial work ≢ 0 → work′ ≡ work
   -- the third condition of every run
   pub condition : solverRefusal p A b words vector polynomial work ≡ 0 → ThirdCondition p A b words (solve p A b words)
+  pub by-entry : solverRefusal p A b words vector polynomial work ≡ 0 → ByEntry A (solve p A b words)
 
 pub record Solves (p : ℕ) (A : Matrix) (b words vector polynomial bill work : List ℕ) (r : Verdict) (vector′ polynomial′ bill′ work′ : List ℕ) : Type 0 where
   pub says : Says r (solverRefusal p A b words vector polynomial work) (solve p A b words)
@@ -139,8 +151,21 @@ module _ (p : ℕ) (A : Matrix) (b words v f B w words₁ v₁ f₁ B₁ w₁ : 
 
 -- ---- the end
 
-abbrev pub closing : Counts → ℕ → Counts
-closing c products = record { degree = c .degree; passes = c .passes; applications = c .applications + products }
+abbrev pub closing : Counts → Products → Counts
+closing c done =
+    record {
+      degree = c .degree;
+      passes = c .passes;
+      applications = c .applications + done .made;
+      multiplied = c .multiplied + done .multiplied;
+    }
+
+-- "0 if D = 0"
+pub closing-none : (A : Matrix) (c : Counts) → c .degree ≡ 0 → c ≡ closing c (productsWith (c .degree - 1) A)
+closing-none A c e =
+    let none : c .degree - 1 ≡ 0 = omega (arith, e) in
+    ap₂ {C = Counts} (λ a m. record { degree = c .degree; passes = c .passes; applications = a; multiplied = m }) (omega (arith, none))
+    (omega (arith, ap (λ k. multiplied k A) none, multiplied-none A))
 
 abbrev pub Ends : Verdict → Kind → Counts → Type 0
 Ends (Solved c) k d = (k ≡ solved) × (c ≡ d)
@@ -149,7 +174,7 @@ Ends (Refused n) k d = ⊥
 
 pub record Closed (p : ℕ) (A : Matrix) (b W : List ℕ) (c : Counts) (r : Verdict) (vector polynomial : List ℕ) : Type 0 where
   -- "D − 1 for G(A)b where D is at least 1"
-  pub ends : Ends r (verdict p A b (part 0 (c .degree + 1) W) (c .degree) .0) (closing c (c .degree - 1))
+  pub ends : Ends r (verdict p A b (part 0 (c .degree + 1) W) (c .degree) .0) (closing c (productsWith (c .degree - 1) A))
   pub vector-is : vector ≡ verdict p A b (part 0 (c .degree + 1) W) (c .degree) .1
   pub polynomial-is : polynomial ≡ padded (size A + 1) (part 0 (c .degree + 1) W)
 
@@ -213,16 +238,18 @@ pub record Found (p : ℕ) (A : Matrix) (b words bill : List ℕ) (r : Verdict) 
   pub vector-is : vector ≡ solve p A b words .vector
   pub polynomial-is : polynomial ≡ padded (size A + 1) (solve p A b words .polynomial)
   pub bill-is : bill′ ≡ billed bill (solve p A b words .passes)
+  pub fits : solve p A b words .multiplied ≤ 8796361457664
 
-pub closed : {p : ℕ} {A : Matrix} {b words B B′ W : List ℕ} {c : Counts} {r : Verdict} {vector polynomial : List ℕ} → Finished p A b words B B′ W c
+pub closed : {p : ℕ} {A : Matrix} {b words B B′ W : List ℕ} {c : Counts} {r : Verdict} {vector polynomial : List ℕ} → CheckedSystem p A b → Finished p A b words B B′ W c
     → Closed p A b W c r vector polynomial → Found p A b words B r vector polynomial B′
 unfolding solve close
-closed {p} {A} {b} {words} {B} {B′} {W} {c} {r} {vector} {polynomial} f q =
+closed {p} {A} {b} {words} {B} {B′} {W} {c} {r} {vector} {polynomial} s f q =
     record {
       says = subst (λ o. Says r 0 o) outcome (go r (q .ends));
       vector-is = q .vector-is ∙ ap (λ (o : Outcome). o .vector) outcome;
       polynomial-is = q .polynomial-is ∙ ap (λ (o : Outcome). padded (size A + 1) (o .polynomial)) outcome;
       bill-is = f .bill ∙ ap (λ (o : Outcome). billed B (o .passes)) outcome;
+      fits = subst (λ (o : Outcome). o .multiplied ≤ 8796361457664) outcome (omega (arith, sym multiplied-here, bounds .few .multiplied-low, last));
     }
   where
     here : Run
@@ -231,10 +258,23 @@ closed {p} {A} {b} {words} {B} {B′} {W} {c} {r} {vector} {polynomial} f q =
     outcome : close p A b here ≡ solve p A b words
     outcome = ap (close p A b) (f .state)
 
-    counted : (d : Counts) → d ≡ closing c (c .degree - 1) → Counted d (close p A b here)
-    counted d e = subst (λ k. Counted k (close p A b here)) (sym e) (record { degree = refl; passes = f .passes; applications = ap (λ k. k + (c .degree - 1)) (f .applications) })
+    bounds : Closable p A W c
+    bounds = closable s f
 
-    go : (r : Verdict) → Ends r (verdict p A b (part 0 (c .degree + 1) W) (c .degree) .0) (closing c (c .degree - 1)) → Says r 0 (close p A b here)
+    last : multiplied (c .degree - 1) A ≤ 268435456
+    last = omega (arith, multiplied-most A 65536 (c .degree - 1) (per-product-low (s .valid)), bounds .found, s .valid .sized)
+
+    multiplied-here : c .multiplied + multiplied (c .degree - 1) A ≡ close p A b here .multiplied
+    multiplied-here =
+        ap (λ k. k + multiplied (c .degree - 1) A) (f .by-entry) ∙ sym (multiplied-add A (c .applications) (c .degree - 1))
+        ∙ ap (λ k. multiplied (k + (c .degree - 1)) A) (f .applications)
+
+    counted : (d : Counts) → d ≡ closing c (productsWith (c .degree - 1) A) → Counted d (close p A b here)
+    counted d e =
+        subst (λ k. Counted k (close p A b here)) (sym e)
+        (record { degree = refl; passes = f .passes; applications = ap (λ k. k + (c .degree - 1)) (f .applications); multiplied = multiplied-here })
+
+    go : (r : Verdict) → Ends r (verdict p A b (part 0 (c .degree + 1) W) (c .degree) .0) (closing c (productsWith (c .degree - 1) A)) → Says r 0 (close p A b here)
     go (Solved d) e = (refl, e .0, counted d (e .1))
     go (Singular d) e = (refl, e .0, counted d (e .1))
     go (Refused n) e = absurd e
@@ -253,6 +293,7 @@ module _ (p : ℕ) (A : Matrix) (b words v f B w : List ℕ) where
               bill-after = sym (ap (λ t. cond t (billed B (solve p A b words .passes)) B) off);
               kept = λ z. refl;
               condition = condition p A b words v f w;
+              by-entry = λ z. absurd (q (sym e ∙ z));
             };
       }
     where
@@ -270,6 +311,7 @@ module _ (p : ℕ) (A : Matrix) (b words v f B w : List ℕ) where
               bill-after = q .bill-is ∙ sym (ap (λ t. cond t (billed B (solve p A b words .passes)) B) on);
               kept = λ z. absurd (z e);
               condition = condition p A b words v f w;
+              by-entry = λ z. record { product = every-run-by-entry p A b words (run-passed p A b words v f w z); fits = q .fits };
             };
       }
     where

@@ -14,14 +14,16 @@ ghost use Rattle.meaning.specs.Matrix.{matrix, apply};
 ghost use Rattle.meaning.specs.Refusal.{wordsTaken};
 ghost use Rattle.meaning.specs.Calls.{applyRefusal};
 ghost use Rattle.meaning.specs.Solver.{begin};
+ghost use Rattle.checks.specs.Products.{productsWith, Few};
 ghost use Rattle.checks.specs.Valid.{Vector};
 ghost use Rattle.modular.specs.Modulus.{Multiplies};
 ghost use Rattle.laws.specs.Part.{part};
 ghost use Rattle.checks.specs.Pass.{residualAt};
 ghost use Rattle.wiedemann.specs.Pass.{held, passOf};
 ghost use Rattle.solver.specs.Bill.{entered};
-ghost use Rattle.solver.specs.Run.{CheckedSystem, none, counted, Fits, Finished, Closable};
+ghost use Rattle.solver.specs.Run.{CheckedSystem, none, counted, Fits, Finished, Bounded, Closable};
 ghost use Rattle.solver.specs.Verdict.{closing, Closed, Solves};
+use checks::Products;
 use checks::Writing;
 use checks::residual_at;
 use checks::solver_refusal;
@@ -36,11 +38,12 @@ use wiedemann::pass::Pass;
 use wiedemann::pass::Passed;
 use wiedemann::pass::make_pass;
 
-// D, the passes and the applications.
+// D, the passes, the applications and the entries that these multiplied.
 pub struct Counts {
     pub degree: usize,
     pub passes: u64,
     pub applications: u64,
+    pub multiplied: u64,
 }
 
 // What a run answers. No 'failed' kind exists.
@@ -91,6 +94,7 @@ fn begin(b: &[u32], work: &mut [u32]) -> Counts
         degree: 0,
         passes: 0,
         applications: 0,
+        multiplied: 0,
     }
 }
 
@@ -128,6 +132,7 @@ fn count(c: Counts, q: Pass) -> Counts
         degree: c.degree + q.degree,
         passes: c.passes + 1,
         applications: c.applications + q.applications,
+        multiplied: c.multiplied + q.multiplied,
     }
 }
 
@@ -165,18 +170,19 @@ fn run(
 // ---- the end
 
 // The counts at the end, with the products that it took.
-fn closed(c: Counts, products: u64) -> Counts
-    requires { ⌜ (c .applications ≤ 134217728) × (products ≤ 4096) ⌝ }
-    ensures { λ r. ⌜ r ≡ closing c products ⌝ }
+fn closed(c: Counts, done: Products) -> Counts
+    requires { ⌜ Bounded c × Few done ⌝ }
+    ensures { λ r. ⌜ r ≡ closing c done ⌝ }
 {
     Counts {
         degree: c.degree,
         passes: c.passes,
-        applications: c.applications + products,
+        applications: c.applications + done.made as u64,
+        multiplied: c.multiplied + done.multiplied,
     }
 }
 
-// G(A)b into the vector slice; the answer is how many products it took. A run's own G is never refused.
+// G(A)b into the vector slice; the answer is the products that it took. A run's own G is never refused.
 fn apply_to_b(
     field: Field,
     starts: &[u32],
@@ -186,14 +192,17 @@ fn apply_to_b(
     b: &[u32],
     vector: &mut [u32],
     work: &mut [u32],
-) -> u64
+) -> Products
     requires { ⌜ applyRefusal (field .p) (matrix (now starts) (now columns) (now values)) (now g) (now b) (now vector) (now work) ≡ 0 ⌝ }
-    ensures { λ made. ⌜ (made ≡ length (now (g .entry)) - 1) × (now (vector .exit)
-        ≡ apply (field .p) (matrix (now (starts .entry)) (now (columns .entry)) (now (values .entry))) (now (g .entry)) (now (b .entry))) ⌝ }
+    ensures { λ done. ⌜ (done ≡ productsWith (length (now (g .entry)) - 1) (matrix (now (starts .entry)) (now (columns .entry)) (now (values .entry))))
+        × (now (vector .exit) ≡ apply (field .p) (matrix (now (starts .entry)) (now (columns .entry)) (now (values .entry))) (now (g .entry)) (now (b .entry))) ⌝ }
 {
     match apply(field, starts, columns, values, g, b, vector, work) {
-        Writing::Done(made) => made,
-        Writing::Refused(_) => 0,
+        Writing::Done(done) => done,
+        Writing::Refused(_) => Products {
+            made: 0,
+            multiplied: 0,
+        },
     }
 }
 
@@ -223,9 +232,9 @@ fn finish(
     if d == 0 {
         let n = b.len();
         write_padded(&b[n..], vector);
-        return Verdict::Solved(closed(c, 0));
+        return Verdict::Solved(c);
     }
-    let made = apply_to_b(
+    let done = apply_to_b(
         field,
         starts,
         columns,
@@ -237,10 +246,10 @@ fn finish(
     );
     let constant = polynomial[front];
     if constant == 0 {
-        return Verdict::Singular(closed(c, made));
+        return Verdict::Singular(closed(c, done));
     }
     divide(field.p, inverse_modulo(field.p, constant), vector);
-    Verdict::Solved(closed(c, made))
+    Verdict::Solved(closed(c, done))
 }
 
 // Solves Ax = b, or finds a vector that is not zero and that A takes to zero, by passes with the random words and then the unit vectors. Whatever

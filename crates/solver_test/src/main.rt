@@ -1,7 +1,7 @@
 // Makes the calls of the solver that standard input lists, after their number. A call is six lists: its modulus and the places of its vector, polynomial,
 // bill and work slices; starts, columns, values, b and words. A line of the output: the refusal's number; or 0, 1 where it solved and 0 where it found
-// the matrix singular, degree, passes and applications; then the vector, polynomial and bill slices, each with two places behind it; and of the work
-// slice what a call may not change, two places behind it and, where it refuses, all. vectors.py makes calls and output.
+// the matrix singular, degree, passes, applications and entries multiplied; then the vector, polynomial and bill slices, each with two places behind
+// it; and of the work slice what a call may not change, two places behind it and, where it refuses, all. vectors.py makes calls and output.
 use solver::Counts;
 use solver::Verdict;
 use test_io::at;
@@ -17,6 +17,7 @@ fn print_counts(solved: u64, counts: Counts) {
     print(counts.degree as u64);
     print(counts.passes);
     print(counts.applications);
+    print(counts.multiplied);
 }
 
 // The answer; the places that the call was free to change.

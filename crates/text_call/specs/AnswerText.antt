@@ -73,9 +73,9 @@ bill-lines qs rest = lines-from 1 qs rest
 
 -- ---- the whole text
 
-unfoldable pub textOf : List ℕ → List ℕ → ℕ → ℕ → ℕ → List ℕ → List ℕ → List ℕ → List ℕ
-textOf head w degree passed applied B polynomial vector =
-    line (head ∷ decimal degree ∷ decimal passed ∷ decimal applied ∷ [])
+unfoldable pub textOf : List ℕ → List ℕ → ℕ → ℕ → ℕ → ℕ → List ℕ → List ℕ → List ℕ → List ℕ
+textOf head w degree passed applied multiplied B polynomial vector =
+    line (head ∷ decimal degree ∷ decimal passed ∷ decimal applied ∷ decimal multiplied ∷ [])
     ++ billLines B passed ++ line (bytes "close" ∷ decimal (degree - 1) ∷ [])
     ++ elementLines (bytes "f") 0 polynomial (degree + 1) ++ elementLines w 1 vector (length vector) ++ line (bytes "end" ∷ [])
 
@@ -88,10 +88,10 @@ module _ (o : Outcome) (B : List ℕ) (h : billLines B (passCount o) ≡ passLin
       (λ i l. let e : i ≡ i + 0 = omega arith in ap (λ k. line (bytes "f" ∷ decimal k ∷ decimal (at (o .polynomial) i) ∷ [])) e))
 
   by-kind : (k : Kind) → o .kind ≡ k
-      → answerText o ≡ textOf (bytes "answer" ++ 9 ∷ kindWord k) (vectorWord k) (o .degree) (passCount o) (applications o) B (o .polynomial) (o .vector)
+      → answerText o ≡ textOf (bytes "answer" ++ 9 ∷ kindWord k) (vectorWord k) (o .degree) (passCount o) (applications o) (o .multiplied) B (o .polynomial) (o .vector)
   unfolding answerText textOf elementLines
   by-kind k e =
-      let numbers = decimal (o .degree) ∷ decimal (passCount o) ∷ decimal (applications o) ∷ [] in
+      let numbers = decimal (o .degree) ∷ decimal (passCount o) ∷ decimal (applications o) ∷ decimal (o .multiplied) ∷ [] in
       let closes = line (bytes "close" ∷ decimal (closeCost o) ∷ []) in
       let rest : Kind → List ℕ = λ j. flat (table (length (o .vector)) (elementLine (vectorWord j) 1 (o .vector))) in
       ap (λ j. line (bytes "answer" ∷ kindWord j ∷ numbers) ++ passLines 1 (o .passes) ++ closes ++ flat (table (o .degree + 1) (λ i. line (bytes "f" ∷ decimal i ∷ decimal (at (o .polynomial) i) ∷ []))) ++ rest j ++ line (bytes "end" ∷ [])) e
@@ -99,12 +99,12 @@ module _ (o : Outcome) (B : List ℕ) (h : billLines B (passCount o) ≡ passLin
       ∙ ap (λ f. line ((bytes "answer" ++ 9 ∷ kindWord k) ∷ numbers) ++ billLines B (passCount o) ++ closes ++ f ++ rest k ++ line (bytes "end" ∷ [])) (powers (o .degree + 1))
 
   pub answer-solved : o .kind ≡ solved
-      → answerText o ≡ textOf (bytes "answer\tsolved") (bytes "x") (o .degree) (passCount o) (applications o) B (o .polynomial) (o .vector)
+      → answerText o ≡ textOf (bytes "answer\tsolved") (bytes "x") (o .degree) (passCount o) (applications o) (o .multiplied) B (o .polynomial) (o .vector)
   unfolding bytes
   answer-solved e = by-kind solved e
 
   pub answer-singular : o .kind ≡ singular
-      → answerText o ≡ textOf (bytes "answer\tsingular") (bytes "w") (o .degree) (passCount o) (applications o) B (o .polynomial) (o .vector)
+      → answerText o ≡ textOf (bytes "answer\tsingular") (bytes "w") (o .degree) (passCount o) (applications o) (o .multiplied) B (o .polynomial) (o .vector)
   unfolding bytes
   answer-singular e = by-kind singular e
 

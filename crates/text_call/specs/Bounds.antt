@@ -1,6 +1,6 @@
 -- How large a run's numbers are, and how long its answer's text is.
 --     termCost-bounded     the terms of k passes with left up to 128 cost at most 256 × k
---     Small p n o          an outcome's degree, passes and applications, each pass, and the lengths and elements of its two lists
+--     Small p n o          an outcome's degree, passes, applications and entries multiplied, each pass, and the lengths and elements of its two lists
 --     run-small            the outcome of every run without words on a system of at most 128 rows
 --     answer-fits          its text has at most 7,168 bytes
 --     answer-long          every answer's text has more than 18
@@ -8,7 +8,10 @@ use mathlib.Core.Path.{_≡_, refl, sym, ap, subst}
 use mathlib.Core.Bool.{Bool, true, false, cond}
 use mathlib.Core.List.{List, [], _∷_, _++_, map}
 use Prim.Native.Nat.{ℕ, _+_, _-_, _*_, _≤_, _<_}
+use Rattle.laws.specs.Accepted.{run-accepted}
+use Rattle.laws.specs.Products.{every-run-by-entry}
 use Rattle.laws.specs.Solver.{vectorCount-nil, AllWithin, run-within}
+use native.Mathlib.Nat.{mul-le-mul}
 use native.Mathlib.Decide.{ℕ-discrete}
 use native.Mathlib.Omega.{arith}
 use lib.ListN.{length, drop, length-append}
@@ -42,6 +45,7 @@ pub record Small (p n : ℕ) (o : Outcome) : Type 0 where
   pub degree-low : o .degree ≤ n
   pub passes-few : passCount o ≤ n
   pub applications-few : applications o ≤ 33023
+  pub multiplied-few : o .multiplied ≤ 4294967295
   pub passes-within : AllWithin n (o .passes)
   pub vector-length : length (o .vector) ≡ n
   pub vector-below : Reduced p (o .vector)
@@ -90,10 +94,13 @@ module _ (p : ℕ) (A : Matrix) (b : List ℕ) (e : first (runChecks p A b []) �
       let v = verdict-vector p (a .prime) A b (c .factor) (c .found) in
       let D : o .degree ≤ size A = run-found p (a .prime) A b (a .size-b) (a .reduced-b) (projections p (size A) []) in
       let few : passCount o ≤ size A = omega (arith, third .few, vectorCount-nil (size A)) in
+      let applied = cost third few D in
       record {
         degree-low = D;
         passes-few = few;
-        applications-few = cost third few D;
+        applications-few = applied;
+        multiplied-few =
+            omega (arith, every-run-by-entry p A b [] e, mul-le-mul applied (run-accepted p A b [] e .system .few));
         passes-within = run-within p A (a .prime .two-le) (projections p (size A) []) (begin b) tt;
         vector-length = v .0;
         vector-below = v .1;
@@ -156,7 +163,7 @@ length-lines n g h = omega (arith, length-flat-rows (λ i. i) 17 n g (λ i l. om
 
 module _ (o : Outcome) where
   abbrev head : List ℕ
-  head = line (bytes "answer" ∷ kindWord (o .kind) ∷ decimal (o .degree) ∷ decimal (passCount o) ∷ decimal (applications o) ∷ [])
+  head = line (bytes "answer" ∷ kindWord (o .kind) ∷ decimal (o .degree) ∷ decimal (passCount o) ∷ decimal (applications o) ∷ decimal (o .multiplied) ∷ [])
 
   abbrev powers : List ℕ
   powers = flat (table (o .degree + 1) (λ i. line (bytes "f" ∷ decimal i ∷ decimal (at (o .polynomial) i) ∷ [])))
@@ -186,17 +193,21 @@ module _ (o : Outcome) where
         length-line-last (bytes "end"),
       )
 
-  length-head : length head ≡ 6 + length (kindWord (o .kind)) + length (decimal (o .degree)) + length (decimal (passCount o)) + length (decimal (applications o)) + 5
+  length-head :
+      length head
+      ≡ 6 + length (kindWord (o .kind)) + length (decimal (o .degree)) + length (decimal (passCount o)) + length (decimal (applications o))
+      + length (decimal (o .multiplied)) + 6
   unfolding bytes
   length-head =
       let d = decimal (o .degree) in
       let q = decimal (passCount o) in
       let a = decimal (applications o) in
+      let m = decimal (o .multiplied) in
       omega (
         arith,
-        length-line-more (bytes "answer") (kindWord (o .kind)) (d ∷ q ∷ a ∷ []),
-        length-line-more (kindWord (o .kind)) d (q ∷ a ∷ []),
-        length-line-three d q a,
+        length-line-more (bytes "answer") (kindWord (o .kind)) (d ∷ q ∷ a ∷ m ∷ []),
+        length-line-more (kindWord (o .kind)) d (q ∷ a ∷ m ∷ []),
+        length-line-four d q a m,
       )
 
   pub answer-long : 18 < length (answerText o)
@@ -243,5 +254,6 @@ module _ (o : Outcome) where
           decimal-short 2 D (omega arith),
           decimal-short 2 (passCount o) (omega (arith, s .passes-few)),
           decimal-short 4 (applications o) (omega (arith, s .applications-few)),
+          decimal-bounded (o .multiplied) (s .multiplied-few),
           s .vector-length,
         )

@@ -190,8 +190,8 @@ refused-number text starts columns values right (suc k) e z = omega arith
 -- ---- the answer, of what the solver says
 
 unfoldable pub verdictText : Verdict → List ℕ → List ℕ → List ℕ → List ℕ
-verdictText (Solved c) B polynomial vector = textOf (bytes "answer\tsolved") (bytes "x") (c .degree) (c .passes) (c .applications) B polynomial vector
-verdictText (Singular c) B polynomial vector = textOf (bytes "answer\tsingular") (bytes "w") (c .degree) (c .passes) (c .applications) B polynomial vector
+verdictText (Solved c) B polynomial vector = textOf (bytes "answer\tsolved") (bytes "x") (c .degree) (c .passes) (c .applications) (c .multiplied) B polynomial vector
+verdictText (Singular c) B polynomial vector = textOf (bytes "answer\tsingular") (bytes "w") (c .degree) (c .passes) (c .applications) (c .multiplied) B polynomial vector
 verdictText (Refused k) B polynomial vector = []
 
 abbrev pub degreeOf : Verdict → ℕ
@@ -206,12 +206,12 @@ passesOf (Refused k) = 0
 
 module _ (B polynomial vector : List ℕ) where
   pub verdict-solved : (r : Verdict) (c : Counts) → r ≡ Solved c
-      → textOf (bytes "answer\tsolved") (bytes "x") (c .degree) (c .passes) (c .applications) B polynomial vector ≡ verdictText r B polynomial vector
+      → textOf (bytes "answer\tsolved") (bytes "x") (c .degree) (c .passes) (c .applications) (c .multiplied) B polynomial vector ≡ verdictText r B polynomial vector
   unfolding verdictText
   verdict-solved r c e = ap (λ v. verdictText v B polynomial vector) (sym e)
 
   pub verdict-singular : (r : Verdict) (c : Counts) → r ≡ Singular c
-      → textOf (bytes "answer\tsingular") (bytes "w") (c .degree) (c .passes) (c .applications) B polynomial vector ≡ verdictText r B polynomial vector
+      → textOf (bytes "answer\tsingular") (bytes "w") (c .degree) (c .passes) (c .applications) (c .multiplied) B polynomial vector ≡ verdictText r B polynomial vector
   unfolding verdictText
   verdict-singular r c e = ap (λ v. verdictText v B polynomial vector) (sym e)
 
@@ -222,24 +222,24 @@ module _ (B polynomial vector : List ℕ) where
 module _ (p n : ℕ) (o : Outcome) (s : Small p n o) where
   module _ (B : List ℕ) (h : billLines B (passCount o) ≡ passLines 1 (o .passes)) where
     -- the polynomial's zeros after F are not written
-    same-text : (head w : List ℕ) (degree passed applied : ℕ) → degree ≡ o .degree → passed ≡ passCount o → applied ≡ applications o
-        → textOf head w degree passed applied B (padded (n + 1) (o .polynomial)) (o .vector)
-        ≡ textOf head w (o .degree) (passCount o) (applications o) B (o .polynomial) (o .vector)
+    same-text : (head w : List ℕ) (degree passed applied m : ℕ) → degree ≡ o .degree → passed ≡ passCount o → applied ≡ applications o → m ≡ o .multiplied
+        → textOf head w degree passed applied m B (padded (n + 1) (o .polynomial)) (o .vector)
+        ≡ textOf head w (o .degree) (passCount o) (applications o) (o .multiplied) B (o .polynomial) (o .vector)
     unfolding textOf
-    same-text head w degree passed applied ed eq ea =
-        ap (λ D. textOf head w D passed applied B (padded (n + 1) (o .polynomial)) (o .vector)) ed
-        ∙ ap₂ (λ q a. textOf head w (o .degree) q a B (padded (n + 1) (o .polynomial)) (o .vector)) eq ea
-        ∙ ap (λ f. line (head ∷ decimal (o .degree) ∷ decimal (passCount o) ∷ decimal (applications o) ∷ []) ++ billLines B (passCount o) ++ line (bytes "close" ∷ decimal (o .degree - 1) ∷ []) ++ f ++ elementLines w 1 (o .vector) (length (o .vector)) ++ line (bytes "end" ∷ []))
+    same-text head w degree passed applied m ed eq ea em =
+        ap₂ (λ D k. textOf head w D passed applied k B (padded (n + 1) (o .polynomial)) (o .vector)) ed em
+        ∙ ap₂ (λ q a. textOf head w (o .degree) q a (o .multiplied) B (padded (n + 1) (o .polynomial)) (o .vector)) eq ea
+        ∙ ap (λ f. line (head ∷ decimal (o .degree) ∷ decimal (passCount o) ∷ decimal (applications o) ∷ decimal (o .multiplied) ∷ []) ++ billLines B (passCount o) ++ line (bytes "close" ∷ decimal (o .degree - 1) ∷ []) ++ f ++ elementLines w 1 (o .vector) (length (o .vector)) ++ line (bytes "end" ∷ []))
         (elementLines-ext (bytes "f") 0 (padded (n + 1) (o .polynomial)) (o .polynomial) (o .degree + 1)
         (λ i l. getD-table (n + 1) (λ i. at (o .polynomial) i) i 0 (omega (arith, s .degree-low))))
 
     pub said-answer : (r : Verdict) → Says r 0 o → verdictText r B (padded (n + 1) (o .polynomial)) (o .vector) ≡ answerText o
     unfolding verdictText
     said-answer (Solved c) t =
-        same-text (bytes "answer\tsolved") (bytes "x") (c .degree) (c .passes) (c .applications) (t .2 .degree) (t .2 .passes) (t .2 .applications)
+        same-text (bytes "answer\tsolved") (bytes "x") (c .degree) (c .passes) (c .applications) (c .multiplied) (t .2 .degree) (t .2 .passes) (t .2 .applications) (t .2 .multiplied)
         ∙ sym (answer-solved o B h (t .1))
     said-answer (Singular c) t =
-        same-text (bytes "answer\tsingular") (bytes "w") (c .degree) (c .passes) (c .applications) (t .2 .degree) (t .2 .passes) (t .2 .applications)
+        same-text (bytes "answer\tsingular") (bytes "w") (c .degree) (c .passes) (c .applications) (c .multiplied) (t .2 .degree) (t .2 .passes) (t .2 .applications) (t .2 .multiplied)
         ∙ sym (answer-singular o B h (t .1))
     said-answer (Refused k) t = absurd (t .1 (sym (t .0)))
 

@@ -65,10 +65,15 @@ pub(crate) fn put_answer(
     vector: &[u32],
 ) -> usize
     requires { ⌜ (c .degree < length (now polynomial)) × (3 * c .passes ≤ length (now bill)) ⌝ }
-    ensures { λ r. ⌜ Wrote (now (out .entry)) 0 (textOf (now (head .entry)) (now (word .entry)) (c .degree) (c .passes) (c .applications)
+    ensures { λ r. ⌜ Wrote (now (out .entry)) 0 (textOf (now (head .entry)) (now (word .entry)) (c .degree) (c .passes) (c .applications) (c .multiplied)
         (now (bill .entry)) (now (polynomial .entry)) (now (vector .entry))) r (now (out .exit)) ⌝ }
 {
-    let next = put_line(out, 0, head, &[c.degree as u64, c.passes, c.applications]);
+    let next = put_line(
+        out,
+        0,
+        head,
+        &[c.degree as u64, c.passes, c.applications, c.multiplied],
+    );
     let next = put_passes(out, next, bill, c.passes);
     let next = put_line(out, next, b"close", &[closing(c.degree)]);
     let next = put_elements(out, next, b"f", 0, polynomial, c.degree + 1);

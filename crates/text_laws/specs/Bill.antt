@@ -127,7 +127,7 @@ silent singular = (refl, refl, refl)
 
 module _ (o : Outcome) where
   abbrev head : List (List ℕ)
-  head = bytes "answer" ∷ kindWord (o .kind) ∷ map decimal (o .degree ∷ passCount o ∷ applications o ∷ [])
+  head = bytes "answer" ∷ kindWord (o .kind) ∷ map decimal (o .degree ∷ passCount o ∷ applications o ∷ o .multiplied ∷ [])
 
   abbrev closes : List (List ℕ)
   closes = bytes "close" ∷ decimal (closeCost o) ∷ []
@@ -135,7 +135,7 @@ module _ (o : Outcome) where
   module _ {w : List ℕ} {i : ℕ} where
     head-adds : Adds w i (line head) (cond (equal (bytes "answer") w) (valueOf (getD head i [])) 0)
     head-adds =
-        let ks = o .degree ∷ passCount o ∷ applications o ∷ [] in
+        let ks = o .degree ∷ passCount o ∷ applications o ∷ o .multiplied ∷ [] in
         let vs = kindWord (o .kind) ∷ map decimal ks in
         adds-line (bytes "answer") vs
         (every-more (free 9) (bytes "answer") vs (plain-answer .0) (every-more (free 9) (kindWord (o .kind)) (map decimal ks) (plain-kind (o .kind) .0) (decimals-free 9 ks (omega arith))))

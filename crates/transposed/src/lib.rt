@@ -6,12 +6,15 @@ ghost use Rattle.meaning.specs.List.{at};
 ghost use Rattle.meaning.specs.Matrix.{matrix, transposed};
 ghost use Rattle.meaning.specs.Calls.{productRefusal, productAfter};
 ghost use Rattle.checks.specs.Answers.{Writes};
+ghost use Rattle.checks.specs.Products.{productsWith};
 ghost use Rattle.checks.specs.Valid.{Valid, Vector};
 ghost use Rattle.modular.specs.Modulus.{Modular};
 ghost use Rattle.transposed.specs.Transposed.{scattered};
+use checks::Products;
 use checks::Writing;
 use checks::product_refusal;
 use checks::wide;
+use checks::with_row;
 use field::Field;
 use modular::modulus::Modulus;
 use modular::multiplier::Multiplier;
@@ -43,7 +46,7 @@ fn scatter(
     }
 }
 
-// The transposed product into out, row after row. The answer is how many products with the matrix it made: one.
+// The transposed product into out, row after row. The answer is one product, with the entries that it multiplied, by the rows' bounds.
 fn transposed_into(
     m: Modulus,
     starts: &[u32],
@@ -51,22 +54,27 @@ fn transposed_into(
     values: &[u32],
     v: &[u32],
     out: &mut [u32],
-) -> usize
+) -> Products
     requires { ⌜ Valid (m .p) (matrix (now starts) (now columns) (now values)) × Modular m ⌝ }
     requires { ⌜ (length (now out) ≡ length (now starts) - 1) × Vector (m .p) (length (now starts) - 1) (now v) ⌝ }
-    ensures { λ made. ⌜ (made ≡ 1) × (now (out .exit)
+    ensures { λ done. ⌜ (done ≡ productsWith 1 (matrix (now (starts .entry)) (now (columns .entry)) (now (values .entry)))) × (now (out .exit)
         ≡ transposed (m .p) (matrix (now (starts .entry)) (now (columns .entry)) (now (values .entry))) (now (v .entry))) ⌝ }
 {
     clear(out);
+    let mut multiplied = 0;
     let mut from = wide(starts[0]);
     let mut i = 0;
     while i < v.len() {
         let to = wide(starts[i + 1]);
         scatter(m, i, from, to, columns, values, v, out);
+        multiplied = with_row(multiplied, from, to);
         from = to;
         i += 1;
     }
-    1
+    Products {
+        made: 1,
+        multiplied,
+    }
 }
 
 // The transposed product into out.
@@ -79,7 +87,8 @@ pub fn transposed(
     out: &mut [u32],
 ) -> Writing
     ensures { λ r. ⌜ Writes r
-        (productRefusal (field .p) (matrix (now (starts .entry)) (now (columns .entry)) (now (values .entry))) (now (v .entry)) (now (out .entry))) 1 ⌝ }
+        (productRefusal (field .p) (matrix (now (starts .entry)) (now (columns .entry)) (now (values .entry))) (now (v .entry)) (now (out .entry))) 1
+        (matrix (now (starts .entry)) (now (columns .entry)) (now (values .entry))) ⌝ }
     ensures { λ r. ⌜ now (out .exit)
         ≡ productAfter transposed (field .p) (matrix (now (starts .entry)) (now (columns .entry)) (now (values .entry))) (now (v .entry)) (now (out .entry)) ⌝ }
 {
@@ -89,6 +98,6 @@ pub fn transposed(
         return Writing::Refused(number);
     }
     let m = Modulus::of(p);
-    let made = transposed_into(m, starts, columns, values, v, out);
-    Writing::Done(made as u64)
+    let done = transposed_into(m, starts, columns, values, v, out);
+    Writing::Done(done)
 }

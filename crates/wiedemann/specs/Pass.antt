@@ -2,7 +2,7 @@
 -- that no run led to finds a degree of up to 2 × left.
 --     generatorAt          where f stands after the recurrence of 2 × left terms
 --     held                 the run that a work slice holds, its degree D and its passes being known
---     passOf, passed       the meaning's record of a pass; the code's, by left and t: 2 × left − 1 products and t
+--     passOf, passed       the meaning's record of a pass; the code's, by A, left and t: 2 × left − 1 products and t
 --     Makes, Answers       what a pass leaves; what each case of an answer says
 --     Passes               what a call answers and leaves: the meaning's `pass` of what was held
 --     Narrowed, narrowed, narrowed-from      terms, recurrence and f(A)r in the slice's part from r on; F stays
@@ -17,7 +17,7 @@ use native.Mathlib.Nat.{zero-add, add-zero}
 use native.Mathlib.Omega.{arith}
 use lib.ListN.{length, take, getD}
 use Rattle.meaning.specs.List.{at}
-use Rattle.meaning.specs.Matrix.{Matrix, size, apply}
+use Rattle.meaning.specs.Matrix.{Matrix, size, apply, multiplied}
 use Rattle.meaning.specs.Recurrence.{degree, generator}
 use Rattle.meaning.specs.Solver.{Pass, Run, projections, terms, multiply, passTerms, pass}
 use Rattle.residue.specs.Prime.{Prime}
@@ -41,13 +41,14 @@ held n W D qs = record { residual = part (residualAt n) n W; factor = part 0 (D 
 abbrev pub passOf : CodePass → Pass
 passOf q = record { left = q .left; degree = q .degree; applications = q .applications }
 
-abbrev pub passed : ℕ → ℕ → CodePass
-passed left t = record { left = left; degree = t; applications = 2 * left - 1 + t }
+abbrev pub passed : Matrix → ℕ → ℕ → CodePass
+passed A left t = record { left = left; degree = t; applications = 2 * left - 1 + t; multiplied = multiplied (2 * left - 1 + t) A }
 
--- the meaning's `pass` of what was held
+-- the meaning's `pass` of what was held; its products are counted by entry too
 pub record Makes (p : ℕ) (A : Matrix) (u : List ℕ) (D : ℕ) (W : List ℕ) (q : CodePass) (W′ : List ℕ) : Type 0 where
   pub same-length : length W′ ≡ length W
   pub run : (qs : List Pass) → held (size A) W′ (D + q .degree) (qs ++ (passOf q ∷ [])) ≡ pass p A u (held (size A) W D qs)
+  pub by-entry : q .multiplied ≡ multiplied (q .applications) A
 
 -- "a refusal returns its number and no other answer .. and every lent slice keeps its contents"
 abbrev pub Answers : ℕ → Matrix → List ℕ → ℕ → List ℕ → ℕ → Passed → List ℕ → Type 0
@@ -153,7 +154,7 @@ narrowed-factors {p} {A} {u} {W} {W₁} D t prime sized below F a f m e inside f
 
 pub made : {p : ℕ} {A : Matrix} {u W W₁ W₂ : List ℕ} (D t : ℕ) → D < size A → 16 * size A + 16 ≤ length W → Narrowed p A (size A - D) u W W₁ t
     → (f : ℕ) → f ≡ generatorAt (size A) (size A - D) → Multiplied p W₁ D f t W₂ → (qs : List Pass)
-    → held (size A) W₂ (D + t) (qs ++ (passOf (passed (size A - D) t) ∷ [])) ≡ pass p A u (held (size A) W D qs)
+    → held (size A) W₂ (D + t) (qs ++ (passOf (passed A (size A - D) t) ∷ [])) ≡ pass p A u (held (size A) W D qs)
 unfolding pass passTerms
 made {p} {A} {u} {W} {W₁} {W₂} D t below room a f e m qs =
     same-held residual factor (ap (λ k. D + k) (a .answer))
@@ -180,13 +181,14 @@ made {p} {A} {u} {W} {W₁} {W₂} D t below room a f e m qs =
         (part-at W₁ f (t + 1) (generatorAt n (n - D)) (t + 1) e refl ∙ a .f)
 
 -- the record that was counted together
-pub makes-passed : {p : ℕ} {A : Matrix} {u W W′ : List ℕ} {D left : ℕ} {q : CodePass} → q ≡ passed left (q .degree) → length W′ ≡ length W
-    → ((qs : List Pass) → held (size A) W′ (D + q .degree) (qs ++ (passOf (passed left (q .degree)) ∷ [])) ≡ pass p A u (held (size A) W D qs))
+pub makes-passed : {p : ℕ} {A : Matrix} {u W W′ : List ℕ} {D left : ℕ} {q : CodePass} → q ≡ passed A left (q .degree) → length W′ ≡ length W
+    → ((qs : List Pass) → held (size A) W′ (D + q .degree) (qs ++ (passOf (passed A left (q .degree)) ∷ [])) ≡ pass p A u (held (size A) W D qs))
     → Makes p A u D W q W′
 makes-passed {p} {A} {u} {W} {W′} {D} {left} {q} e long run =
     record {
       same-length = long;
       run = λ qs. ap {B = Run} (λ k. held (size A) W′ (D + q .degree) (qs ++ (passOf k ∷ []))) e ∙ run qs;
+      by-entry = ap (λ (k : CodePass). k .multiplied) e ∙ ap (λ (k : CodePass). multiplied (k .applications) A) (sym e);
     }
 
 -- the modulus by its other name

@@ -16,10 +16,13 @@ ghost use Rattle.laws.specs.Written.{Written};
 ghost use Rattle.laws.specs.Part.{part};
 ghost use Rattle.wiedemann.specs.Region.{Regions};
 ghost use Rattle.checks.specs.Answers.{Writes};
+ghost use Rattle.checks.specs.Products.{productsWith};
+use checks::Products;
 use checks::Writing;
 use checks::apply_refusal;
 use checks::product_refusal;
 use checks::wide;
+use checks::with_row;
 use field::Field;
 use modular::modulus::Modulus;
 use modular::multiplier::Multiplier;
@@ -100,8 +103,8 @@ pub(crate) fn row(
     ones(most, middle, to, columns, values, v)
 }
 
-// Horner's step: c × x plus the product with v, into out. It is the product if c is 0. A row's end is the next row's start. The answer is how
-// many products with A it made: one.
+// Horner's step: c × x plus the product with v, into out. It is the product if c is 0. A row's end is the next row's start. The answer is one
+// product, with the entries that it multiplied, by the rows' bounds.
 pub(crate) fn step(
     m: Modulus,
     c: u32,
@@ -111,27 +114,32 @@ pub(crate) fn step(
     values: &[u32],
     v: &[u32],
     out: &mut [u32],
-) -> usize
+) -> Products
     requires { ⌜ Valid (m .p) (matrix (now starts) (now columns) (now values)) ⌝ }
     requires { ⌜ Modular m × (length (now out) ≡ length (now starts) - 1) × (length (now x) ≡ length (now starts) - 1)
         × Vector (m .p) (length (now starts) - 1) (now v) ⌝ }
-    ensures { λ made. ⌜ (made ≡ 1) × (now (out .exit)
+    ensures { λ done. ⌜ (done ≡ productsWith 1 (matrix (now (starts .entry)) (now (columns .entry)) (now (values .entry)))) × (now (out .exit)
         ≡ step (m .p) (matrix (now (starts .entry)) (now (columns .entry)) (now (values .entry))) c (now (x .entry)) (now (v .entry))) ⌝ }
 {
     let rows = starts.len() - 1;
+    let mut multiplied = 0;
     let mut from = wide(starts[0]);
     let mut i = 0;
     while i < rows {
         let to = wide(starts[i + 1]);
         out[i] = row(times(c, x[i]), from, to, columns, values, v).residue(m);
+        multiplied = with_row(multiplied, from, to);
         from = to;
         i += 1;
     }
-    1
+    Products {
+        made: 1,
+        multiplied,
+    }
 }
 
 // Horner's step within one slice: c × the part from `origin` on plus the product with the part from `source` on, into the part from `target` on.
-// The answer is how many products it made.
+// The answer is that one product.
 pub(crate) fn step_within(
     m: Modulus,
     c: u32,
@@ -142,26 +150,32 @@ pub(crate) fn step_within(
     origin: usize,
     source: usize,
     target: usize,
-) -> usize
+) -> Products
     requires { ⌜ Valid (m .p) (matrix (now starts) (now columns) (now values)) ⌝ }
     requires { ⌜ Modular m × Regions (m .p) (length (now starts) - 1) origin source target (now work) ⌝ }
-    ensures { λ made. ⌜ (made ≡ 1) × Written (now (work .entry)) target (length (now (starts .entry)) - 1)
+    ensures { λ done. ⌜ (done ≡ productsWith 1 (matrix (now (starts .entry)) (now (columns .entry)) (now (values .entry))))
+        × Written (now (work .entry)) target (length (now (starts .entry)) - 1)
         (stepAt (m .p) (matrix (now (starts .entry)) (now (columns .entry)) (now (values .entry))) c
         (part origin (length (now (starts .entry)) - 1) (now (work .entry))) (part source (length (now (starts .entry)) - 1) (now (work .entry))))
         (now (work .exit)) ⌝ }
 {
     let n = starts.len() - 1;
     let end = source + n;
+    let mut multiplied = 0;
     let mut from = wide(starts[0]);
     let mut i = 0;
     while i < n {
         let to = wide(starts[i + 1]);
         let start = times(c, work[origin + i]);
         work[target + i] = row(start, from, to, columns, values, &work[source..end]).residue(m);
+        multiplied = with_row(multiplied, from, to);
         from = to;
         i += 1;
     }
-    1
+    Products {
+        made: 1,
+        multiplied,
+    }
 }
 
 // c × v into out.
@@ -178,7 +192,7 @@ fn multiple(m: Modulus, c: u32, v: &[u32], out: &mut [u32])
 }
 
 // g(A)v into out by Horner's rule, by turns into work and into out, which has what is made of the even coefficients. Nothing is copied. The
-// answer is how many products it made: one for each coefficient after the first.
+// answer is the products that it made: one for each coefficient after the first.
 pub(crate) fn horner(
     m: Modulus,
     starts: &[u32],
@@ -188,14 +202,17 @@ pub(crate) fn horner(
     v: &[u32],
     out: &mut [u32],
     work: &mut [u32],
-) -> usize
+) -> Products
     requires { ⌜ Valid (m .p) (matrix (now starts) (now columns) (now values)) ⌝ }
     requires { ⌜ Modular m × (length (now out) ≡ length (now starts) - 1) × (length (now work) ≡ length (now starts) - 1)
-        × Vector (m .p) (length (now starts) - 1) (now v) × (0 < length (now g)) × Vector (m .p) (length (now g)) (now g) ⌝ }
-    ensures { λ made. ⌜ (made ≡ length (now (g .entry)) - 1) × (now (out .exit)
-        ≡ apply (m .p) (matrix (now (starts .entry)) (now (columns .entry)) (now (values .entry))) (now (g .entry)) (now (v .entry))) ⌝ }
+        × Vector (m .p) (length (now starts) - 1) (now v) × (0 < length (now g)) × (length (now g) ≤ 4097) × Vector (m .p) (length (now g)) (now g) ⌝ }
+    ensures { λ done. ⌜ (done ≡ productsWith (length (now (g .entry)) - 1) (matrix (now (starts .entry)) (now (columns .entry)) (now (values .entry))))
+        × (now (out .exit) ≡ apply (m .p) (matrix (now (starts .entry)) (now (columns .entry)) (now (values .entry))) (now (g .entry)) (now (v .entry))) ⌝ }
 {
-    let mut made = 0;
+    let mut done = Products {
+        made: 0,
+        multiplied: 0,
+    };
     let mut i = g.len() - 1;
     if i % 2 == 0 {
         multiple(m, g[i], v, out);
@@ -205,12 +222,12 @@ pub(crate) fn horner(
     while 0 < i {
         i -= 1;
         if i % 2 == 0 {
-            made += step(m, g[i], v, starts, columns, values, work, out);
+            done = done.and(step(m, g[i], v, starts, columns, values, work, out));
         } else {
-            made += step(m, g[i], v, starts, columns, values, out, work);
+            done = done.and(step(m, g[i], v, starts, columns, values, out, work));
         }
     }
-    made
+    done
 }
 
 // Av into out.
@@ -223,7 +240,8 @@ pub fn product(
     out: &mut [u32],
 ) -> Writing
     ensures { λ r. ⌜ Writes r
-        (productRefusal (field .p) (matrix (now (starts .entry)) (now (columns .entry)) (now (values .entry))) (now (v .entry)) (now (out .entry))) 1 ⌝ }
+        (productRefusal (field .p) (matrix (now (starts .entry)) (now (columns .entry)) (now (values .entry))) (now (v .entry)) (now (out .entry))) 1
+        (matrix (now (starts .entry)) (now (columns .entry)) (now (values .entry))) ⌝ }
     ensures { λ r. ⌜ now (out .exit)
         ≡ productAfter product (field .p) (matrix (now (starts .entry)) (now (columns .entry)) (now (values .entry))) (now (v .entry)) (now (out .entry)) ⌝ }
 {
@@ -232,8 +250,8 @@ pub fn product(
     if number != 0 {
         return Writing::Refused(number);
     }
-    let made = step(Modulus::of(p), 0, v, starts, columns, values, v, out);
-    Writing::Done(made as u64)
+    let done = step(Modulus::of(p), 0, v, starts, columns, values, v, out);
+    Writing::Done(done)
 }
 
 // g(A)v into out.
@@ -248,7 +266,8 @@ pub fn apply(
     work: &mut [u32],
 ) -> Writing
     ensures { λ r. ⌜ Writes r (applyRefusal (field .p) (matrix (now (starts .entry)) (now (columns .entry)) (now (values .entry)))
-        (now (g .entry)) (now (v .entry)) (now (out .entry)) (now (work .entry))) (length (now (g .entry)) - 1) ⌝ }
+        (now (g .entry)) (now (v .entry)) (now (out .entry)) (now (work .entry))) (length (now (g .entry)) - 1)
+        (matrix (now (starts .entry)) (now (columns .entry)) (now (values .entry))) ⌝ }
     ensures { λ r. ⌜ now (out .exit) ≡ applyAfter (field .p) (matrix (now (starts .entry)) (now (columns .entry)) (now (values .entry)))
         (now (g .entry)) (now (v .entry)) (now (out .entry)) (now (work .entry)) ⌝ }
     ensures { λ r. ⌜ (applyRefusal (field .p) (matrix (now (starts .entry)) (now (columns .entry)) (now (values .entry)))
@@ -261,7 +280,7 @@ pub fn apply(
     }
     let front: usize = 0;
     let n = v.len();
-    let made = horner(
+    let done = horner(
         Modulus::of(p),
         starts,
         columns,
@@ -271,5 +290,5 @@ pub fn apply(
         out,
         &mut work[front..n],
     );
-    Writing::Done(made as u64)
+    Writing::Done(done)
 }

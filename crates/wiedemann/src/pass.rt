@@ -15,9 +15,11 @@ ghost use Rattle.wiedemann.specs.Projection.{Words};
 ghost use Rattle.wiedemann.specs.Turns.{regionAt, Turning, Advanced, Sequenced, Leading, Applied, Generated, Shortened};
 ghost use Rattle.wiedemann.specs.Pass.{generatorAt, passed, Makes, Passes};
 ghost use Rattle.checks.specs.Pass.{State};
+ghost use Rattle.checks.specs.Products.{Few, added, productsWith};
 use crate::matrix::step_within;
 use crate::projection::Projection;
 use crate::projection::projected;
+use checks::Products;
 use checks::pass_refusal;
 use checks::residual_at;
 use field::Field;
@@ -39,8 +41,8 @@ fn region(n: usize, i: usize) -> usize
     if i % 2 == 1 { n } else { 2 * n }
 }
 
-// Horner's step after i products: c × r plus A times the iterate, into the next region. r and the iterates are lent to it. The answer is how many
-// products there are then.
+// Horner's step after some products: c × r plus A times the iterate, into the next region. r and the iterates are lent to it. The answer is the
+// products that there are then.
 fn advance(
     m: Modulus,
     c: u32,
@@ -48,20 +50,21 @@ fn advance(
     columns: &[u32],
     values: &[u32],
     area: &mut [u32],
-    i: usize,
-) -> usize
+    done: Products,
+) -> Products
     requires { ⌜ Valid (m .p) (matrix (now starts) (now columns) (now values)) ⌝ }
-    requires { ⌜ Modular m × Turning (m .p) (length (now starts) - 1) (regionAt (length (now starts) - 1) i) (now area) × (i ≤ 16384) ⌝ }
-    ensures { λ k. ⌜ (k ≡ i + 1) × Advanced (m .p) (matrix (now (starts .entry)) (now (columns .entry)) (now (values .entry))) c
-        (now (area .entry)) (regionAt (length (now (starts .entry)) - 1) i)
-        (now (area .exit)) (regionAt (length (now (starts .entry)) - 1) k) ⌝ }
+    requires { ⌜ Modular m × Turning (m .p) (length (now starts) - 1) (regionAt (length (now starts) - 1) (done .made)) (now area) × Few done ⌝ }
+    ensures { λ r. ⌜ (r ≡ added done (productsWith 1 (matrix (now (starts .entry)) (now (columns .entry)) (now (values .entry)))))
+        × Advanced (m .p) (matrix (now (starts .entry)) (now (columns .entry)) (now (values .entry))) c
+        (now (area .entry)) (regionAt (length (now (starts .entry)) - 1) (done .made))
+        (now (area .exit)) (regionAt (length (now (starts .entry)) - 1) (r .made)) ⌝ }
 {
     let n = starts.len() - 1;
-    let from = region(n, i);
-    let to = region(n, i + 1);
+    let from = region(n, done.made);
+    let to = region(n, done.made + 1);
     let r: usize = 0;
     let end = 3 * n;
-    let made = step_within(
+    let more = step_within(
         m,
         c,
         starts,
@@ -72,7 +75,7 @@ fn advance(
         from,
         to,
     );
-    i + made
+    done.and(more)
 }
 
 // Term i of the 2 × left: the projection's dot product with the iterate Aⁱr.
@@ -91,7 +94,7 @@ fn term(m: Modulus, words: &[u32], u: Projection, n: usize, area: &mut [u32], i:
     put(&mut area[first..end], i, value);
 }
 
-// The 2 × left terms u·r, u·Ar, u·A²r, .. where the recurrence begins; the answer is how many products they took.
+// The 2 × left terms u·r, u·Ar, u·A²r, .. where the recurrence begins; the answer is the products that they took.
 fn terms(
     m: Modulus,
     starts: &[u32],
@@ -101,23 +104,27 @@ fn terms(
     u: Projection,
     area: &mut [u32],
     left: usize,
-) -> usize
+) -> Products
     requires { ⌜ Valid (m .p) (matrix (now starts) (now columns) (now values)) ⌝ }
     requires { ⌜ Modular m × (0 < left) × (left ≤ 4096) × Words (length (now starts) - 1) (u .vectors) (now words) ⌝ }
     requires { ⌜ (3 * (length (now starts) - 1) + 2 * left ≤ length (now area))
         × Vector (m .p) (length (now starts) - 1) (part 0 (length (now starts) - 1) (now area)) ⌝ }
-    ensures { λ made. ⌜ (made ≡ 2 * left - 1) × Sequenced (m .p) (matrix (now (starts .entry)) (now (columns .entry)) (now (values .entry))) left
+    ensures { λ done. ⌜ (done ≡ productsWith (2 * left - 1) (matrix (now (starts .entry)) (now (columns .entry)) (now (values .entry))))
+        × Sequenced (m .p) (matrix (now (starts .entry)) (now (columns .entry)) (now (values .entry))) left
         (getD (projections (m .p) (length (now (starts .entry)) - 1) (now (words .entry))) (u .index) [])
         (now (area .entry)) (now (area .exit)) ⌝ }
 {
     let n = starts.len() - 1;
-    let mut i = 0;
-    term(m, words, u, n, area, i, left);
-    while i + 1 < 2 * left {
-        i = advance(m, 0, starts, columns, values, area, i);
-        term(m, words, u, n, area, i, left);
+    let mut done = Products {
+        made: 0,
+        multiplied: 0,
+    };
+    term(m, words, u, n, area, done.made, left);
+    while done.made + 1 < 2 * left {
+        done = advance(m, 0, starts, columns, values, area, done);
+        term(m, words, u, n, area, done.made, left);
     }
-    i
+    done
 }
 
 // The degree of the shortest recurrence of the `count` terms from `from` on; its generator stands behind them.
@@ -134,7 +141,7 @@ fn recurrence_of_terms(m: Modulus, area: &mut [u32], from: usize, count: usize) 
     }
 }
 
-// r becomes f(A)r by Horner's rule, for the monic f of degree t at `f`; the answer is how many products that took.
+// r becomes f(A)r by Horner's rule, for the monic f of degree t at `f`; the answer is the products that this took.
 fn apply_within(
     m: Modulus,
     starts: &[u32],
@@ -143,31 +150,36 @@ fn apply_within(
     area: &mut [u32],
     f: usize,
     t: usize,
-) -> usize
+) -> Products
     requires { ⌜ Valid (m .p) (matrix (now starts) (now columns) (now values)) ⌝ }
     requires { ⌜ Modular m × (t ≤ 8192) × Leading (m .p) (length (now starts) - 1) (now area) f t ⌝ }
-    ensures { λ made. ⌜ (made ≡ t) × Applied (m .p) (matrix (now (starts .entry)) (now (columns .entry)) (now (values .entry)))
+    ensures { λ done. ⌜ (done ≡ productsWith t (matrix (now (starts .entry)) (now (columns .entry)) (now (values .entry))))
+        × Applied (m .p) (matrix (now (starts .entry)) (now (columns .entry)) (now (values .entry)))
         (now (area .entry)) f t (now (area .exit)) ⌝ }
 {
-    let mut made = 0;
+    let mut done = Products {
+        made: 0,
+        multiplied: 0,
+    };
     let mut i = t;
     while 0 < i {
         i -= 1;
         let c = area[f + i];
-        made = advance(m, c, starts, columns, values, area, made);
+        done = advance(m, c, starts, columns, values, area, done);
     }
     let n = starts.len() - 1;
     let r: usize = 0;
     let end = 3 * n;
-    copy_within(&mut area[r..end], region(n, made), r, n);
-    made
+    copy_within(&mut area[r..end], region(n, done.made), r, n);
+    done
 }
 
-// A pass: left, its degree t, its applications.
+// A pass: left, its degree t, its applications and the entries that these multiplied.
 pub struct Pass {
     pub left: usize,
     pub degree: usize,
     pub applications: u64,
+    pub multiplied: u64,
 }
 
 // The terms with the projection, their generator f, which stands behind them, and f(A)r in r's place. Every product that was made is counted.
@@ -185,19 +197,21 @@ fn take_factor(
     requires { ⌜ Modular m × (0 < left) × (left ≤ 4096) × Words (length (now starts) - 1) (u .vectors) (now words) ⌝ }
     requires { ⌜ (3 * (length (now starts) - 1) + (8 * left + 8) ≤ length (now area))
         × Vector (m .p) (length (now starts) - 1) (part 0 (length (now starts) - 1) (now area)) ⌝ }
-    ensures { λ q. ⌜ (q ≡ passed left (q .degree))
+    ensures { λ q. ⌜ (q ≡ passed (matrix (now (starts .entry)) (now (columns .entry)) (now (values .entry))) left (q .degree))
         × Shortened (m .p) (matrix (now (starts .entry)) (now (columns .entry)) (now (values .entry))) left
         (getD (projections (m .p) (length (now (starts .entry)) - 1) (now (words .entry))) (u .index) [])
         (now (area .entry)) (now (area .exit)) (q .degree) ⌝ }
 {
     let n = starts.len() - 1;
-    let made = terms(m, starts, columns, values, words, u, area, left);
+    let first = terms(m, starts, columns, values, words, u, area, left);
     let t = recurrence_of_terms(m, area, 3 * n, 2 * left);
     let more = apply_within(m, starts, columns, values, area, 3 * n + (2 * left + 2), t);
+    let done = first.and(more);
     Pass {
         left,
         degree: t,
-        applications: (made + more) as u64,
+        applications: done.made as u64,
+        multiplied: done.multiplied,
     }
 }
 

@@ -13,8 +13,8 @@ use Rattle.solver.proofs.apply_to_b.Tie as tie
 apply-requires : tie.Need-apply-requires
 apply-requires c κs = search needs
 
-enum-known-made : tie.Need-enum-known-made
-enum-known-made c = search needs
+enum-known-done : tie.Need-enum-known-done
+enum-known-done c = search needs
 
 enum-told : tie.Need-enum-told
 enum-told c = search needs
@@ -31,7 +31,7 @@ returns c =
     let A = matrix (now (a .starts)) (now (a .columns)) (now (a .values)) in
     let number = applyRefusal (a .field .p) A (now (a .g)) (now (a .b)) (now (a .vector)) (now (a .work)) in
     let said = c .before .before .before .before .before .before .before .apply .ensures in (
-      subst (λ x. Writes x number (length (now (a .g)) - 1)) (c .before .made .given .1) (said .0) .1,
+      subst (λ x. Writes x number (length (now (a .g)) - 1) A) (c .before .done .given .1) (said .0) .1,
       said .1 .0 ∙ unlessRefused-none number (apply (a .field .p) A (now (a .g)) (now (a .b))) (now (a .vector)) (c .before .before .before .before .before .before .before .before .before .before .before .before .before .before .before .before .before .pre),
     )
 
@@ -46,7 +46,7 @@ returns-2 c =
     let a = c .before .before .before .before .before .before .before .before .before .before .before .before .before .before .before .before .args in
     let A = matrix (now (a .starts)) (now (a .columns)) (now (a .values)) in
     let number = applyRefusal (a .field .p) A (now (a .g)) (now (a .b)) (now (a .vector)) (now (a .work)) in
-    let refused = subst (λ x. Writes x number (length (now (a .g)) - 1)) (c .enum-told .given .1) (c .before .before .before .before .before .before .apply .ensures .0) in
+    let refused = subst (λ x. Writes x number (length (now (a .g)) - 1) A) (c .enum-told .given .1) (c .before .before .before .before .before .before .apply .ensures .0) in
     absurd (refused .1 (sym (refused .0) ∙ c .before .before .before .before .before .before .before .before .before .before .before .before .before .before .before .before .pre))
 
 pub apply-to-b-spec : {M : Type 1} → statement M
@@ -54,7 +54,7 @@ apply-to-b-spec =
     tie.close
     (tie.spec
     apply-requires
-    enum-known-made
+    enum-known-done
     enum-told
     same-length
     same-length-2

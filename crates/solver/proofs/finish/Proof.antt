@@ -1,9 +1,11 @@
 use Rattle.solver.specs.declared.Counts.{Counts}
-use Rattle.solver.specs.Verdict.{closing, divisor, constant, coefficients, taken-in}
+use Rattle.solver.specs.Verdict.{closing, closing-none, divisor, constant, coefficients, taken-in}
 use Rattle.wiedemann.specs.Horner.{vector-apply}
 use Rattle.laws.specs.Lent.{part-at}
 use Rattle.laws.specs.Part.{part, length-part}
 use Rattle.bridge.specs.ThirdCondition.{verdict-zero, verdict-singular, verdict-solved}
+use Rattle.checks.specs.declared.Products.{Products}
+use Rattle.checks.specs.Products.{productsWith, products-few}
 use Rattle.checks.specs.Valid.{Vector}
 use Rattle.meaning.specs.Field.{minus, times, inverse}
 use Rattle.meaning.specs.List.{at, table, padded}
@@ -38,7 +40,7 @@ factor c =
 image : (c : tie.After-apply-to-b)
     → let a = c .before .before .before .before .before .before .before .before .before .before .before .before .before .before .before .before .before .before .before .args in
     let A = matrix (now (a .starts)) (now (a .columns)) (now (a .values)) in
-    (c .apply-to-b .result ≡ a .c .degree - 1)
+    (c .apply-to-b .result ≡ productsWith (a .c .degree - 1) A)
     × (c .apply-to-b .last .1 .1 .1 .1 .1 .1 .0 ≡ apply (a .field .p) A (drop 1 (part 0 (a .c .degree + 1) (now (a .work)))) (now (a .b)))
 image c =
     let a = c .before .before .before .before .before .before .before .before .before .before .before .before .before .before .before .before .before .before .before .args in
@@ -48,8 +50,10 @@ image c =
     let P = c .before .before .before .before .before .before .before .before .write-padded .last .1 .0 in
     let written = factor (c .before .before .before .before .before .before .before .before) in
     let G = coefficients (pre .0) (pre .1 .0) P written in
-    let same : part 1 (d + 1 - 1) P ≡ drop 1 (part 0 (d + 1) (now (a .work))) = part-at P 1 (d + 1 - 1) 1 d refl (omega arith) ∙ G in (
-      c .apply-to-b .ensures .0 ∙ ap (λ g. length g - 1) same ∙ omega (arith, length-drop 1 (part 0 (d + 1) (now (a .work))), length-part 0 (d + 1) (now (a .work)) (omega (arith, pre .1 .0 .found, pre .1 .0 .room))),
+    let same : part 1 (d + 1 - 1) P ≡ drop 1 (part 0 (d + 1) (now (a .work))) = part-at P 1 (d + 1 - 1) 1 d refl (omega arith) ∙ G in
+    let fewer : length (drop 1 (part 0 (d + 1) (now (a .work)))) - 1 ≡ d - 1 =
+    omega (arith, length-drop 1 (part 0 (d + 1) (now (a .work))), length-part 0 (d + 1) (now (a .work)) (omega (arith, pre .1 .0 .found, pre .1 .0 .room))) in (
+      c .apply-to-b .ensures .0 ∙ ap {B = Products} (λ k. productsWith k A) (ap (λ g. length g - 1) same ∙ fewer),
       c .apply-to-b .ensures .1 ∙ ap (λ g. apply (a .field .p) A g (now (a .b))) same,
     )
 
@@ -86,9 +90,6 @@ part-write-padded-end-2 c = search needs
 write-padded-requires-2 : tie.Need-write-padded-requires-2
 write-padded-requires-2 c κs = search needs
 
-closed-requires : tie.Need-closed-requires
-closed-requires c κs = (c .before .before .before .before .before .before .before .before .before .before .before .before .before .before .before .before .before .before .before .pre .1 .0 .few, omega arith)
-
 same-length : tie.Need-same-length
 same-length c = search needs
 
@@ -100,19 +101,19 @@ same-length-3 c = search needs
 
 returns : tie.Need-returns
 returns c =
-    let a = c .before .before .before .before .before .before .before .before .before .before .before .before .before .before .before .before .before .before .before .before .args in
-    let pre = c .before .before .before .before .before .before .before .before .before .before .before .before .before .before .before .before .before .before .before .before .pre in
+    let a = c .before .before .before .before .before .before .before .before .before .before .before .before .before .before .before .before .before .before .before .args in
+    let pre = c .before .before .before .before .before .before .before .before .before .before .before .before .before .before .before .before .before .before .before .pre in
     let A = matrix (now (a .starts)) (now (a .columns)) (now (a .values)) in
     let d = a .c .degree in
     let F = part 0 (d + 1) (now (a .work)) in
-    let zero = c .before .before .before .before .before .before .if1 .taken in
+    let zero = c .before .before .before .before .before .if1 .taken in
     let said = verdict-zero (a .field .p) A (now (a .b)) F d zero in
     let none : take (length (now (a .b)) - length (now (a .b))) (drop (length (now (a .b))) (now (a .b))) ≡ [] =
     ap (λ k. take k (drop (length (now (a .b))) (now (a .b)))) (sub-self (length (now (a .b)))) in
     record {
-      ends = (ap (λ (y : Kind × List ℕ). y .0) said, c .closed .ensures ∙ ap {B = Counts} (closing (a .c)) (omega (arith, zero)));
-      vector-is = c .before .before .before .write-padded2 .ensures ∙ ap₂ padded (pre .1 .1 .0) none ∙ sym (ap (λ (y : Kind × List ℕ). y .1) said);
-      polynomial-is = factor (c .before .before .before .before .before .before .before .before .before);
+      ends = (ap (λ (y : Kind × List ℕ). y .0) said, closing-none A (a .c) zero);
+      vector-is = c .before .before .write-padded2 .ensures ∙ ap₂ padded (pre .1 .1 .0) none ∙ sym (ap (λ (y : Kind × List ℕ). y .1) said);
+      polynomial-is = factor (c .before .before .before .before .before .before .before .before);
     }
 
 mul-apply-to-b : tie.Need-mul-apply-to-b
@@ -145,10 +146,10 @@ mul-constant c = search needs
 slice-read-constant : tie.Need-slice-read-constant
 slice-read-constant c = search needs
 
-closed-requires-2 : tie.Need-closed-requires-2
-closed-requires-2 c κs =
+closed-requires : tie.Need-closed-requires
+closed-requires c κs =
     let pre = c .before .before .before .before .before .before .before .before .before .before .before .before .before .before .before .before .before .before .before .before .before .before .before .before .before .pre in
-    (omega (arith, pre .1 .0 .few, pre .0 .accepted .size-b, pre .0 .valid .sized), omega (arith, image (c .before .before .before .before .before .before) .0, pre .1 .0 .found, pre .0 .valid .sized))
+    (pre .1 .0 .few, products-few (pre .0 .valid) (omega (arith, pre .1 .0 .found, pre .0 .valid .sized)) (image (c .before .before .before .before .before .before) .0))
 
 same-length-4 : tie.Need-same-length-4
 same-length-4 c = search needs
@@ -170,7 +171,7 @@ returns-2 c =
     let done = image (c .before .before .before .before .before .before .before) in
     let said = verdict-singular (a .field .p) A (now (a .b)) F (a .c .degree) (c .before .before .before .before .before .before .before .before .before .before .before .before .if1 .left) (sym (constant (pre .0) (pre .1 .0) P written) ∙ c .before .if2 .taken) in
     record {
-      ends = (ap (λ (y : Kind × List ℕ). y .0) said, c .closed2 .ensures ∙ ap {B = Counts} (closing (a .c)) (done .0));
+      ends = (ap (λ (y : Kind × List ℕ). y .0) said, c .closed .ensures ∙ ap {B = Counts} (closing (a .c)) (done .0));
       vector-is = done .1 ∙ sym (ap (λ (y : Kind × List ℕ). y .1) said);
       polynomial-is = written;
     }
@@ -191,10 +192,10 @@ divide-requires c κs =
       subst (λ v. Vector (a .field .p) (length v) v) (sym (image (c .before .before .before .before .before .before .before .before) .1)) (whole (vector-apply (a .field .p) A (drop 1 F) (now (a .b)) (pre .0 .valid .positive))),
     )
 
-closed-requires-3 : tie.Need-closed-requires-3
-closed-requires-3 c κs =
+closed-requires-2 : tie.Need-closed-requires-2
+closed-requires-2 c κs =
     let pre = c .before .before .before .before .before .before .before .before .before .before .before .before .before .before .before .before .before .before .before .before .before .before .before .before .before .before .before .before .before .before .pre in
-    (pre .1 .0 .few, omega (arith, image (c .before .before .before .before .before .before .before .before .before .before .before) .0, pre .1 .0 .found, pre .0 .valid .sized))
+    (pre .1 .0 .few, products-few (pre .0 .valid) (omega (arith, pre .1 .0 .found, pre .0 .valid .sized)) (image (c .before .before .before .before .before .before .before .before .before .before .before) .0))
 
 same-length-7 : tie.Need-same-length-7
 same-length-7 c = search needs
@@ -218,7 +219,7 @@ returns-3 c =
     let said = verdict-solved (a .field .p) A (now (a .b)) F (a .c .degree) (c .before .before .before .before .before .before .before .before .before .before .before .before .before .before .before .before .before .if1 .left) (λ z. c .before .before .before .before .before .before .if2 .left (first ∙ z)) in
     let w = apply (a .field .p) A (drop 1 F) (now (a .b)) in
     record {
-      ends = (ap (λ (y : Kind × List ℕ). y .0) said, c .closed3 .ensures ∙ ap {B = Counts} (closing (a .c)) (done .0));
+      ends = (ap (λ (y : Kind × List ℕ). y .0) said, c .closed2 .ensures ∙ ap {B = Counts} (closing (a .c)) (done .0));
       vector-is =
           c .before .before .before .divide .ensures
           ∙ ap₂ (λ v i. table (length v) (λ k. times (a .field .p) (minus (a .field .p) 0 (at v k)) i)) (done .1) (c .before .before .before .before .before .inverse-modulo .ensures ∙ ap (inverse (a .field .p)) first)
@@ -242,7 +243,6 @@ finish-spec =
     part-write-padded-start-2
     part-write-padded-end-2
     write-padded-requires-2
-    closed-requires
     same-length
     same-length-2
     same-length-3
@@ -254,14 +254,14 @@ finish-spec =
     apply-to-b-requires
     mul-constant
     slice-read-constant
-    closed-requires-2
+    closed-requires
     same-length-4
     same-length-5
     same-length-6
     returns-2
     inverse-modulo-requires
     divide-requires
-    closed-requires-3
+    closed-requires-2
     same-length-7
     same-length-8
     same-length-9

@@ -61,7 +61,8 @@ returns-2 c =
     let a = c .before .before .before .before .before .before .before .before .before .before .before .before .before .before .before .before .before .before .before .before .before .before .before .before .before .before .before .before .before .before .before .args in
     let A = matrix (now (a .starts)) (now (a .columns)) (now (a .values)) in
     let passed = sym (c .before .before .before .before .before .before .before .before .before .before .before .before .before .before .before .before .before .before .solver-refusal .ensures) ∙ c .before .before .before .before .before .before .before .before .before .before .before .before .before .before .before .before .before .if1 .left in
-    taken (a .field .p) A (now (a .b)) (now (a .words)) (now (a .vector)) (now (a .polynomial)) (now (a .bill)) (now (a .work)) passed (closed (c .before .before .before .before .before .before .before .before .before .before .before .before .before .before .run .ensures) (c .before .before .before .before .before .before .finish .ensures))
+    let system = system-of (a .field .p) A (now (a .b)) (now (a .words)) (run-passed (a .field .p) A (now (a .b)) (now (a .words)) (now (a .vector)) (now (a .polynomial)) (now (a .work)) passed) in
+    taken (a .field .p) A (now (a .b)) (now (a .words)) (now (a .vector)) (now (a .polynomial)) (now (a .bill)) (now (a .work)) passed (closed system (c .before .before .before .before .before .before .before .before .before .before .before .before .before .before .run .ensures) (c .before .before .before .before .before .before .finish .ensures))
 
 pub solve-spec : {M : Type 1} → statement M
 solve-spec =

@@ -9,7 +9,7 @@ numbers-of-requires : tie.Need-numbers-of-requires
 numbers-of-requires c κs = search needs
 
 returns : tie.Need-returns
-returns c = c .numbers-of .ensures _ _ (c .before .is-null .ensures)
+returns c = c .numbers-of .ensures _ _ _ (c .before .is-null .ensures)
 
 pub filzeur-is-null-spec : {M : Type 1} → statement M
 filzeur-is-null-spec = tie.close (tie.spec is-null-requires numbers-of-requires returns)

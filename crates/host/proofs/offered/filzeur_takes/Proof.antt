@@ -9,7 +9,7 @@ numbers-of-requires : tie.Need-numbers-of-requires
 numbers-of-requires c κs = search needs
 
 returns : tie.Need-returns
-returns c = c .numbers-of .ensures _ _ (c .before .takes .ensures)
+returns c = c .numbers-of .ensures _ _ _ (c .before .takes .ensures)
 
 pub filzeur-takes-spec : {M : Type 1} → statement M
 filzeur-takes-spec = tie.close (tie.spec takes-requires numbers-of-requires returns)

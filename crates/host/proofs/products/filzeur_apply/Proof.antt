@@ -5,8 +5,8 @@ use Rattle.host.proofs.products.filzeur_apply.Tie as tie
 apply-requires : tie.Need-apply-requires
 apply-requires c κs = search needs
 
-number-of-requires : tie.Need-number-of-requires
-number-of-requires c κs = search needs
+numbers-of-requires : tie.Need-numbers-of-requires
+numbers-of-requires c κs = search needs
 
 same-length : tie.Need-same-length
 same-length c = search needs
@@ -15,8 +15,8 @@ same-length-2 : tie.Need-same-length-2
 same-length-2 c = search needs
 
 returns : tie.Need-returns
-returns c = (c .number-of .ensures _ _ (c .before .before .before .before .before .apply .ensures .0), c .before .before .before .before .before .apply .ensures .1)
+returns c = (c .numbers-of .ensures _ _ _ (c .before .before .before .before .before .apply .ensures .0), c .before .before .before .before .before .apply .ensures .1)
 
 pub filzeur-apply-spec : {M : Type 1} → statement M
 filzeur-apply-spec =
-    tie.close (tie.spec apply-requires number-of-requires same-length same-length-2 returns)
+    tie.close (tie.spec apply-requires numbers-of-requires same-length same-length-2 returns)

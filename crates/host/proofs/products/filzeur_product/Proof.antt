@@ -5,14 +5,14 @@ use Rattle.host.proofs.products.filzeur_product.Tie as tie
 product-requires : tie.Need-product-requires
 product-requires c κs = search needs
 
-number-of-requires : tie.Need-number-of-requires
-number-of-requires c κs = search needs
+numbers-of-requires : tie.Need-numbers-of-requires
+numbers-of-requires c κs = search needs
 
 same-length : tie.Need-same-length
 same-length c = search needs
 
 returns : tie.Need-returns
-returns c = (c .number-of .ensures _ _ (c .before .before .before .product .ensures .0), c .before .before .before .product .ensures .1)
+returns c = (c .numbers-of .ensures _ _ _ (c .before .before .before .product .ensures .0), c .before .before .before .product .ensures .1)
 
 pub filzeur-product-spec : {M : Type 1} → statement M
-filzeur-product-spec = tie.close (tie.spec product-requires number-of-requires same-length returns)
+filzeur-product-spec = tie.close (tie.spec product-requires numbers-of-requires same-length returns)

@@ -5,15 +5,15 @@ use Rattle.host.proofs.products.filzeur_transposed.Tie as tie
 transposed-requires : tie.Need-transposed-requires
 transposed-requires c κs = search needs
 
-number-of-requires : tie.Need-number-of-requires
-number-of-requires c κs = search needs
+numbers-of-requires : tie.Need-numbers-of-requires
+numbers-of-requires c κs = search needs
 
 same-length : tie.Need-same-length
 same-length c = search needs
 
 returns : tie.Need-returns
-returns c = (c .number-of .ensures _ _ (c .before .before .before .transposed .ensures .0), c .before .before .before .transposed .ensures .1)
+returns c = (c .numbers-of .ensures _ _ _ (c .before .before .before .transposed .ensures .0), c .before .before .before .transposed .ensures .1)
 
 pub filzeur-transposed-spec : {M : Type 1} → statement M
 filzeur-transposed-spec =
-    tie.close (tie.spec transposed-requires number-of-requires same-length returns)
+    tie.close (tie.spec transposed-requires numbers-of-requires same-length returns)

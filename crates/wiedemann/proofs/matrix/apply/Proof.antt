@@ -73,7 +73,7 @@ horner-requires c κs =
     let known =
     subst (λ p. Applicable p (matrix (now (at .starts)) (now (at .columns)) (now (at .values))) (now (at .g)) (now (at .v)) (now (at .out)) (now (at .work))) (sym (made .0)) (accepted (c .before .before .before)) in
     let lent = length-part 0 (n - 0) (now (at .work)) (omega (arith, known .vector .places, known .room)) ∙ sub-zero n ∙ known .vector .places in
-    (known .valid, (made .1, known .places, lent, known .vector, known .some, known .coefficients))
+    (known .valid, (made .1, known .places, lent, known .vector, known .some, omega (arith, known .few, known .valid .sized), known .coefficients))
 
 same-length-3 : tie.Need-same-length-3
 same-length-3 c = search needs

@@ -5,17 +5,19 @@ use native.Mathlib.Omega.{arith}
 use lib.ListN.{length, drop}
 use denote.Ref.{now}
 use Rattle.meaning.specs.Matrix.{matrix, apply}
+use Rattle.checks.specs.declared.Products.{Products}
+use Rattle.checks.specs.Products.{productsWith, added, products-none, products-next, products-few}
 use Rattle.wiedemann.specs.Horner.{Turn, turn-even, turn-odd, turn-work, turn-out, turn-to-even, turn-to-odd}
 use borrow.Author.Needs.{needs}
 use Rattle.wiedemann.proofs.matrix.horner.Statement.{statement}
 use Rattle.wiedemann.proofs.matrix.horner.Tie as tie
 
 abbrev Inv-loop : tie.InvT-loop
-Inv-loop m starts columns values g v out₀ work₀ made₀ i₀ out work made i =
-    (made + i ≡ length g - 1) × Turn (m .p) (matrix starts columns values) g v i out work
+Inv-loop m starts columns values g v out₀ work₀ done₀ i₀ out work done i =
+    (done .made + i ≡ length g - 1) × Turn (m .p) (matrix starts columns values) g v i out work × (done ≡ productsWith (done .made) (matrix starts columns values))
 
 abbrev μ-loop : tie.MeasureT-loop
-μ-loop m starts columns values g v out₀ work₀ made₀ i₀ out work made i = i
+μ-loop m starts columns values g v out₀ work₀ done₀ i₀ out work done i = i
 
 sub-i : tie.Need-sub-i Inv-loop μ-loop
 sub-i c = omega (arith, c .before .before .before .before .before .before .before .pre .1 .4)
@@ -30,7 +32,7 @@ multiple-requires : tie.Need-multiple-requires Inv-loop μ-loop
 multiple-requires c κs =
     let start = c .before .before .before .before .before .before .before .before .before .before in
     let pre = start .pre in
-    (pre .1 .5 .below (length (now (start .args .g)) - 1) (omega (arith, pre .1 .4)), pre .1 .0, pre .1 .1 ∙ sym (pre .1 .3 .places))
+    (pre .1 .6 .below (length (now (start .args .g)) - 1) (omega (arith, pre .1 .4)), pre .1 .0, pre .1 .1 ∙ sym (pre .1 .3 .places))
 
 mul-multiple-2 : tie.Need-mul-multiple-2 Inv-loop μ-loop
 mul-multiple-2 c = omega (arith, c .before .before .before .before .before .before .before .before .good)
@@ -42,7 +44,7 @@ multiple-requires-2 : tie.Need-multiple-requires-2 Inv-loop μ-loop
 multiple-requires-2 c κs =
     let start = c .before .before .before .before .before .before .before .before .before .before in
     let pre = start .pre in
-    (pre .1 .5 .below (length (now (start .args .g)) - 1) (omega (arith, pre .1 .4)), pre .1 .0, pre .1 .2 ∙ sym (pre .1 .3 .places))
+    (pre .1 .6 .below (length (now (start .args .g)) - 1) (omega (arith, pre .1 .4)), pre .1 .0, pre .1 .2 ∙ sym (pre .1 .3 .places))
 
 loop-holds : tie.Need-loop-holds Inv-loop μ-loop
 loop-holds c =
@@ -56,6 +58,7 @@ loop-holds c =
           (λ w. turn-even (a .m .p) A (now (a .g)) (now (a .v)) (pre .1 .3 .places) (pre .1 .4) (w .0 .taken) (ap length (w .7) ∙ pre .1 .2) (w .6 ∙ w .3 .ensures))
           (λ w. turn-odd (a .m .p) A (now (a .g)) (now (a .v)) (pre .1 .3 .places) (pre .1 .4) (w .0 .left) (ap length (w .6) ∙ pre .1 .1) (w .7 ∙ w .3 .ensures))
           (c .if1 .came),
+      products-none A,
     )
 
 sub-i-2 : tie.Need-sub-i-2 Inv-loop μ-loop
@@ -74,18 +77,27 @@ step-requires c κs =
     let loop = c .before .before .before .before .before .loop in
     (pre .0, (pre .1 .0, loop .inv .1 .out-places, pre .1 .3 .places, turn-work (pre .0) (loop .inv .1) (omega (arith, c .before .before .before .before .loop-test .taken)) (c .before .before .before .if2 .taken)))
 
-add-made : tie.Need-add-made Inv-loop μ-loop
-add-made c = omega (arith, c .before .before .before .before .before .before .before .before .loop .inv .0, c .before .before .step .ensures .0, c .before .before .before .before .before .before .before .before .before .before .before .before .before .before .before .before .before .good)
+and-requires : tie.Need-and-requires Inv-loop μ-loop
+and-requires c κs =
+    let pre = c .before .before .before .before .before .before .before .before .before .before .before .before .before .before .before .before .before .pre in
+    let loop = c .before .before .before .before .before .before .before .before .loop in
+    (products-few (pre .0) (omega (arith, loop .inv .0, pre .1 .5)) (loop .inv .2), products-few (pre .0) (omega arith) (c .before .before .step .ensures .0))
 
 loop-less : tie.Need-loop-less Inv-loop μ-loop
-loop-less c = omega (arith, c .before .before .before .before .before .before .before .loop-test .taken)
+loop-less c = omega (arith, c .before .before .before .before .before .before .before .before .loop-test .taken)
 
 loop-again : tie.Need-loop-again Inv-loop μ-loop
 loop-again c =
-    let loop = c .before .before .before .before .before .before .before .before .loop in
-    let test = c .before .before .before .before .before .before .before .loop-test .taken in
-    let made = c .before .before .step .ensures in
-    (omega (arith, loop .inv .0, made .0, test), turn-to-even (c .before .before .before .before .before .before .before .before .before .before .before .before .before .before .before .before .before .pre .0) (loop .inv .1) (omega (arith, test)) (c .before .before .before .before .before .before .if2 .taken) (made .1))
+    let loop = c .before .before .before .before .before .before .before .before .before .loop in
+    let test = c .before .before .before .before .before .before .before .before .loop-test .taken in
+    let made = c .before .before .before .step .ensures in
+    let a = c .before .before .before .before .before .before .before .before .before .before .before .before .before .before .before .before .before .before .args in
+    let A = matrix (now (a .starts)) (now (a .columns)) (now (a .values)) in
+    let more : c .and .result ≡ added (loop .done) (productsWith 1 A) = c .and .ensures ∙ ap {B = Products} (added (loop .done)) (made .0) in (
+      omega (arith, loop .inv .0, ap (λ (x : Products). x .made) more, test),
+      turn-to-even (c .before .before .before .before .before .before .before .before .before .before .before .before .before .before .before .before .before .before .pre .0) (loop .inv .1) (omega (arith, test)) (c .before .before .before .before .before .before .before .if2 .taken) (made .1),
+      products-next A (loop .inv .2) more,
+    )
 
 mul-step-2 : tie.Need-mul-step-2 Inv-loop μ-loop
 mul-step-2 c =
@@ -100,18 +112,27 @@ step-requires-2 c κs =
     let loop = c .before .before .before .before .before .loop in
     (pre .0, (pre .1 .0, loop .inv .1 .work-places, pre .1 .3 .places, turn-out (pre .0) (loop .inv .1) (omega (arith, c .before .before .before .before .loop-test .taken)) (c .before .before .before .if2 .left)))
 
-add-made-2 : tie.Need-add-made-2 Inv-loop μ-loop
-add-made-2 c = omega (arith, c .before .before .before .before .before .before .before .before .loop .inv .0, c .before .before .step2 .ensures .0, c .before .before .before .before .before .before .before .before .before .before .before .before .before .before .before .before .before .good)
+and-requires-2 : tie.Need-and-requires-2 Inv-loop μ-loop
+and-requires-2 c κs =
+    let pre = c .before .before .before .before .before .before .before .before .before .before .before .before .before .before .before .before .before .pre in
+    let loop = c .before .before .before .before .before .before .before .before .loop in
+    (products-few (pre .0) (omega (arith, loop .inv .0, pre .1 .5)) (loop .inv .2), products-few (pre .0) (omega arith) (c .before .before .step2 .ensures .0))
 
 loop-less-2 : tie.Need-loop-less-2 Inv-loop μ-loop
-loop-less-2 c = omega (arith, c .before .before .before .before .before .before .before .loop-test .taken)
+loop-less-2 c = omega (arith, c .before .before .before .before .before .before .before .before .loop-test .taken)
 
 loop-again-2 : tie.Need-loop-again-2 Inv-loop μ-loop
 loop-again-2 c =
-    let loop = c .before .before .before .before .before .before .before .before .loop in
-    let test = c .before .before .before .before .before .before .before .loop-test .taken in
-    let made = c .before .before .step2 .ensures in
-    (omega (arith, loop .inv .0, made .0, test), turn-to-odd (c .before .before .before .before .before .before .before .before .before .before .before .before .before .before .before .before .before .pre .0) (loop .inv .1) (omega (arith, test)) (c .before .before .before .before .before .before .if2 .left) (made .1))
+    let loop = c .before .before .before .before .before .before .before .before .before .loop in
+    let test = c .before .before .before .before .before .before .before .before .loop-test .taken in
+    let made = c .before .before .before .step2 .ensures in
+    let a = c .before .before .before .before .before .before .before .before .before .before .before .before .before .before .before .before .before .before .args in
+    let A = matrix (now (a .starts)) (now (a .columns)) (now (a .values)) in
+    let more : c .and2 .result ≡ added (loop .done) (productsWith 1 A) = c .and2 .ensures ∙ ap {B = Products} (added (loop .done)) (made .0) in (
+      omega (arith, loop .inv .0, ap (λ (x : Products). x .made) more, test),
+      turn-to-odd (c .before .before .before .before .before .before .before .before .before .before .before .before .before .before .before .before .before .before .pre .0) (loop .inv .1) (omega (arith, test)) (c .before .before .before .before .before .before .before .if2 .left) (made .1),
+      products-next A (loop .inv .2) more,
+    )
 
 same-length : tie.Need-same-length Inv-loop μ-loop
 same-length c =
@@ -125,8 +146,9 @@ returns : tie.Need-returns Inv-loop μ-loop
 returns c =
     let a = c .before .before .before .before .before .before .before .before .before .before .args in
     let loop = c .before .loop in
-    let first : loop .i ≡ 0 = omega (arith, c .loop-test .left) in (
-      omega (arith, loop .inv .0, first),
+    let first : loop .i ≡ 0 = omega (arith, c .loop-test .left) in
+    let all : loop .done .made ≡ length (now (a .g)) - 1 = omega (arith, loop .inv .0, first) in (
+      loop .inv .2 ∙ ap {B = Products} (λ k. productsWith k (matrix (now (a .starts)) (now (a .columns)) (now (a .values)))) all,
       loop .inv .1 .even (omega (arith, first)) ∙ ap (λ k. apply (a .m .p) (matrix (now (a .starts)) (now (a .columns)) (now (a .values))) (drop k (now (a .g))) (now (a .v))) first,
     )
 
@@ -148,13 +170,13 @@ horner-spec =
     mul-step
     shared-slice-read-step
     step-requires
-    add-made
+    and-requires
     loop-less
     loop-again
     mul-step-2
     shared-slice-read-step-2
     step-requires-2
-    add-made-2
+    and-requires-2
     loop-less-2
     loop-again-2
     same-length

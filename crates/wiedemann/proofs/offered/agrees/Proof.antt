@@ -1,5 +1,5 @@
 use mathlib.Core.Path.{_≡_, refl, sym, ap, ap₂, _∙_}
-use mathlib.Core.Bool.{Bool, true}
+use mathlib.Core.Bool.{Bool, _&&_}
 use mathlib.Core.List.{List}
 use Prim.Native.Nat.{ℕ, _-_, _%_, _≤_}
 use native.Mathlib.Nat.{zero-add}
@@ -7,12 +7,12 @@ use native.Mathlib.Omega.{arith}
 use lib.Dec.{eqb}
 use lib.ListN.{length, getD}
 use denote.Ref.{now}
-use borrow.Author.Tests.{eq-eqb, ne-eqb}
 use Rattle.meaning.specs.List.{all}
 use Rattle.meaning.specs.Matrix.{Matrix, matrix, product}
-use Rattle.laws.specs.List.{all-zero, all-not}
+use Rattle.laws.specs.List.{all-zero}
+use Rattle.checks.specs.Products.{InRows, rows-none, rows-next, rows-all}
 use Rattle.checks.specs.Valid.{rowProduct, valid-entries}
-use Rattle.checks.specs.Matrix.{all-next}
+use Rattle.checks.specs.Matrix.{all-more}
 use Rattle.wiedemann.specs.Horner.{at-product, row-reduced}
 use Rattle.checks.specs.Valid.{row-bounds}
 use Rattle.modular.specs.Total.{residue-number}
@@ -24,11 +24,12 @@ abbrev agreement : ℕ → Matrix → List ℕ → List ℕ → ℕ → Bool
 agreement p A x b i = eqb (getD (product p A x) i 0) (getD b i 0)
 
 abbrev Inv-loop : tie.InvT-loop
-Inv-loop m starts columns values x b n from₀ i₀ from i =
-    (i ≤ n) × (from ≡ getD starts i 0) × (all i (agreement (m .p) (matrix starts columns values) x b) ≡ true)
+Inv-loop m starts columns values x b n equal₀ multiplied₀ from₀ i₀ equal multiplied from i =
+    (i ≤ n) × (from ≡ getD starts i 0) × (equal ≡ all i (agreement (m .p) (matrix starts columns values) x b))
+    × InRows (matrix starts columns values) i from multiplied
 
 abbrev μ-loop : tie.MeasureT-loop
-μ-loop m starts columns values x b n from₀ i₀ from i = n - i
+μ-loop m starts columns values x b n equal₀ multiplied₀ from₀ i₀ equal multiplied from i = n - i
 
 -- the test of row i
 here : (c : tie.After-element Inv-loop μ-loop)
@@ -62,7 +63,8 @@ wide-requires c κs = search needs
 loop-holds : tie.Need-loop-holds Inv-loop μ-loop
 loop-holds c =
     let at = c .before .before .before .before .before .before .before .args in
-    (omega arith, c .wide .ensures .0, all-zero (agreement (at .m .p) (matrix (now (at .starts)) (now (at .columns)) (now (at .values))) (now (at .x)) (now (at .b))))
+    let A = matrix (now (at .starts)) (now (at .columns)) (now (at .values)) in
+    (omega arith, c .wide .ensures .0, sym (all-zero (agreement (at .m .p) A (now (at .x)) (now (at .b)))), rows-none A (c .wide .result))
 
 add-wide : tie.Need-add-wide Inv-loop μ-loop
 add-wide c = omega (arith, c .loop-test .taken, c .before .before .before .before .before .before .before .before .before .pre .0 .sized)
@@ -91,12 +93,13 @@ residue-requires c κs = search needs
 element-requires : tie.Need-element-requires Inv-loop μ-loop
 element-requires c κs = search needs
 
-returns : tie.Need-returns Inv-loop μ-loop
-returns c =
-    let at = c .before .before .before .before .before .before .before .before .before .before .before .before .before .before .before .args in
-    sym
-    (all-not (length (now (at .starts)) - 1) (agreement (at .m .p) (matrix (now (at .starts)) (now (at .columns)) (now (at .values))) (now (at .x)) (now (at .b))) (c .before .before .before .before .before .before .before .loop .i) (c .before .before .before .before .before .before .loop-test .taken)
-    (here (c .before) ∙ ne-eqb (c .before .before .residue .result) (c .before .element .result) (c .if1 .taken)))
+with-row-requires : tie.Need-with-row-requires Inv-loop μ-loop
+with-row-requires c κs =
+    let start = c .before .before .before .before .before .before .before .before .before .before .before .before .before .before in
+    let at = start .args in
+    let loop = c .before .before .before .before .before .before .loop in
+    let to = c .before .before .before .wide2 in
+    (loop .inv .3 .low, row-bounds (matrix (now (at .starts)) (now (at .columns)) (now (at .values))) (loop .i) (loop .from) (to .result) (loop .inv .1) (to .ensures .0) (start .pre .0) (c .before .before .before .before .before .loop-test .taken) .0)
 
 add-i : tie.Need-add-i Inv-loop μ-loop
 add-i c = omega (arith, c .before .before .before .before .before .before .loop-test .taken, c .before .before .before .before .before .before .before .before .before .before .before .before .before .before .before .pre .0 .sized)
@@ -107,19 +110,20 @@ loop-less c = omega (arith, c .before .before .before .before .before .before .l
 loop-again : tie.Need-loop-again Inv-loop μ-loop
 loop-again c =
     let at = c .before .before .before .before .before .before .before .before .before .before .before .before .before .before .before .args in
-    let loop = c .before .before .before .before .before .before .before .loop in (
+    let loop = c .before .before .before .before .before .before .before .loop in
+    let to = c .before .before .before .before .wide2 in (
       omega (arith, c .before .before .before .before .before .before .loop-test .taken),
-      c .before .before .before .before .wide2 .ensures .0,
-      all-next (loop .i) (agreement (at .m .p) (matrix (now (at .starts)) (now (at .columns)) (now (at .values))) (now (at .x)) (now (at .b))) (loop .inv .2)
-          (here (c .before) ∙ eq-eqb (c .before .before .residue .result) (c .before .element .result) (c .if1 .left)),
+      to .ensures .0,
+      ap₂ _&&_ (loop .inv .2) (sym (here (c .before))) ∙ sym (all-more (loop .i) (agreement (at .m .p) (matrix (now (at .starts)) (now (at .columns)) (now (at .values))) (now (at .x)) (now (at .b)))),
+      rows-next (loop .inv .3) (loop .inv .1) (to .ensures .0) (c .with-row .ensures .0) (c .with-row .ensures .1),
     )
 
-returns-2 : tie.Need-returns-2 Inv-loop μ-loop
-returns-2 c =
+returns : tie.Need-returns Inv-loop μ-loop
+returns c =
     let at = c .before .before .before .before .before .before .before .before .before .args in
     let loop = c .before .loop in
     let end : loop .i ≡ length (now (at .starts)) - 1 = omega (arith, loop .inv .0, c .loop-test .left) in
-    sym (ap (λ k. all k (agreement (at .m .p) (matrix (now (at .starts)) (now (at .columns)) (now (at .values))) (now (at .x)) (now (at .b)))) (sym end) ∙ loop .inv .2)
+    (rows-all (loop .inv .3) end, loop .inv .2 ∙ ap (λ k. all k (agreement (at .m .p) (matrix (now (at .starts)) (now (at .columns)) (now (at .values))) (now (at .x)) (now (at .b)))) end)
 
 pub agrees-spec : {M : Type 1} → statement M
 agrees-spec =
@@ -138,8 +142,8 @@ agrees-spec =
     row-requires
     residue-requires
     element-requires
-    returns
+    with-row-requires
     add-i
     loop-less
     loop-again
-    returns-2)
+    returns)

@@ -38,19 +38,19 @@ answer c =
     unlessRefused-none (isNullRefusal (at .field .p) A (now (at .w))) (isNull (at .field .p) A (now (at .w))) false (none c)
 
 -- the modulus that was made
-modulus : (c : tie.After-of) → (c .of .result .p ≡ c .before .before .before .before .before .before .before .before .before .args .field .p) × Modular (c .of .result)
+modulus : (c : tie.After-of) → (c .of .result .p ≡ c .before .before .before .before .before .before .before .args .field .p) × Modular (c .of .result)
 modulus c =
-    let known = accepted (c .before .before .before) .valid in
-    modular-of (c .of .result) (c .before .before .before .before .before .before .before .before .before .args .field .p) (c .of .ensures) (known .positive) (known .small)
+    let known = accepted (c .before) .valid in
+    modular-of (c .of .result) (c .before .before .before .before .before .before .before .args .field .p) (c .of .ensures) (known .positive) (known .small)
 
-nonzero : (c : tie.After-vanishes)
-    → let at = c .before .before .before .before .before .before .before .before .before .before .args in
-    isNullAnswer (at .field .p) (matrix (now (at .starts)) (now (at .columns)) (now (at .values))) (now (at .w)) ≡ c .vanishes .result
-nonzero c =
-    let at = c .before .before .before .before .before .before .before .before .before .before .args in
-    answer (c .before .before .before .before)
-    ∙ ap₂ (λ s t. not s && t) (sym (c .before .before .before .is-zero .ensures) ∙ c .before .before .if2 .left)
-    (ap (λ p. isZero (product p (matrix (now (at .starts)) (now (at .columns)) (now (at .values))) (now (at .w)))) (sym (modulus (c .before) .0)) ∙ sym (c .vanishes .ensures))
+-- w's product is zero
+vanished : (c : tie.After-vanishes)
+    → let at = c .before .before .before .before .before .before .before .before .args in
+    isZero (product (at .field .p) (matrix (now (at .starts)) (now (at .columns)) (now (at .values))) (now (at .w))) ≡ c .vanishes .result .equal
+vanished c =
+    let at = c .before .before .before .before .before .before .before .before .args in
+    ap (λ p. isZero (product p (matrix (now (at .starts)) (now (at .columns)) (now (at .values))) (now (at .w)))) (sym (modulus (c .before) .0))
+    ∙ sym (c .vanishes .ensures .1)
 
 system-refusal-requires : tie.Need-system-refusal-requires
 system-refusal-requires c κs = search needs
@@ -63,31 +63,36 @@ returns c =
     let number = c .before .system-refusal in
     decides-refused (number .result) (isNullRefusal (at .field .p) A (now (at .w))) (isNull (at .field .p) A (now (at .w))) (number .ensures) (c .if1 .taken)
 
-is-zero-requires : tie.Need-is-zero-requires
-is-zero-requires c κs = search needs
-
-returns-2 : tie.Need-returns-2
-returns-2 c =
-    let at = c .before .before .before .before .before .before .before .before .args in (
-      none (c .before .before),
-      answer (c .before .before) ∙ ap (λ t. not t && isZero (product (at .field .p) (matrix (now (at .starts)) (now (at .columns)) (now (at .values))) (now (at .w)))) (sym (c .before .is-zero .ensures) ∙ c .if2 .taken),
-    )
-
 of-requires : tie.Need-of-requires
 of-requires c κs = search needs
 
 vanishes-requires : tie.Need-vanishes-requires
 vanishes-requires c κs =
-    let at = c .before .before .before .before .before .before .before .before .before .args in
+    let at = c .before .before .before .before .before .before .before .args in
     let known =
-    subst (λ p. Accepted p (matrix (now (at .starts)) (now (at .columns)) (now (at .values))) (now (at .w))) (sym (modulus c .0)) (accepted (c .before .before .before)) in
+    subst (λ p. Accepted p (matrix (now (at .starts)) (now (at .columns)) (now (at .values))) (now (at .w))) (sym (modulus c .0)) (accepted (c .before)) in
     (known .valid, (modulus c .1, known .vector))
 
-returns-3 : tie.Need-returns-3
-returns-3 c = (none (c .before .before .before .before .before), nonzero (c .before) ∙ c .if3 .taken)
+is-zero-requires : tie.Need-is-zero-requires
+is-zero-requires c κs = search needs
 
-returns-4 : tie.Need-returns-4
-returns-4 c = (none (c .before .before .before .before .before), nonzero (c .before) ∙ c .if3 .left)
+returns-2 : tie.Need-returns-2
+returns-2 c =
+    let made = c .before .before in
+    let first = made .before .before in (
+      none first,
+      answer first ∙ ap₂ (λ s t. not s && t) (sym (c .before .is-zero .ensures) ∙ c .if2 .taken) (vanished made),
+      made .vanishes .ensures .0,
+    )
+
+returns-3 : tie.Need-returns-3
+returns-3 c =
+    let made = c .before .before in
+    let first = made .before .before in (
+      none first,
+      answer first ∙ ap₂ (λ s t. not s && t) (sym (c .before .is-zero .ensures) ∙ c .if2 .left) (vanished made),
+      made .vanishes .ensures .0,
+    )
 
 pub is-null-spec : {M : Type 1} → statement M
 is-null-spec =
@@ -95,9 +100,8 @@ is-null-spec =
     (tie.spec
     system-refusal-requires
     returns
-    is-zero-requires
-    returns-2
     of-requires
     vanishes-requires
-    returns-3
-    returns-4)
+    is-zero-requires
+    returns-2
+    returns-3)

@@ -35,15 +35,15 @@ modulus c =
 
 answer : (c : tie.After-agrees)
     → let at = c .before .before .before .before .before .before .before .before .before .args in
-    takesAnswer (at .field .p) (matrix (now (at .starts)) (now (at .columns)) (now (at .values))) (now (at .x)) (now (at .b)) ≡ c .agrees .result
+    takesAnswer (at .field .p) (matrix (now (at .starts)) (now (at .columns)) (now (at .values))) (now (at .x)) (now (at .b)) ≡ c .agrees .result .equal
 answer c =
     let at = c .before .before .before .before .before .before .before .before .before .args in
     let A = matrix (now (at .starts)) (now (at .columns)) (now (at .values)) in
     let known = accepted (c .before .before) in
     unlessRefused-none (takesRefusal (at .field .p) A (now (at .x)) (now (at .b))) (takes (at .field .p) A (now (at .x)) (now (at .b))) false
     (none (c .before .before))
-    ∙ takes-tested (at .field .p) (c .before .of .result .p) (modulus (c .before) .0) A (now (at .x)) (now (at .b)) (c .agrees .result)
-    (known .0 .valid .positive) (known .1) (c .agrees .ensures)
+    ∙ takes-tested (at .field .p) (c .before .of .result .p) (modulus (c .before) .0) A (now (at .x)) (now (at .b)) (c .agrees .result .equal)
+    (known .0 .valid .positive) (known .1) (c .agrees .ensures .1)
 
 takes-refusal-requires : tie.Need-takes-refusal-requires
 takes-refusal-requires c κs = search needs
@@ -67,12 +67,9 @@ agrees-requires c κs =
     (known .valid, (modulus c .1, known .vector))
 
 returns-2 : tie.Need-returns-2
-returns-2 c = (none (c .before .before .before), answer (c .before) ∙ c .if2 .taken)
-
-returns-3 : tie.Need-returns-3
-returns-3 c = (none (c .before .before .before), answer (c .before) ∙ c .if2 .left)
+returns-2 c = (none (c .before .before), answer c, c .agrees .ensures .0)
 
 pub takes-spec : {M : Type 1} → statement M
 takes-spec =
     tie.close
-    (tie.spec takes-refusal-requires returns of-requires agrees-requires returns-2 returns-3)
+    (tie.spec takes-refusal-requires returns of-requires agrees-requires returns-2)

@@ -29,8 +29,11 @@ returns c =
     let at = start .args in
     let w = now (at .w) in
     let A = matrix (now (at .starts)) (now (at .columns)) (now (at .values)) in
-    zero-tested (product (at .m .p) A w) w (length (now (at .starts)) - 1) (c .agrees .result) (vector-product (at .m .p) A w (start .pre .0 .positive) .places)
-    (c .agrees .ensures)
+    let found = c .agrees in (
+      found .ensures .0,
+      zero-tested (product (at .m .p) A w) w (length (now (at .starts)) - 1) (found .result .equal) (vector-product (at .m .p) A w (start .pre .0 .positive) .places)
+          (found .ensures .1),
+    )
 
 pub vanishes-spec : {M : Type 1} → statement M
 vanishes-spec =

@@ -1,8 +1,11 @@
 use mathlib.Core.Path.{_≡_, sym, ap, _∙_, subst}
 use native.Mathlib.Omega.{arith}
-use Prim.Native.Nat.{_+_, _-_, _*_}
+use Prim.Native.Nat.{_-_, _*_}
 use lib.ListN.{length}
 use denote.Ref.{now}
+use Rattle.meaning.specs.Matrix.{matrix}
+use Rattle.checks.specs.declared.Products.{Products}
+use Rattle.checks.specs.Products.{productsWith, added, products-few}
 use Rattle.wiedemann.specs.Turns.{Other, Turning, regionAt, region-other, regions, advanced, advanced-at}
 use borrow.Author.Needs.{needs}
 use Rattle.wiedemann.proofs.pass.advance.Statement.{statement}
@@ -10,15 +13,16 @@ use Rattle.wiedemann.proofs.pass.advance.Tie as tie
 
 -- the two regions, as the code has worked them out
 turning : (c : tie.After-region2)
-    → let a = c .before .before .before .before .before .before .args in
+    → let a = c .before .before .before .before .before .before .before .args in
     let n = length (now (a .starts)) - 1 in
-    Turning (a .m .p) n (c .before .region .result) (now (a .area)) × Other n (c .before .region .result) (c .region2 .result)
+    Turning (a .m .p) n (c .before .before .region .result) (now (a .area)) × Other n (c .before .before .region .result) (c .region2 .result)
 turning c =
-    let a = c .before .before .before .before .before .before .args in
+    let a = c .before .before .before .before .before .before .before .args in
     let n = length (now (a .starts)) - 1 in
-    let from = sym (c .before .region .ensures) in (
-      subst (λ k. Turning (a .m .p) n k (now (a .area))) from (c .before .before .before .before .before .before .pre .1 .1),
-      subst (λ k. Other n k (c .region2 .result)) from (subst (λ k. Other n (regionAt n (a .i)) k) (sym (c .region2 .ensures)) (region-other n (a .i))),
+    let from = sym (c .before .before .region .ensures) in
+    let i = a .done .made in (
+      subst (λ k. Turning (a .m .p) n k (now (a .area))) from (c .before .before .before .before .before .before .before .pre .1 .1),
+      subst (λ k. Other n k (c .region2 .result)) from (subst (λ k. Other n (regionAt n i) k) (sym (c .region2 .ensures)) (region-other n i)),
     )
 
 sub-n : tie.Need-sub-n
@@ -28,13 +32,13 @@ region-requires : tie.Need-region-requires
 region-requires c κs = c .before .before .before .before .pre .0 .sized
 
 add-region : tie.Need-add-region
-add-region c = omega (arith, c .before .before .before .before .before .pre .1 .2)
+add-region c = omega (arith, c .before .before .before .before .before .before .pre .1 .2 .made-low)
 
 region-requires-2 : tie.Need-region-requires-2
-region-requires-2 c κs = c .before .before .before .before .before .pre .0 .sized
+region-requires-2 c κs = c .before .before .before .before .before .before .pre .0 .sized
 
 mul-end : tie.Need-mul-end
-mul-end c = omega (arith, c .before .before .before .before .before .before .pre .0 .sized)
+mul-end c = omega (arith, c .before .before .before .before .before .before .before .pre .0 .sized)
 
 mul-step-within : tie.Need-mul-step-within
 mul-step-within c = search needs
@@ -46,30 +50,33 @@ part-step-within-start : tie.Need-part-step-within-start
 part-step-within-start c = search needs
 
 part-step-within-end : tie.Need-part-step-within-end
-part-step-within-end c = omega (arith, c .before .before .before .before .before .before .pre .1 .1 .room)
+part-step-within-end c = omega (arith, c .before .before .before .before .before .before .before .pre .1 .1 .room)
 
 step-within-requires : tie.Need-step-within-requires
 step-within-requires c κs =
-    let pre = c .before .before .before .before .before .before .before .pre in
-    let n = length (now (c .before .before .before .before .before .before .before .args .starts)) - 1 in
+    let pre = c .before .before .before .before .before .before .before .before .pre in
+    let n = length (now (c .before .before .before .before .before .before .before .before .args .starts)) - 1 in
     let t = turning (c .before) in
     (pre .0, (pre .1 .0, regions (3 * n - 0) (omega arith) (t .0) (t .1)))
 
-add-result : tie.Need-add-result
-add-result c = omega (arith, c .before .before .step-within .ensures .0, c .before .before .before .before .before .before .before .before .before .before .pre .1 .2)
+and-requires : tie.Need-and-requires
+and-requires c κs =
+    let pre = c .before .before .before .before .before .before .before .before .before .before .before .pre in
+    (pre .1 .2, products-few (pre .0) (omega arith) (c .before .before .step-within .ensures .0))
 
 same-length : tie.Need-same-length
 same-length c = search needs
 
 returns : tie.Need-returns
 returns c =
-    let a = c .before .before .before .before .before .before .before .before .before .before .args in
+    let a = c .before .before .before .before .before .before .before .before .before .before .before .before .args in
     let n = length (now (a .starts)) - 1 in
-    let made = c .before .before .step-within .ensures in
-    let t = turning (c .before .before .before .before) in
-    let one : a .i + c .before .before .step-within .result ≡ a .i + 1 = ap (λ k. a .i + k) (made .0) in (
-      one,
-      advanced-at (c .before .before .before .before .before .region .ensures) (c .before .before .before .before .region2 .ensures ∙ ap (regionAt n) (sym one)) (advanced (3 * n - 0) (omega arith) (t .0) (t .1) (made .1)),
+    let made = c .before .before .before .step-within .ensures in
+    let t = turning (c .before .before .before .before .before) in
+    let more : c .and .result ≡ added (a .done) (productsWith 1 (matrix (now (a .starts)) (now (a .columns)) (now (a .values)))) = c .and .ensures ∙ ap {B = Products} (added (a .done)) (made .0) in (
+      more,
+      advanced-at (c .before .before .before .before .before .before .before .region .ensures) (c .before .before .before .before .before .region2 .ensures ∙ ap (λ (x : Products). regionAt n (x .made)) (sym more))
+          (advanced (3 * n - 0) (omega arith) (t .0) (t .1) (made .1)),
     )
 
 pub advance-spec : {M : Type 1} → statement M
@@ -86,6 +93,6 @@ advance-spec =
     part-step-within-start
     part-step-within-end
     step-within-requires
-    add-result
+    and-requires
     same-length
     returns)

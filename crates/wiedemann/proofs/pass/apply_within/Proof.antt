@@ -2,28 +2,31 @@ use Rattle.wiedemann.specs.Turns.{seat-low, regionAt, region-first, Appl
 use mathlib.Core.Logic.{inl}
 use Rattle.wiedemann.specs.Horner.{vector-apply}
 use Rattle.meaning.specs.Matrix.{matrix}
+use Rattle.checks.specs.declared.Products.{Products}
+use Rattle.checks.specs.Products.{productsWith, products-none, products-next, products-few}
 use Rattle.laws.specs.Part.{length-part}
 use denote.Ref.{now}
 use lib.ListN.{length}
 use native.Mathlib.Omega.{arith}
 use Prim.Native.Nat.{_+_, _-_, _*_}
-use mathlib.Core.Path.{_≡_, refl, sym, subst}
+use mathlib.Core.Path.{_≡_, refl, sym, ap, _∙_, subst}
 use borrow.Author.Needs.{needs}
 use Rattle.wiedemann.proofs.pass.apply_within.Statement.{statement}
 use Rattle.wiedemann.proofs.pass.apply_within.Tie as tie
 
 abbrev Inv-loop : tie.InvT-loop
-Inv-loop m starts columns values area₀ f t made₀ i₀ area made i =
-    (made + i ≡ t) × Applying (m .p) (matrix starts columns values) area₀ f t i (regionAt (length starts - 1) made) area
+Inv-loop m starts columns values area₀ f t done₀ i₀ area done i =
+    (done .made + i ≡ t) × Applying (m .p) (matrix starts columns values) area₀ f t i (regionAt (length starts - 1) (done .made)) area
+    × (done ≡ productsWith (done .made) (matrix starts columns values))
 
 abbrev μ-loop : tie.MeasureT-loop
-μ-loop m starts columns values area₀ f t made₀ i₀ area made i = i
+μ-loop m starts columns values area₀ f t done₀ i₀ area done i = i
 
 loop-holds : tie.Need-loop-holds Inv-loop μ-loop
 loop-holds c =
     let a = c .before .before .before .before .args in
     let n = length (now (a .starts)) - 1 in
-    (omega arith, subst (λ k. Applying (a .m .p) (matrix (now (a .starts)) (now (a .columns)) (now (a .values))) (now (a .area)) (a .f) (a .t) (a .t) k (now (a .area))) (sym (region-first n)) (applying-none (c .before .before .before .before .pre .1 .2)))
+    (omega arith, subst (λ k. Applying (a .m .p) (matrix (now (a .starts)) (now (a .columns)) (now (a .values))) (now (a .area)) (a .f) (a .t) (a .t) k (now (a .area))) (sym (region-first n)) (applying-none (c .before .before .before .before .pre .1 .2)), products-none (matrix (now (a .starts)) (now (a .columns)) (now (a .values))))
 
 sub-i : tie.Need-sub-i Inv-loop μ-loop
 sub-i c = search needs
@@ -52,7 +55,7 @@ advance-requires c κs =
           room = omega (arith, pre .1 .2 .above, pre .1 .2 .room, loop .inv .1 .same-length);
           elements = rw (loop .inv .1 .holds) (vector-apply (a .m .p) A _ _ (pre .0 .positive));
         },
-        omega (arith, loop .inv .0, pre .1 .1),
+        products-few (pre .0) (omega (arith, loop .inv .0, pre .1 .1)) (loop .inv .2),
       ),
     )
 
@@ -68,11 +71,13 @@ loop-again c =
     let i = loop .i - 1 in
     let test = c .before .before .before .before .before .loop-test .taken in
     let made = c .before .before .advance .ensures in
+    let one = ap (λ (x : Products). x .made) (made .0) in
     let back : loop .i ≡ i + 1 = omega (arith, test) in
     let n = length (now (a .starts)) - 1 in (
-      omega (arith, loop .inv .0, made .0, test),
-      applying-more _ (pre .0) (pre .1 .2) (subst (λ m. Applying (a .m .p) A (now (a .area)) (a .f) (a .t) m (regionAt n (loop .made)) (loop .area)) back (loop .inv .1))
+      omega (arith, loop .inv .0, one, test),
+      applying-more _ (pre .0) (pre .1 .2) (subst (λ m. Applying (a .m .p) A (now (a .area)) (a .f) (a .t) m (regionAt n (loop .done .made)) (loop .area)) back (loop .inv .1))
           (omega (arith, loop .inv .0, test)) refl (made .1),
+      products-next A (loop .inv .2) (made .0),
     )
 
 sub-n : tie.Need-sub-n Inv-loop μ-loop
@@ -113,11 +118,12 @@ returns c =
     let m = 3 * n - 0 in
     let at = c .before .before .before .region .ensures in
     let ended : loop .i ≡ 0 = omega (arith, c .before .before .before .before .before .loop-test .left) in
+    let all : loop .done .made ≡ a .t = omega (arith, loop .inv .0, ended) in
     let long = length-part 0 m (loop .area) (omega (arith, loop .inv .1 .same-length, h .above, h .room)) in (
-      omega (arith, loop .inv .0, ended),
+      loop .inv .2 ∙ ap {B = Products} (λ k. productsWith k A) all,
       applied-all m (omega arith) (omega (arith, h .above, h .room))
           (subst (λ k. Applying (a .m .p) A (now (a .area)) (a .f) (a .t) 0 k (loop .area)) (sym at)
-          (subst (λ k. Applying (a .m .p) A (now (a .area)) (a .f) (a .t) k (regionAt n (loop .made)) (loop .area)) ended (loop .inv .1)))
+          (subst (λ k. Applying (a .m .p) A (now (a .area)) (a .f) (a .t) k (regionAt n (loop .done .made)) (loop .area)) ended (loop .inv .1)))
           (c .before .before .copy-within .ensures .copied (omega (arith, long, at, seat-low (loop .inv .1 .seat)), omega (arith, long), inl (omega arith))),
     )
 

@@ -1,5 +1,7 @@
 use Rattle.laws.specs.Lent.{same-take}
 use Rattle.wiedemann.specs.declared.pass.Pass.{Pass}
+use Rattle.checks.specs.declared.Products.{Products}
+use Rattle.checks.specs.Products.{products-add, products-few}
 use Rattle.wiedemann.specs.Turns.{shortened, vector-terms}
 use Rattle.checks.specs.Valid.{Vector}
 use Rattle.meaning.specs.Matrix.{matrix}
@@ -10,7 +12,7 @@ use lib.ListN.{length, getD}
 use native.Mathlib.Omega.{arith}
 use mathlib.Core.List.{[]}
 use Prim.Native.Nat.{_+_, _-_, _*_}
-use mathlib.Core.Path.{sym, ap, ap₂, _∙_, subst}
+use mathlib.Core.Path.{refl, sym, ap, _∙_, subst}
 use borrow.Author.Needs.{needs}
 use Rattle.wiedemann.proofs.pass.take_factor.Statement.{statement}
 use Rattle.wiedemann.proofs.pass.take_factor.Tie as tie
@@ -78,22 +80,29 @@ apply-within-requires c κs =
       ),
     )
 
-add-t13 : tie.Need-add-t13
-add-t13 c =
-    omega (arith, c .before .before .before .before .before .before .before .before .before .before .terms .ensures .0, c .before .before .before .before .before .before .recurrence-of-terms .ensures .short, c .before .before .apply-within .ensures .0, c .before .before .before .before .before .before .before .before .before .before .before .before .before .before .before .before .before .pre .1 .0 .2)
+and-requires : tie.Need-and-requires
+and-requires c κs =
+    let pre = c .before .before .before .before .before .before .before .before .before .before .before .before .before .before .before .before .before .pre in
+    let t = c .before .before .before .before .before .before .recurrence-of-terms .ensures .short in (
+      products-few (pre .0 .0) (omega (arith, pre .1 .0 .2)) (c .before .before .before .before .before .before .before .before .before .before .terms .ensures .0),
+      products-few (pre .0 .0) (omega (arith, t, pre .1 .0 .2)) (c .before .before .apply-within .ensures .0),
+    )
 
 same-length : tie.Need-same-length
 same-length c = search needs
 
 returns : tie.Need-returns
 returns c =
-    let a = c .before .before .before .before .before .before .before .before .before .before .before .before .before .before .before .before .before .args in
-    let pre = c .before .before .before .before .before .before .before .before .before .before .before .before .before .before .before .before .before .pre in
-    let made = c .before .before .before .before .before .before .before .before .before .before .terms .ensures in
-    let found = c .before .before .before .before .before .before .recurrence-of-terms in
-    let more = c .before .before .apply-within .ensures in (
-      ap {B = Pass} (λ k. record { left = a .left; degree = found .result; applications = k }) (ap₂ _+_ (made .0) (more .0)),
-      shortened (omega (arith, pre .1 .1 .0)) (made .1) (found .ensures) (more .1),
+    let a = c .before .before .before .before .before .before .before .before .before .before .before .before .before .before .before .before .before .before .args in
+    let pre = c .before .before .before .before .before .before .before .before .before .before .before .before .before .before .before .before .before .before .pre in
+    let A = matrix (now (a .starts)) (now (a .columns)) (now (a .values)) in
+    let first = c .before .before .before .before .before .before .before .before .before .before .before .terms .ensures in
+    let found = c .before .before .before .before .before .before .before .recurrence-of-terms in
+    let more = c .before .before .before .apply-within .ensures in
+    let t = found .result in (
+      ap {B = Pass} (λ (k : Products). record { left = a .left; degree = t; applications = k .made; multiplied = k .multiplied })
+          (c .and .ensures ∙ products-add A (2 * a .left - 1) t (2 * a .left - 1 + t) (first .0) (more .0) refl),
+      shortened (omega (arith, pre .1 .1 .0)) (first .1) (found .ensures) (more .1),
     )
 
 pub take-factor-spec : {M : Type 1} → statement M
@@ -110,6 +119,6 @@ take-factor-spec =
     add-apply-within
     add-apply-within-2
     apply-within-requires
-    add-t13
+    and-requires
     same-length
     returns)

@@ -4,23 +4,26 @@ use Rattle.laws.specs.Part.{part}
 use Rattle.checks.specs.Valid.{Vector}
 use Rattle.meaning.specs.Solver.{dot, projections}
 use Rattle.meaning.specs.Matrix.{matrix}
+use Rattle.checks.specs.declared.Products.{Products}
+use Rattle.checks.specs.Products.{productsWith, products-none, products-next, products-few}
 use denote.Ref.{now}
 use mathlib.Core.List.{[]}
 use lib.ListN.{length, getD, set}
 use native.Mathlib.Omega.{arith}
 use Prim.Native.Nat.{_+_, _-_, _*_, _≤_}
-use mathlib.Core.Path.{refl, sym, ap, _∙_, subst}
+use mathlib.Core.Path.{_≡_, refl, sym, ap, _∙_, subst}
 use borrow.Author.Needs.{needs}
 use Rattle.wiedemann.proofs.pass.terms.Statement.{statement}
 use Rattle.wiedemann.proofs.pass.terms.Tie as tie
 
 abbrev Inv-loop : tie.InvT-loop
-Inv-loop m starts columns values words u area₀ left n i₀ area i =
-    (i + 1 ≤ 2 * left) × (3 * n + 2 * left ≤ length area₀) × Vector (m .p) n (part 0 n area₀)
-    × Iterated (m .p) (matrix starts columns values) (getD (projections (m .p) n words) (u .index) []) area₀ i (regionAt n i) area
+Inv-loop m starts columns values words u area₀ left n done₀ area done =
+    (done .made + 1 ≤ 2 * left) × (3 * n + 2 * left ≤ length area₀) × Vector (m .p) n (part 0 n area₀)
+    × Iterated (m .p) (matrix starts columns values) (getD (projections (m .p) n words) (u .index) []) area₀ (done .made) (regionAt n (done .made)) area
+    × (done ≡ productsWith (done .made) (matrix starts columns values))
 
 abbrev μ-loop : tie.MeasureT-loop
-μ-loop m starts columns values words u area₀ left n i₀ area i = 2 * left - i
+μ-loop m starts columns values words u area₀ left n done₀ area done = 2 * left - done .made
 
 sub-n : tie.Need-sub-n Inv-loop μ-loop
 sub-n c = search needs
@@ -60,20 +63,21 @@ loop-holds c =
       omega (arith, first .same-length, pre .1 .1 .0),
       subst (λ l. Vector (a .m .p) n l) (sym (first .front)) (pre .1 .1 .1),
       iterated-from (sym (first .same-length)) (sym (first .front)) first,
+      products-none (matrix (now (a .starts)) (now (a .columns)) (now (a .values))),
     )
 
-add-loop : tie.Need-add-loop Inv-loop μ-loop
-add-loop c = omega (arith, c .loop .inv .0, c .before .before .before .before .before .before .before .before .before .before .pre .1 .0 .2)
+add-if1 : tie.Need-add-if1 Inv-loop μ-loop
+add-if1 c = omega (arith, c .before .loop .inv .0, c .before .before .before .before .before .before .before .before .before .before .before .pre .1 .0 .2)
 
-mul-loop : tie.Need-mul-loop Inv-loop μ-loop
-mul-loop c = omega (arith, c .before .before .before .before .before .before .before .before .before .before .pre .1 .0 .2)
+mul-if1 : tie.Need-mul-if1 Inv-loop μ-loop
+mul-if1 c = omega (arith, c .before .before .before .before .before .before .before .before .before .before .before .pre .1 .0 .2)
 
 advance-requires : tie.Need-advance-requires Inv-loop μ-loop
 advance-requires c κs =
-    let a = c .before .before .before .before .before .before .before .before .before .before .before .before .args in
-    let pre = c .before .before .before .before .before .before .before .before .before .before .before .before .pre in
+    let a = c .before .before .before .before .before .before .before .before .before .before .before .before .before .args in
+    let pre = c .before .before .before .before .before .before .before .before .before .before .before .before .before .pre in
     let A = matrix (now (a .starts)) (now (a .columns)) (now (a .values)) in
-    let loop = c .before .before .loop in
+    let loop = c .before .before .before .loop in
     let n = length (now (a .starts)) - 1 in (
       pre .0,
       (
@@ -81,18 +85,18 @@ advance-requires c κs =
         record {
           seat = loop .inv .3 .seat;
           room = omega (arith, loop .inv .1, loop .inv .3 .same-length);
-          elements = rw (loop .inv .3 .holds) (vector-power (a .m .p) A (loop .i) _ (pre .0 .positive) (loop .inv .2));
+          elements = rw (loop .inv .3 .holds) (vector-power (a .m .p) A (loop .done .made) _ (pre .0 .positive) (loop .inv .2));
         },
-        omega (arith, loop .inv .0, pre .1 .0 .2),
+        products-few (pre .0) (omega (arith, loop .inv .0, pre .1 .0 .2)) (loop .inv .4),
       ),
     )
 
 term-requires-2 : tie.Need-term-requires-2 Inv-loop μ-loop
 term-requires-2 c κs =
-    let a = c .before .before .before .before .before .before .before .before .before .before .before .before .before .before .before .before .args in
-    let pre = c .before .before .before .before .before .before .before .before .before .before .before .before .before .before .before .before .pre in
+    let a = c .before .before .before .before .before .before .before .before .before .before .before .before .before .before .before .before .before .args in
+    let pre = c .before .before .before .before .before .before .before .before .before .before .before .before .before .before .before .before .before .pre in
     let A = matrix (now (a .starts)) (now (a .columns)) (now (a .values)) in
-    let loop = c .before .before .before .before .before .before .loop in
+    let loop = c .before .before .before .before .before .before .before .loop in
     let n = length (now (a .starts)) - 1 in
     let next = c .before .before .before .advance .ensures in
     let low = seat-low (next .1 .seat) in
@@ -102,35 +106,43 @@ term-requires-2 c κs =
       (
         omega (arith, low, long, held, loop .inv .1),
         omega (arith, long, held, loop .inv .1),
-        omega (arith, next .0, c .before .before .before .before .before .loop-test .taken),
-        rw (next .1 .holds) (vector-step (a .m .p) A 0 (part 0 n (loop .area)) (part (regionAt n (loop .i)) n (loop .area)) (pre .0 .positive)),
+        omega (arith, ap (λ (x : Products). x .made) (next .0), c .before .before .before .before .before .if1 .taken),
+        rw (next .1 .holds) (vector-step (a .m .p) A 0 (part 0 n (loop .area)) (part (regionAt n (loop .done .made)) n (loop .area)) (pre .0 .positive)),
       ),
     )
 
+-- the products after one more
+counted : (c : tie.After-advance Inv-loop μ-loop) → c .advance .result .made ≡ c .before .before .before .before .loop .done .made + 1
+counted c = ap (λ (x : Products). x .made) (c .advance .ensures .0)
+
 loop-less : tie.Need-loop-less Inv-loop μ-loop
-loop-less c = omega (arith, c .before .before .before .before .before .before .before .before .loop-test .taken, c .before .before .before .before .before .before .advance .ensures .0)
+loop-less c = omega (arith, c .before .before .before .before .before .before .before .before .if1 .taken, counted (c .before .before .before .before .before .before))
 
 loop-again : tie.Need-loop-again Inv-loop μ-loop
 loop-again c =
-    let loop = c .before .before .before .before .before .before .before .before .before .loop in
-    let test = c .before .before .before .before .before .before .before .before .loop-test .taken in
-    let next = c .before .before .before .before .before .before .advance in (
-      omega (arith, test, next .ensures .0),
+    let a = c .before .before .before .before .before .before .before .before .before .before .before .before .before .before .before .before .before .before .before .before .args in
+    let loop = c .before .before .before .before .before .before .before .before .before .before .loop in
+    let test = c .before .before .before .before .before .before .before .before .if1 .taken in
+    let next = c .before .before .before .before .before .before .advance in
+    let one = counted (c .before .before .before .before .before .before) in (
+      omega (arith, test, one),
       loop .inv .1,
       loop .inv .2,
-      rw (c .before .before .term2 .ensures) (iterated-more (next .result) _ (next .ensures .0) (loop .inv .3) (next .ensures .1) (omega (arith, test, next .ensures .0, loop .inv .1)) refl),
+      rw (c .before .before .term2 .ensures) (iterated-more (next .result .made) _ one (loop .inv .3) (next .ensures .1) (omega (arith, test, one, loop .inv .1)) refl),
+      products-next (matrix (now (a .starts)) (now (a .columns)) (now (a .values))) (loop .inv .4) (next .ensures .0),
     )
 
 same-length : tie.Need-same-length Inv-loop μ-loop
-same-length c = c .before .loop .inv .3 .same-length ∙ begun (c .before .before .before .before) .same-length
+same-length c = c .before .before .loop .inv .3 .same-length ∙ begun (c .before .before .before .before .before) .same-length
 
 returns : tie.Need-returns Inv-loop μ-loop
 returns c =
-    let a = c .before .before .before .before .before .before .before .before .before .before .before .args in
-    let loop = c .before .loop in
-    let first = begun (c .before .before .before .before) in (
-      omega (arith, loop .inv .0, c .loop-test .left),
-      iterated-all (a .left) (omega (arith, loop .inv .0, c .loop-test .left)) (omega (arith, c .before .before .before .before .before .before .before .before .before .before .before .pre .1 .1 .0))
+    let a = c .before .before .before .before .before .before .before .before .before .before .before .before .args in
+    let loop = c .before .before .loop in
+    let first = begun (c .before .before .before .before .before) in
+    let all : loop .done .made ≡ 2 * a .left - 1 = omega (arith, loop .inv .0, c .if1 .left) in (
+      loop .inv .4 ∙ ap {B = Products} (λ k. productsWith k (matrix (now (a .starts)) (now (a .columns)) (now (a .values)))) all,
+      iterated-all (a .left) (omega (arith, loop .inv .0, c .if1 .left)) (omega (arith, c .before .before .before .before .before .before .before .before .before .before .before .before .pre .1 .1 .0))
           (iterated-from (first .same-length) (first .front) (loop .inv .3)),
     )
 
@@ -143,8 +155,8 @@ terms-spec =
     sub-n
     term-requires
     loop-holds
-    add-loop
-    mul-loop
+    add-if1
+    mul-if1
     advance-requires
     term-requires-2
     loop-less
