@@ -3,10 +3,9 @@
 --     added                  some products and some more
 --     products-none, products-add, products-next      .. with A; one more
 --     Few, products-few      what keeps a sum of two within 64 bits: up to 65,536 products each; so it is of those with a valid matrix
---     InRows A i from m      m entries are multiplied in the first i rows, and the next row begins at `from`
---     rows-none, rows-next, rows-all      none; one row more; all rows are one product
+--     rows-ended, product-ended, row-behind      a loop over all rows is one product, which goes from the first row's start to the last one's end
 use mathlib.Core.Path.{_≡_, refl, sym, ap, ap₂, _∙_}
-use Prim.Native.Nat.{ℕ, zero, suc, _+_, _*_, _≤_, _<_}
+use Prim.Native.Nat.{ℕ, zero, suc, _+_, _-_, _*_, _≤_, _<_}
 use native.Mathlib.Numerals.{add-one}
 use native.Mathlib.Omega.{arith}
 use lib.ListN.{length}
@@ -55,27 +54,17 @@ products-few {p} {A} {k} {a} h l e =
       multiplied-low = omega (arith, ap (λ (x : Products). x .multiplied) e, multiplied-most A 65536 k (per-product-low h));
     }
 
--- ---- the rows of one product
+-- ---- one product
 
-pub record InRows (A : Matrix) (i from m : ℕ) : Type 0 where
-  pub counted : m ≡ sum i (rowEntries A)
-  pub low : m ≤ from
-
-pub rows-none : (A : Matrix) (from : ℕ) → InRows A 0 from 0
-rows-none A from = record { counted = sym (sum-zero (rowEntries A)); low = omega arith }
-
-pub rows-next : {A : Matrix} {i from to m r : ℕ} → InRows A i from m → from ≡ at (A .starts) i → to ≡ at (A .starts) (i + 1)
-    → r ≡ m + sumFrom from to (λ k. 1) → r ≤ to → InRows A (i + 1) to r
-rows-next {A} {i} {from} {to} {m} {r} h here next e l =
-    record {
-      counted =
-          e ∙ ap₂ _+_ (h .counted) (ap₂ (λ a b. sumFrom a b (λ k. 1)) here next) ∙ sym (ap (λ k. sum k (rowEntries A)) (add-one i) ∙ sum-suc i (rowEntries A));
-      low = l;
-    }
-
-pub rows-all : {A : Matrix} {i from m : ℕ} → InRows A i from m → i ≡ size A → m ≡ multiplied 1 A
+pub rows-ended : {p : ℕ} {A : Matrix} {i end r : ℕ} → Valid p A → i ≡ size A → end ≡ at (A .starts) i → r ≡ end - at (A .starts) 0 → r ≡ multiplied 1 A
 unfolding perProduct
-rows-all {A} h e = h .counted ∙ ap (λ k. sum k (rowEntries A)) e ∙ sym (multiplied-one A)
+rows-ended {p} {A} {i} {end} {r} h e from f =
+    omega (arith, f, from, ap (at (A .starts)) e, rows-entries A (h .rise) (size A) (omega arith), multiplied-one A)
 
-pub rows-product : {A : Matrix} {i from m : ℕ} → InRows A i from m → i ≡ size A → _≡_ {A = Products} (record { made = 1; multiplied = m }) (productsWith 1 A)
-rows-product h e = ap {B = Products} (λ m. record { made = 1; multiplied = m }) (rows-all h e)
+pub product-ended : {p : ℕ} {A : Matrix} {i end r : ℕ} → Valid p A → i ≡ size A → end ≡ at (A .starts) i → r ≡ end - at (A .starts) 0
+    → _≡_ {A = Products} (record { made = 1; multiplied = r }) (productsWith 1 A)
+product-ended h e from f = ap {B = Products} (λ m. record { made = 1; multiplied = m }) (rows-ended h e from f)
+
+-- no row ends before the first begins
+pub row-behind : {p : ℕ} {A : Matrix} {i end : ℕ} → Valid p A → i ≤ size A → end ≡ at (A .starts) i → at (A .starts) 0 ≤ end
+row-behind {p} {A} {i} h l from = omega (arith, from, rows-entries A (h .rise) i l)

@@ -9,7 +9,7 @@ ghost use mathlib.Core.List.{[]};
 ghost use Prim.Native.Nat.{_+_, _-_, _≤_, _<_};
 ghost use lib.Dec.{leb};
 ghost use lib.ListN.{length};
-ghost use Rattle.meaning.specs.List.{at, sumFrom, all, allFrom, every};
+ghost use Rattle.meaning.specs.List.{at, all, allFrom, every};
 ghost use Rattle.meaning.specs.Matrix.{matrix};
 ghost use Rattle.meaning.specs.Refusal.{wordsTaken, first, elements, sizeTaken, startsTaken, columnsTaken, valueTaken, matrixChecks};
 ghost use Rattle.meaning.specs.Calls.{systemChecks, productRefusal, applyRefusal, takesRefusal, recurrenceRefusal, solverRefusal};
@@ -37,12 +37,12 @@ pub fn wide(x: u32) -> usize
     x as usize
 }
 
-// The entries multiplied in some rows and in the next one, which has those from `from` up to but not including `to`.
-pub fn with_row(multiplied: u64, from: usize, to: usize) -> u64
-    requires { ⌜ (multiplied ≤ from) × (from ≤ to) ⌝ }
-    ensures { λ r. ⌜ (r ≡ multiplied + sumFrom from to (λ k. 1)) × (r ≤ to) ⌝ }
+// How many entries a loop over the rows has gone through that stands where a row ended: by the rows' bounds, so that no row pays for it.
+pub fn entries_to(starts: &[u32], end: usize) -> u64
+    requires { ⌜ (0 < length (now starts)) × (at (now starts) 0 ≤ end) ⌝ }
+    ensures { λ r. ⌜ r ≡ end - at (now (starts .entry)) 0 ⌝ }
 {
-    multiplied + (to - from) as u64
+    (end - wide(starts[0])) as u64
 }
 
 impl Products {

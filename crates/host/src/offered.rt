@@ -25,11 +25,14 @@ fn numbers_of(offered: Offered) -> Yes
         → r ≡ yesOf number answer (unlessRefused number (multiplied 1 A) 0)) ⌝ }
 {
     match offered {
-        Offered::Answer(answer, multiplied) => Yes {
-            refusal: 0,
-            yes: answer as u32,
-            multiplied,
-        },
+        Offered::Answer(answer, multiplied) => {
+            let yes = answer as u32;
+            Yes {
+                refusal: 0,
+                yes,
+                multiplied,
+            }
+        }
         Offered::Refused(refusal) => Yes {
             refusal,
             yes: 0,

@@ -12,9 +12,9 @@ ghost use Rattle.modular.specs.Modulus.{Modular};
 ghost use Rattle.transposed.specs.Transposed.{scattered};
 use checks::Products;
 use checks::Writing;
+use checks::entries_to;
 use checks::product_refusal;
 use checks::wide;
-use checks::with_row;
 use field::Field;
 use modular::modulus::Modulus;
 use modular::multiplier::Multiplier;
@@ -61,19 +61,17 @@ fn transposed_into(
         ≡ transposed (m .p) (matrix (now (starts .entry)) (now (columns .entry)) (now (values .entry))) (now (v .entry))) ⌝ }
 {
     clear(out);
-    let mut multiplied = 0;
     let mut from = wide(starts[0]);
     let mut i = 0;
     while i < v.len() {
         let to = wide(starts[i + 1]);
         scatter(m, i, from, to, columns, values, v, out);
-        multiplied = with_row(multiplied, from, to);
         from = to;
         i += 1;
     }
     Products {
         made: 1,
-        multiplied,
+        multiplied: entries_to(starts, from),
     }
 }
 

@@ -20,9 +20,9 @@ ghost use Rattle.checks.specs.Products.{productsWith};
 use checks::Products;
 use checks::Writing;
 use checks::apply_refusal;
+use checks::entries_to;
 use checks::product_refusal;
 use checks::wide;
-use checks::with_row;
 use field::Field;
 use modular::modulus::Modulus;
 use modular::multiplier::Multiplier;
@@ -122,19 +122,17 @@ pub(crate) fn step(
         ≡ step (m .p) (matrix (now (starts .entry)) (now (columns .entry)) (now (values .entry))) c (now (x .entry)) (now (v .entry))) ⌝ }
 {
     let rows = starts.len() - 1;
-    let mut multiplied = 0;
     let mut from = wide(starts[0]);
     let mut i = 0;
     while i < rows {
         let to = wide(starts[i + 1]);
         out[i] = row(times(c, x[i]), from, to, columns, values, v).residue(m);
-        multiplied = with_row(multiplied, from, to);
         from = to;
         i += 1;
     }
     Products {
         made: 1,
-        multiplied,
+        multiplied: entries_to(starts, from),
     }
 }
 
@@ -161,20 +159,18 @@ pub(crate) fn step_within(
 {
     let n = starts.len() - 1;
     let end = source + n;
-    let mut multiplied = 0;
     let mut from = wide(starts[0]);
     let mut i = 0;
     while i < n {
         let to = wide(starts[i + 1]);
         let start = times(c, work[origin + i]);
         work[target + i] = row(start, from, to, columns, values, &work[source..end]).residue(m);
-        multiplied = with_row(multiplied, from, to);
         from = to;
         i += 1;
     }
     Products {
         made: 1,
-        multiplied,
+        multiplied: entries_to(starts, from),
     }
 }
 

@@ -1,10 +1,10 @@
 // Two checks of a vector that anyone offers: does A take x to b, and is w not zero and taken to zero. Neither needs the solver. A check makes one whole
 // product, whatever the vector is and wherever it fails.
 use crate::matrix::row;
+use checks::entries_to;
 use checks::system_refusal;
 use checks::takes_refusal;
 use checks::wide;
-use checks::with_row;
 use field::Field;
 use modular::modulus::Modulus;
 use slices::element;
@@ -51,18 +51,19 @@ fn agrees(
 {
     let n = starts.len() - 1;
     let mut equal = true;
-    let mut multiplied = 0;
     let mut from = wide(starts[0]);
     let mut i = 0;
     while i < n {
         let to = wide(starts[i + 1]);
         let sum = row(0, from, to, columns, values, x);
         equal = equal & (sum.residue(m) == element(b, i));
-        multiplied = with_row(multiplied, from, to);
         from = to;
         i += 1;
     }
-    Compared { equal, multiplied }
+    Compared {
+        equal,
+        multiplied: entries_to(starts, from),
+    }
 }
 
 // A takes w to zero.

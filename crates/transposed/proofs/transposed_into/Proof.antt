@@ -5,7 +5,7 @@ use lib.ListN.{length, getD}
 use denote.Ref.{now}
 use Rattle.meaning.specs.List.{zeros}
 use Rattle.meaning.specs.Matrix.{matrix}
-use Rattle.checks.specs.Products.{InRows, rows-none, rows-next, rows-product}
+use Rattle.checks.specs.Products.{product-ended, row-behind}
 use Rattle.checks.specs.Valid.{Vector, row-bounds}
 use Rattle.transposed.specs.Transposed.{gathered, gathered-none, gathered-next, gathered-all, vector-gathered}
 use borrow.Author.Needs.{needs}
@@ -13,12 +13,11 @@ use Rattle.transposed.proofs.transposed_into.Statement.{statement}
 use Rattle.transposed.proofs.transposed_into.Tie as tie
 
 abbrev Inv-loop : tie.InvT-loop
-Inv-loop m starts columns values v out₀ multiplied₀ from₀ i₀ out multiplied from i =
+Inv-loop m starts columns values v out₀ from₀ i₀ out from i =
     (i ≤ length v) × (from ≡ getD starts i 0) × (out ≡ gathered (m .p) (matrix starts columns values) v i)
-    × InRows (matrix starts columns values) i from multiplied
 
 abbrev μ-loop : tie.MeasureT-loop
-μ-loop m starts columns values v out₀ multiplied₀ from₀ i₀ out multiplied from i = length v - i
+μ-loop m starts columns values v out₀ from₀ i₀ out from i = length v - i
 
 vector : (c : tie.At-loop Inv-loop μ-loop)
     → let at = c .before .before .before .before .before .before .before .before .before .before .before .before .args in
@@ -50,7 +49,6 @@ loop-holds c =
       omega arith,
       c .wide .ensures .0,
       cleared .ensures ∙ ap zeros (start .pre .1 .0) ∙ gathered-none (at .m .p) (matrix (now (at .starts)) (now (at .columns)) (now (at .values))) (now (at .v)),
-      rows-none (matrix (now (at .starts)) (now (at .columns)) (now (at .values))) (c .wide .result),
     )
 
 add-wide : tie.Need-add-wide Inv-loop μ-loop
@@ -88,44 +86,42 @@ scatter-requires c κs =
       λ k l. omega (arith, known .column k l, before .places),
     )
 
-with-row-requires : tie.Need-with-row-requires Inv-loop μ-loop
-with-row-requires c κs =
-    let start = c .before .before .before .before .before .before .before .before .before .before .before .before .before .before .before .before .before .before .before in
-    let at = start .args in
-    let loop = c .before .before .before .before .before .before .before .loop in
-    let to = c .before .before .before .before .wide2 in
-    (loop .inv .3 .low, row-bounds (matrix (now (at .starts)) (now (at .columns)) (now (at .values))) (loop .i) (loop .from) (to .result) (loop .inv .1) (to .ensures .0) (start .pre .0 .0) (inside (c .before .before .before .before .before .before)) .0)
-
 add-i : tie.Need-add-i Inv-loop μ-loop
-add-i c = omega (arith, inside (c .before .before .before .before .before .before .before), c .before .before .before .before .before .before .before .before .before .before .before .before .before .before .before .before .before .before .before .before .pre .0 .0 .sized)
+add-i c = omega (arith, inside (c .before .before .before .before .before .before), c .before .before .before .before .before .before .before .before .before .before .before .before .before .before .before .before .before .before .before .pre .0 .0 .sized)
 
 loop-less : tie.Need-loop-less Inv-loop μ-loop
-loop-less c = omega (arith, c .before .before .before .before .before .before .before .loop-test .taken)
+loop-less c = omega (arith, c .before .before .before .before .before .before .loop-test .taken)
 
 loop-again : tie.Need-loop-again Inv-loop μ-loop
 loop-again c =
-    let at = c .before .before .before .before .before .before .before .before .before .before .before .before .before .before .before .before .before .before .before .before .args in
-    let loop = c .before .before .before .before .before .before .before .before .loop in
-    let to = c .before .before .before .before .before .wide2 in
-    let made = c .before .before .before .scatter in (
-      omega (arith, c .before .before .before .before .before .before .before .loop-test .taken),
+    let at = c .before .before .before .before .before .before .before .before .before .before .before .before .before .before .before .before .before .before .before .args in
+    let loop = c .before .before .before .before .before .before .before .loop in
+    let to = c .before .before .before .before .wide2 in
+    let made = c .before .before .scatter in (
+      omega (arith, c .before .before .before .before .before .before .loop-test .taken),
       to .ensures .0,
       gathered-next (at .m .p) (matrix (now (at .starts)) (now (at .columns)) (now (at .values))) (now (at .v)) (loop .i) (loop .from) (to .result) (loop .out) (made .last .1 .1 .1 .1 .1 .1 .1 .0) (loop .inv .1)
           (to .ensures .0) (loop .inv .2) (made .ensures),
-      rows-next (loop .inv .3) (loop .inv .1) (to .ensures .0) (c .with-row .ensures .0) (c .with-row .ensures .1),
     )
 
+entries-to-requires : tie.Need-entries-to-requires Inv-loop μ-loop
+entries-to-requires c κs =
+    let start = c .before .before .before .before .before .before .before .before .before .before .before .before .before in
+    let loop = c .before .loop in
+    let valid = start .pre .0 .0 in
+    (omega (arith, valid .one-more), row-behind valid (omega (arith, loop .inv .0, start .pre .1 .1 .places)) (loop .inv .1))
+
 same-length : tie.Need-same-length Inv-loop μ-loop
-same-length c = vector (c .before) .places ∙ sym (c .before .before .before .before .before .before .before .before .before .before .before .before .before .pre .1 .0)
+same-length c = vector (c .before .before) .places ∙ sym (c .before .before .before .before .before .before .before .before .before .before .before .before .before .before .pre .1 .0)
 
 returns : tie.Need-returns Inv-loop μ-loop
 returns c =
-    let start = c .before .before .before .before .before .before .before .before .before .before .before .before .before in
+    let start = c .before .before .before .before .before .before .before .before .before .before .before .before .before .before in
     let at = start .args in
     let A = matrix (now (at .starts)) (now (at .columns)) (now (at .values)) in
-    let loop = c .before .loop in
-    let end : loop .i ≡ length (now (at .starts)) - 1 = omega (arith, loop .inv .0, c .loop-test .left, start .pre .1 .1 .places) in
-    (rows-product (loop .inv .3) end, loop .inv .2 ∙ ap (gathered (at .m .p) A (now (at .v))) end ∙ gathered-all (at .m .p) A (now (at .v)))
+    let loop = c .before .before .loop in
+    let end : loop .i ≡ length (now (at .starts)) - 1 = omega (arith, loop .inv .0, c .before .loop-test .left, start .pre .1 .1 .places) in
+    (product-ended (start .pre .0 .0) end (loop .inv .1) (c .entries-to .ensures), loop .inv .2 ∙ ap (gathered (at .m .p) A (now (at .v))) end ∙ gathered-all (at .m .p) A (now (at .v)))
 
 pub transposed-into-spec : {M : Type 1} → statement M
 transposed-into-spec =
@@ -142,9 +138,9 @@ transposed-into-spec =
     shared-slice-read-wide-2
     wide-requires-2
     scatter-requires
-    with-row-requires
     add-i
     loop-less
     loop-again
+    entries-to-requires
     same-length
     returns)

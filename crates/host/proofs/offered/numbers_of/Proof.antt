@@ -18,8 +18,8 @@ one-or-none false = refl
 enum-known-offered : tie.Need-enum-known-offered
 enum-known-offered c = search needs
 
-cast-t6 : tie.Need-cast-t6
-cast-t6 c = search needs
+cast-yes : tie.Need-cast-yes
+cast-yes c = search needs
 
 enum-known-offered-2 : tie.Need-enum-known-offered-2
 enum-known-offered-2 c = search needs
@@ -42,4 +42,4 @@ returns-2 c number answer A s =
 
 pub numbers-of-spec : {M : Type 1} → statement M
 numbers-of-spec =
-    tie.close (tie.spec enum-known-offered cast-t6 enum-known-offered-2 returns returns-2)
+    tie.close (tie.spec enum-known-offered cast-yes enum-known-offered-2 returns returns-2)

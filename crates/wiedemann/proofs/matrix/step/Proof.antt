@@ -4,7 +4,7 @@ use native.Mathlib.Omega.{arith}
 use lib.ListN.{length, getD}
 use denote.Ref.{now}
 use Rattle.meaning.specs.Matrix.{matrix}
-use Rattle.checks.specs.Products.{InRows, rows-none, rows-next, rows-product}
+use Rattle.checks.specs.Products.{product-ended, row-behind}
 use Rattle.checks.specs.Valid.{valid-entries}
 use Rattle.laws.specs.Written.{Written, written-none, written-all}
 use Rattle.laws.specs.Part.{written-next, written-table}
@@ -16,12 +16,11 @@ use Rattle.wiedemann.proofs.matrix.step.Statement.{statement}
 use Rattle.wiedemann.proofs.matrix.step.Tie as tie
 
 abbrev Inv-loop : tie.InvT-loop
-Inv-loop m c x starts columns values v out₀ rows multiplied₀ from₀ i₀ out multiplied from i =
+Inv-loop m c x starts columns values v out₀ rows from₀ i₀ out from i =
     (i ≤ rows) × (from ≡ getD starts i 0) × Written out₀ 0 i (stepAt (m .p) (matrix starts columns values) c x v) out
-    × InRows (matrix starts columns values) i from multiplied
 
 abbrev μ-loop : tie.MeasureT-loop
-μ-loop m c x starts columns values v out₀ rows multiplied₀ from₀ i₀ out multiplied from i = rows - i
+μ-loop m c x starts columns values v out₀ rows from₀ i₀ out from i = rows - i
 
 sub-rows : tie.Need-sub-rows Inv-loop μ-loop
 sub-rows c = omega (arith, c .before .before .before .before .before .before .pre .0 .one-more)
@@ -38,7 +37,6 @@ loop-holds c =
       omega arith,
       c .wide .ensures .0,
       written-none (now (at .out)) 0 (stepAt (at .m .p) (matrix (now (at .starts)) (now (at .columns)) (now (at .values))) (at .c) (now (at .x)) (now (at .v))),
-      rows-none (matrix (now (at .starts)) (now (at .columns)) (now (at .values))) (c .wide .result),
     )
 
 add-wide : tie.Need-add-wide Inv-loop μ-loop
@@ -81,50 +79,48 @@ mul-out c = omega (arith, c .before .before .before .before .before .before .loo
 slice-write-out : tie.Need-slice-write-out Inv-loop μ-loop
 slice-write-out c = omega (arith, c .before .before .before .before .before .before .loop-test .taken, c .before .before .before .before .before .before .before .before .before .before .before .before .before .before .before .before .pre .1 .1, c .before .before .before .before .before .before .before .loop .inv .2 .same-length)
 
-with-row-requires : tie.Need-with-row-requires Inv-loop μ-loop
-with-row-requires c κs =
-    let start = c .before .before .before .before .before .before .before .before .before .before .before .before .before .before .before .before in
-    let at = start .args in
-    let loop = c .before .before .before .before .before .before .before .loop in
-    let to = c .before .before .before .before .wide2 in
-    (loop .inv .3 .low, row-bounds (matrix (now (at .starts)) (now (at .columns)) (now (at .values))) (loop .i) (loop .from) (to .result) (loop .inv .1) (to .ensures .0) (start .pre .0) (omega (arith, c .before .before .before .before .before .before .loop-test .taken)) .0)
-
 add-i : tie.Need-add-i Inv-loop μ-loop
-add-i c = omega (arith, c .before .before .before .before .before .before .before .loop-test .taken, c .before .before .before .before .before .before .before .before .before .before .before .before .before .before .before .before .before .pre .0 .sized)
+add-i c = omega (arith, c .before .before .before .before .before .before .loop-test .taken, c .before .before .before .before .before .before .before .before .before .before .before .before .before .before .before .before .pre .0 .sized)
 
 loop-less : tie.Need-loop-less Inv-loop μ-loop
-loop-less c = omega (arith, c .before .before .before .before .before .before .before .loop-test .taken)
+loop-less c = omega (arith, c .before .before .before .before .before .before .loop-test .taken)
 
 loop-again : tie.Need-loop-again Inv-loop μ-loop
 loop-again c =
-    let start = c .before .before .before .before .before .before .before .before .before .before .before .before .before .before .before .before .before in
+    let start = c .before .before .before .before .before .before .before .before .before .before .before .before .before .before .before .before in
     let at = start .args in
     let A = matrix (now (at .starts)) (now (at .columns)) (now (at .values)) in
-    let loop = c .before .before .before .before .before .before .before .before .loop in
-    let test = c .before .before .before .before .before .before .before .loop-test .taken in
-    let to = c .before .before .before .before .before .wide2 in
-    let begun = c .before .before .before .times in
-    let sum = c .before .before .row in (
+    let loop = c .before .before .before .before .before .before .before .loop in
+    let test = c .before .before .before .before .before .before .loop-test .taken in
+    let to = c .before .before .before .before .wide2 in
+    let begun = c .before .before .times in
+    let sum = c .before .row in (
       omega (arith, test),
       to .ensures .0,
-      written-next (c .before .residue .result) (loop .inv .2) (omega (arith, test, start .pre .1 .1))
+      written-next (c .residue .result) (loop .inv .2) (omega (arith, test, start .pre .1 .1))
           (row-reduced A (loop .i) (loop .from) (to .result) (loop .inv .1) (to .ensures .0) (at .m .p) (begun .result)
-          (at .c * getD (now (at .x)) (loop .i) 0) (c .before .residue .result) (now (at .v)) (now (at .v)) (sum .result) (begun .ensures) refl
-          (sum .ensures .0) (c .before .residue .ensures ∙ residue-number (at .m) (sum .result) (start .pre .1 .0) (omega (arith, sum .ok)) (sum .ensures .1))),
-      rows-next (loop .inv .3) (loop .inv .1) (to .ensures .0) (c .with-row .ensures .0) (c .with-row .ensures .1),
+          (at .c * getD (now (at .x)) (loop .i) 0) (c .residue .result) (now (at .v)) (now (at .v)) (sum .result) (begun .ensures) refl
+          (sum .ensures .0) (c .residue .ensures ∙ residue-number (at .m) (sum .result) (start .pre .1 .0) (omega (arith, sum .ok)) (sum .ensures .1))),
     )
 
+entries-to-requires : tie.Need-entries-to-requires Inv-loop μ-loop
+entries-to-requires c κs =
+    let start = c .before .before .before .before .before .before .before .before .before .before in
+    let loop = c .before .loop in
+    let valid = start .pre .0 in
+    (omega (arith, valid .one-more), row-behind valid (omega (arith, loop .inv .0)) (loop .inv .1))
+
 same-length : tie.Need-same-length Inv-loop μ-loop
-same-length c = c .before .loop .inv .2 .same-length
+same-length c = c .before .before .loop .inv .2 .same-length
 
 returns : tie.Need-returns Inv-loop μ-loop
 returns c =
-    let start = c .before .before .before .before .before .before .before .before .before .before in
+    let start = c .before .before .before .before .before .before .before .before .before .before .before in
     let at = start .args in
-    let loop = c .before .loop in
+    let loop = c .before .before .loop in
     let A = matrix (now (at .starts)) (now (at .columns)) (now (at .values)) in
-    let end : loop .i ≡ length (now (at .starts)) - 1 = omega (arith, loop .inv .0, c .loop-test .left) in (
-      rows-product (loop .inv .3) end,
+    let end : loop .i ≡ length (now (at .starts)) - 1 = omega (arith, loop .inv .0, c .before .loop-test .left) in (
+      product-ended (start .pre .0) end (loop .inv .1) (c .entries-to .ensures),
       written-table (now (at .out)) (length (now (at .starts)) - 1) (stepAt (at .m .p) A (at .c) (now (at .x)) (now (at .v))) (loop .out)
           (start .pre .1 .1) (written-all end (loop .inv .2))
           ∙ sym (table-step (at .m .p) A (at .c) (now (at .x)) (now (at .v))),
@@ -151,9 +147,9 @@ step-spec =
     residue-requires
     mul-out
     slice-write-out
-    with-row-requires
     add-i
     loop-less
     loop-again
+    entries-to-requires
     same-length
     returns)

@@ -1,11 +1,11 @@
-use mathlib.Core.Path.{_≡_, refl, sym, ap, _∙_, subst}
+use mathlib.Core.Path.{_≡_, sym, ap, _∙_, subst}
 use Prim.Native.Nat.{_+_, _-_, _*_, _≤_}
 use native.Mathlib.Nat.{add-sub-cancel-left, le-add-right}
 use native.Mathlib.Omega.{arith}
 use lib.ListN.{length, getD}
 use denote.Ref.{now}
 use Rattle.meaning.specs.Matrix.{matrix}
-use Rattle.checks.specs.Products.{InRows, rows-none, rows-next, rows-product}
+use Rattle.checks.specs.Products.{product-ended, row-behind}
 use Rattle.checks.specs.Valid.{Entries, valid-entries}
 use Rattle.laws.specs.Written.{Written, written-none, written-more, written-all}
 use Rattle.laws.specs.Part.{part, apart-shorter, at-part, written-other-at, written-other}
@@ -18,13 +18,12 @@ use Rattle.wiedemann.proofs.matrix.step_within.Statement.{statement}
 use Rattle.wiedemann.proofs.matrix.step_within.Tie as tie
 
 abbrev Inv-loop : tie.InvT-loop
-Inv-loop m c starts columns values work₀ origin source target n end multiplied₀ from₀ i₀ work multiplied from i =
+Inv-loop m c starts columns values work₀ origin source target n end from₀ i₀ work from i =
     (i ≤ n) × (from ≡ getD starts i 0)
     × Written work₀ target i (stepAt (m .p) (matrix starts columns values) c (part origin n work₀) (part source n work₀)) work
-    × InRows (matrix starts columns values) i from multiplied
 
 abbrev μ-loop : tie.MeasureT-loop
-μ-loop m c starts columns values work₀ origin source target n end multiplied₀ from₀ i₀ work multiplied from i = n - i
+μ-loop m c starts columns values work₀ origin source target n end from₀ i₀ work from i = n - i
 
 -- what was written leaves the part that is read
 source-kept : (c : tie.At-loop Inv-loop μ-loop)
@@ -60,7 +59,6 @@ loop-holds c =
       omega arith,
       c .wide .ensures .0,
       written-none W (at .target) (stepAt (at .m .p) (matrix (now (at .starts)) (now (at .columns)) (now (at .values))) (at .c) (part (at .origin) n W) (part (at .source) n W)),
-      rows-none (matrix (now (at .starts)) (now (at .columns)) (now (at .values))) (c .wide .result),
     )
 
 add-wide : tie.Need-add-wide Inv-loop μ-loop
@@ -128,32 +126,24 @@ mul-work c = omega (arith, c .before .before .before .before .before .before .be
 slice-write-work : tie.Need-slice-write-work Inv-loop μ-loop
 slice-write-work c = omega (arith, c .before .before .before .before .before .before .before .before .loop-test .taken, c .before .before .before .before .before .before .before .before .before .before .before .before .before .before .before .before .pre .1 .1 .target-fits, c .before .before .before .before .before .before .before .before .before .loop .inv .2 .same-length)
 
-with-row-requires : tie.Need-with-row-requires Inv-loop μ-loop
-with-row-requires c κs =
-    let start = c .before .before .before .before .before .before .before .before .before .before .before .before .before .before .before .before in
-    let at = start .args in
-    let loop = c .before .before .before .before .before .before .before .before .before .loop in
-    let to = c .before .before .before .before .before .before .wide2 in
-    (loop .inv .3 .low, row-bounds (matrix (now (at .starts)) (now (at .columns)) (now (at .values))) (loop .i) (loop .from) (to .result) (loop .inv .1) (to .ensures .0) (start .pre .0) (omega (arith, c .before .before .before .before .before .before .before .before .loop-test .taken)) .0)
-
 add-i : tie.Need-add-i Inv-loop μ-loop
-add-i c = omega (arith, c .before .before .before .before .before .before .before .before .before .loop-test .taken, c .before .before .before .before .before .before .before .before .before .before .before .before .before .before .before .before .before .pre .0 .sized)
+add-i c = omega (arith, c .before .before .before .before .before .before .before .before .loop-test .taken, c .before .before .before .before .before .before .before .before .before .before .before .before .before .before .before .before .pre .0 .sized)
 
 loop-less : tie.Need-loop-less Inv-loop μ-loop
-loop-less c = omega (arith, c .before .before .before .before .before .before .before .before .before .loop-test .taken)
+loop-less c = omega (arith, c .before .before .before .before .before .before .before .before .loop-test .taken)
 
 loop-again : tie.Need-loop-again Inv-loop μ-loop
 loop-again c =
-    let start = c .before .before .before .before .before .before .before .before .before .before .before .before .before .before .before .before .before in
+    let start = c .before .before .before .before .before .before .before .before .before .before .before .before .before .before .before .before in
     let at = start .args in
     let A = matrix (now (at .starts)) (now (at .columns)) (now (at .values)) in
     let n = length (now (at .starts)) - 1 in
     let known = start .pre .1 .1 in
-    let loop = c .before .before .before .before .before .before .before .before .before .before .loop in
-    let test = c .before .before .before .before .before .before .before .before .before .loop-test .taken in
-    let to = c .before .before .before .before .before .before .before .wide2 in
-    let begun = c .before .before .before .before .before .times in
-    let sum = c .before .before .row in
+    let loop = c .before .before .before .before .before .before .before .before .before .loop in
+    let test = c .before .before .before .before .before .before .before .before .loop-test .taken in
+    let to = c .before .before .before .before .before .before .wide2 in
+    let begun = c .before .before .before .before .times in
+    let sum = c .before .row in
     let W = now (at .work) in
     let i = loop .i in
     let f = stepAt (at .m .p) A (at .c) (part (at .origin) n W) (part (at .source) n W) in
@@ -162,22 +152,29 @@ loop-again c =
     ∙ sym (at-part (at .origin) n W i test) in (
       omega (arith, test),
       to .ensures .0,
-      written-more {f = f} (c .before .residue .result) (loop .inv .2) (omega (arith, test, known .target-fits))
+      written-more {f = f} (c .residue .result) (loop .inv .2) (omega (arith, test, known .target-fits))
           (row-reduced A i (loop .from) (to .result) (loop .inv .1) (to .ensures .0) (at .m .p) (begun .result)
-          (at .c * getD (part (at .origin) n W) i 0) (c .before .residue .result) (part (at .source) (at .source + n - at .source) (loop .work))
-          (part (at .source) n W) (sum .result) (begun .ensures ∙ ap (λ y. at .c * y) element) (source-kept (c .before .before .before .before .before .before .before .before .before .before))
-          (sum .ensures .0) (c .before .residue .ensures ∙ residue-number (at .m) (sum .result) (start .pre .1 .0) (omega (arith, sum .ok)) (sum .ensures .1))),
-      rows-next (loop .inv .3) (loop .inv .1) (to .ensures .0) (c .with-row .ensures .0) (c .with-row .ensures .1),
+          (at .c * getD (part (at .origin) n W) i 0) (c .residue .result) (part (at .source) (at .source + n - at .source) (loop .work))
+          (part (at .source) n W) (sum .result) (begun .ensures ∙ ap (λ y. at .c * y) element) (source-kept (c .before .before .before .before .before .before .before .before .before))
+          (sum .ensures .0) (c .residue .ensures ∙ residue-number (at .m) (sum .result) (start .pre .1 .0) (omega (arith, sum .ok)) (sum .ensures .1))),
     )
 
+entries-to-requires : tie.Need-entries-to-requires Inv-loop μ-loop
+entries-to-requires c κs =
+    let start = c .before .before .before .before .before .before .before .before in
+    let loop = c .before .loop in
+    let valid = start .pre .0 in
+    (omega (arith, valid .one-more), row-behind valid (omega (arith, loop .inv .0)) (loop .inv .1))
+
 same-length : tie.Need-same-length Inv-loop μ-loop
-same-length c = c .before .loop .inv .2 .same-length
+same-length c = c .before .before .loop .inv .2 .same-length
 
 returns : tie.Need-returns Inv-loop μ-loop
 returns c =
-    let loop = c .before .loop in
-    let end : loop .i ≡ length (now (c .before .before .before .before .before .before .before .before .args .starts)) - 1 = omega (arith, loop .inv .0, c .loop-test .left) in
-    (rows-product (loop .inv .3) end, written-all end (loop .inv .2))
+    let start = c .before .before .before .before .before .before .before .before .before in
+    let loop = c .before .before .loop in
+    let end : loop .i ≡ length (now (start .args .starts)) - 1 = omega (arith, loop .inv .0, c .before .loop-test .left) in
+    (product-ended (start .pre .0) end (loop .inv .1) (c .entries-to .ensures), written-all end (loop .inv .2))
 
 pub step-within-spec : {M : Type 1} → statement M
 step-within-spec =
@@ -207,9 +204,9 @@ step-within-spec =
     add-work
     mul-work
     slice-write-work
-    with-row-requires
     add-i
     loop-less
     loop-again
+    entries-to-requires
     same-length
     returns)

@@ -10,7 +10,7 @@ use denote.Ref.{now}
 use Rattle.meaning.specs.List.{all}
 use Rattle.meaning.specs.Matrix.{Matrix, matrix, product}
 use Rattle.laws.specs.List.{all-zero}
-use Rattle.checks.specs.Products.{InRows, rows-none, rows-next, rows-all}
+use Rattle.checks.specs.Products.{rows-ended, row-behind}
 use Rattle.checks.specs.Valid.{rowProduct, valid-entries}
 use Rattle.checks.specs.Matrix.{all-more}
 use Rattle.wiedemann.specs.Horner.{at-product, row-reduced}
@@ -24,12 +24,11 @@ abbrev agreement : ℕ → Matrix → List ℕ → List ℕ → ℕ → Bool
 agreement p A x b i = eqb (getD (product p A x) i 0) (getD b i 0)
 
 abbrev Inv-loop : tie.InvT-loop
-Inv-loop m starts columns values x b n equal₀ multiplied₀ from₀ i₀ equal multiplied from i =
+Inv-loop m starts columns values x b n equal₀ from₀ i₀ equal from i =
     (i ≤ n) × (from ≡ getD starts i 0) × (equal ≡ all i (agreement (m .p) (matrix starts columns values) x b))
-    × InRows (matrix starts columns values) i from multiplied
 
 abbrev μ-loop : tie.MeasureT-loop
-μ-loop m starts columns values x b n equal₀ multiplied₀ from₀ i₀ equal multiplied from i = n - i
+μ-loop m starts columns values x b n equal₀ from₀ i₀ equal from i = n - i
 
 -- the test of row i
 here : (c : tie.After-element Inv-loop μ-loop)
@@ -64,7 +63,7 @@ loop-holds : tie.Need-loop-holds Inv-loop μ-loop
 loop-holds c =
     let at = c .before .before .before .before .before .before .before .args in
     let A = matrix (now (at .starts)) (now (at .columns)) (now (at .values)) in
-    (omega arith, c .wide .ensures .0, sym (all-zero (agreement (at .m .p) A (now (at .x)) (now (at .b)))), rows-none A (c .wide .result))
+    (omega arith, c .wide .ensures .0, sym (all-zero (agreement (at .m .p) A (now (at .x)) (now (at .b)))))
 
 add-wide : tie.Need-add-wide Inv-loop μ-loop
 add-wide c = omega (arith, c .loop-test .taken, c .before .before .before .before .before .before .before .before .before .pre .0 .sized)
@@ -93,37 +92,35 @@ residue-requires c κs = search needs
 element-requires : tie.Need-element-requires Inv-loop μ-loop
 element-requires c κs = search needs
 
-with-row-requires : tie.Need-with-row-requires Inv-loop μ-loop
-with-row-requires c κs =
-    let start = c .before .before .before .before .before .before .before .before .before .before .before .before .before .before in
-    let at = start .args in
-    let loop = c .before .before .before .before .before .before .loop in
-    let to = c .before .before .before .wide2 in
-    (loop .inv .3 .low, row-bounds (matrix (now (at .starts)) (now (at .columns)) (now (at .values))) (loop .i) (loop .from) (to .result) (loop .inv .1) (to .ensures .0) (start .pre .0) (c .before .before .before .before .before .loop-test .taken) .0)
-
 add-i : tie.Need-add-i Inv-loop μ-loop
-add-i c = omega (arith, c .before .before .before .before .before .before .loop-test .taken, c .before .before .before .before .before .before .before .before .before .before .before .before .before .before .before .pre .0 .sized)
+add-i c = omega (arith, c .before .before .before .before .before .loop-test .taken, c .before .before .before .before .before .before .before .before .before .before .before .before .before .before .pre .0 .sized)
 
 loop-less : tie.Need-loop-less Inv-loop μ-loop
-loop-less c = omega (arith, c .before .before .before .before .before .before .loop-test .taken)
+loop-less c = omega (arith, c .before .before .before .before .before .loop-test .taken)
 
 loop-again : tie.Need-loop-again Inv-loop μ-loop
 loop-again c =
-    let at = c .before .before .before .before .before .before .before .before .before .before .before .before .before .before .before .args in
-    let loop = c .before .before .before .before .before .before .before .loop in
-    let to = c .before .before .before .before .wide2 in (
-      omega (arith, c .before .before .before .before .before .before .loop-test .taken),
+    let at = c .before .before .before .before .before .before .before .before .before .before .before .before .before .before .args in
+    let loop = c .before .before .before .before .before .before .loop in
+    let to = c .before .before .before .wide2 in (
+      omega (arith, c .before .before .before .before .before .loop-test .taken),
       to .ensures .0,
-      ap₂ _&&_ (loop .inv .2) (sym (here (c .before))) ∙ sym (all-more (loop .i) (agreement (at .m .p) (matrix (now (at .starts)) (now (at .columns)) (now (at .values))) (now (at .x)) (now (at .b)))),
-      rows-next (loop .inv .3) (loop .inv .1) (to .ensures .0) (c .with-row .ensures .0) (c .with-row .ensures .1),
+      ap₂ _&&_ (loop .inv .2) (sym (here (c))) ∙ sym (all-more (loop .i) (agreement (at .m .p) (matrix (now (at .starts)) (now (at .columns)) (now (at .values))) (now (at .x)) (now (at .b)))),
     )
+
+entries-to-requires : tie.Need-entries-to-requires Inv-loop μ-loop
+entries-to-requires c κs =
+    let start = c .before .before .before .before .before .before .before .before .before in
+    let loop = c .before .loop in
+    let valid = start .pre .0 in
+    (omega (arith, valid .one-more), row-behind valid (omega (arith, loop .inv .0)) (loop .inv .1))
 
 returns : tie.Need-returns Inv-loop μ-loop
 returns c =
-    let at = c .before .before .before .before .before .before .before .before .before .args in
-    let loop = c .before .loop in
-    let end : loop .i ≡ length (now (at .starts)) - 1 = omega (arith, loop .inv .0, c .loop-test .left) in
-    (rows-all (loop .inv .3) end, loop .inv .2 ∙ ap (λ k. all k (agreement (at .m .p) (matrix (now (at .starts)) (now (at .columns)) (now (at .values))) (now (at .x)) (now (at .b)))) end)
+    let at = c .before .before .before .before .before .before .before .before .before .before .args in
+    let loop = c .before .before .loop in
+    let end : loop .i ≡ length (now (at .starts)) - 1 = omega (arith, loop .inv .0, c .before .loop-test .left) in
+    (rows-ended (c .before .before .before .before .before .before .before .before .before .before .pre .0) end (loop .inv .1) (c .entries-to .ensures), loop .inv .2 ∙ ap (λ k. all k (agreement (at .m .p) (matrix (now (at .starts)) (now (at .columns)) (now (at .values))) (now (at .x)) (now (at .b)))) end)
 
 pub agrees-spec : {M : Type 1} → statement M
 agrees-spec =
@@ -142,8 +139,8 @@ agrees-spec =
     row-requires
     residue-requires
     element-requires
-    with-row-requires
     add-i
     loop-less
     loop-again
+    entries-to-requires
     returns)
