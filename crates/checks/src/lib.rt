@@ -15,7 +15,6 @@ ghost use Rattle.meaning.specs.Refusal.{wordsTaken, first, elements, sizeTaken,
 ghost use Rattle.meaning.specs.Calls.{systemChecks, productRefusal, applyRefusal, takesRefusal, recurrenceRefusal, solverRefusal};
 ghost use Rattle.checks.specs.Pass.{residualAt, stateChecks, passRefusal};
 ghost use Rattle.checks.specs.Matrix.{columnTaken, rises, Ordered};
-ghost use Rattle.checks.specs.Products.{Few, added};
 
 // Products with a matrix: how many were made, and how many of its entries they multiplied.
 pub struct Products {
@@ -35,27 +34,6 @@ pub fn wide(x: u32) -> usize
     ensures { λ r. ⌜ (r ≡ x) × (r ≤ 4294967295) ⌝ }
 {
     x as usize
-}
-
-// How many entries a loop over the rows has gone through that stands where a row ended: by the rows' bounds, so that no row pays for it.
-pub fn entries_to(starts: &[u32], end: usize) -> u64
-    requires { ⌜ (0 < length (now starts)) × (at (now starts) 0 ≤ end) ⌝ }
-    ensures { λ r. ⌜ r ≡ end - at (now (starts .entry)) 0 ⌝ }
-{
-    (end - wide(starts[0])) as u64
-}
-
-impl Products {
-    // Some products and some more.
-    pub fn and(self, more: Products) -> Self
-        requires { ⌜ Few self × Few more ⌝ }
-        ensures { λ r. ⌜ r ≡ added self more ⌝ }
-    {
-        Products {
-            made: self.made + more.made,
-            multiplied: self.multiplied + more.multiplied,
-        }
-    }
 }
 
 // 4: the size, 0 to 4,096, and some starts.

@@ -6,7 +6,7 @@ use wiedemann::offered::takes;
 ghost use mathlib.Core.Path.{_≡_};
 ghost use mathlib.Core.Bool.{Bool};
 ghost use Prim.Native.Nat.{ℕ};
-ghost use Rattle.meaning.specs.Matrix.{Matrix, matrix, multiplied};
+ghost use Rattle.meaning.specs.Matrix.{Matrix, matrix, entryCount, multiplied};
 ghost use Rattle.meaning.specs.Refusal.{unlessRefused};
 ghost use Rattle.meaning.specs.Calls.{takesRefusal, takesAnswer, takesCount, isNullRefusal, isNullAnswer, isNullCount};
 ghost use Rattle.wiedemann.specs.Answers.{Decides};
@@ -53,6 +53,7 @@ pub extern "C" fn filzeur_takes(
     ensures { λ r. ⌜ r ≡ yesOf (takesRefusal p (matrix (now (starts .entry)) (now (columns .entry)) (now (values .entry))) (now (x .entry))
         (now (b .entry))) (takesAnswer p (matrix (now (starts .entry)) (now (columns .entry)) (now (values .entry))) (now (x .entry)) (now (b .entry)))
         (takesCount p (matrix (now (starts .entry)) (now (columns .entry)) (now (values .entry))) (now (x .entry)) (now (b .entry))) ⌝ }
+    ensures { λ r. ⌜ r .multiplied ≡ unlessRefused (r .refusal) (entryCount (matrix (now (starts .entry)) (now (columns .entry)) (now (values .entry)))) 0 ⌝ }
 {
     numbers_of(takes(Field { p }, starts, columns, values, x, b))
 }
@@ -68,6 +69,7 @@ pub extern "C" fn filzeur_is_null(
     ensures { λ r. ⌜ r ≡ yesOf (isNullRefusal p (matrix (now (starts .entry)) (now (columns .entry)) (now (values .entry))) (now (w .entry)))
         (isNullAnswer p (matrix (now (starts .entry)) (now (columns .entry)) (now (values .entry))) (now (w .entry)))
         (isNullCount p (matrix (now (starts .entry)) (now (columns .entry)) (now (values .entry))) (now (w .entry))) ⌝ }
+    ensures { λ r. ⌜ r .multiplied ≡ unlessRefused (r .refusal) (entryCount (matrix (now (starts .entry)) (now (columns .entry)) (now (values .entry)))) 0 ⌝ }
 {
     numbers_of(is_null(Field { p }, starts, columns, values, w))
 }

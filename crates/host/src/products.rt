@@ -6,8 +6,9 @@ use wiedemann::matrix::apply;
 use wiedemann::matrix::product;
 ghost use mathlib.Core.Path.{_≡_};
 ghost use mathlib.Core.Logic.{_≢_};
-ghost use Prim.Native.Nat.{ℕ};
-ghost use Rattle.meaning.specs.Matrix.{Matrix, matrix, multiplied};
+ghost use Prim.Native.Nat.{ℕ, _-_, _*_};
+ghost use lib.ListN.{length};
+ghost use Rattle.meaning.specs.Matrix.{Matrix, matrix, entryCount, multiplied};
 ghost use Rattle.meaning.specs.Matrix as meaning;
 ghost use Rattle.meaning.specs.Calls.{productRefusal, productAfter, productCount, applyRefusal, applyAfter, applyCount};
 ghost use Rattle.meaning.specs.Refusal.{unlessRefused};
@@ -46,6 +47,7 @@ pub extern "C" fn filzeur_product(
 ) -> Written
     ensures { λ r. ⌜ r ≡ writtenOf (productRefusal p (matrix (now (starts .entry)) (now (columns .entry)) (now (values .entry))) (now (v .entry)) (now (out .entry)))
         (productCount p (matrix (now (starts .entry)) (now (columns .entry)) (now (values .entry))) (now (v .entry)) (now (out .entry))) ⌝ }
+    ensures { λ r. ⌜ r .multiplied ≡ unlessRefused (r .refusal) (entryCount (matrix (now (starts .entry)) (now (columns .entry)) (now (values .entry)))) 0 ⌝ }
     ensures { λ _. ⌜ now (out .exit) ≡ productAfter meaning.product p (matrix (now (starts .entry)) (now (columns .entry)) (now (values .entry))) (now (v .entry)) (now (out .entry)) ⌝ }
 {
     numbers_of(product(Field { p }, starts, columns, values, v, out))
@@ -62,6 +64,7 @@ pub extern "C" fn filzeur_transposed(
 ) -> Written
     ensures { λ r. ⌜ r ≡ writtenOf (productRefusal p (matrix (now (starts .entry)) (now (columns .entry)) (now (values .entry))) (now (v .entry)) (now (out .entry)))
         (productCount p (matrix (now (starts .entry)) (now (columns .entry)) (now (values .entry))) (now (v .entry)) (now (out .entry))) ⌝ }
+    ensures { λ r. ⌜ r .multiplied ≡ unlessRefused (r .refusal) (entryCount (matrix (now (starts .entry)) (now (columns .entry)) (now (values .entry)))) 0 ⌝ }
     ensures { λ _. ⌜ now (out .exit) ≡ productAfter meaning.transposed p (matrix (now (starts .entry)) (now (columns .entry)) (now (values .entry))) (now (v .entry)) (now (out .entry)) ⌝ }
 {
     numbers_of(transposed(Field { p }, starts, columns, values, v, out))
@@ -81,6 +84,8 @@ pub extern "C" fn filzeur_apply(
     ensures { λ r. ⌜ r ≡ writtenOf
         (applyRefusal p (matrix (now (starts .entry)) (now (columns .entry)) (now (values .entry))) (now (g .entry)) (now (v .entry)) (now (out .entry)) (now (work .entry)))
         (applyCount p (matrix (now (starts .entry)) (now (columns .entry)) (now (values .entry))) (now (g .entry)) (now (v .entry)) (now (out .entry)) (now (work .entry))) ⌝ }
+    ensures { λ r. ⌜ r .multiplied ≡ unlessRefused (r .refusal)
+        ((length (now (g .entry)) - 1) * entryCount (matrix (now (starts .entry)) (now (columns .entry)) (now (values .entry)))) 0 ⌝ }
     ensures { λ _. ⌜ now (out .exit) ≡ applyAfter p (matrix (now (starts .entry)) (now (columns .entry)) (now (values .entry))) (now (g .entry))
         (now (v .entry)) (now (out .entry)) (now (work .entry)) ⌝ }
     ensures { λ _. ⌜ (applyRefusal p (matrix (now (starts .entry)) (now (columns .entry)) (now (values .entry))) (now (g .entry)) (now (v .entry))

@@ -12,7 +12,6 @@ ghost use Rattle.modular.specs.Modulus.{Modular};
 ghost use Rattle.transposed.specs.Transposed.{scattered};
 use checks::Products;
 use checks::Writing;
-use checks::entries_to;
 use checks::product_refusal;
 use checks::wide;
 use field::Field;
@@ -69,9 +68,10 @@ fn transposed_into(
         from = to;
         i += 1;
     }
+    let multiplied = from - wide(starts[0]);
     Products {
         made: 1,
-        multiplied: entries_to(starts, from),
+        multiplied: multiplied as u64,
     }
 }
 

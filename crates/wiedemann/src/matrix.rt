@@ -16,11 +16,10 @@ ghost use Rattle.laws.specs.Written.{Written};
 ghost use Rattle.laws.specs.Part.{part};
 ghost use Rattle.wiedemann.specs.Region.{Regions};
 ghost use Rattle.checks.specs.Answers.{Writes};
-ghost use Rattle.checks.specs.Products.{productsWith};
+ghost use Rattle.checks.specs.Products.{productsWith, Few, added};
 use checks::Products;
 use checks::Writing;
 use checks::apply_refusal;
-use checks::entries_to;
 use checks::product_refusal;
 use checks::wide;
 use field::Field;
@@ -101,6 +100,26 @@ pub(crate) fn row(
     };
     let most = fours(total, from, middle, columns, values, v);
     ones(most, middle, to, columns, values, v)
+}
+
+// How many entries the rows have up to where one of them ends: what a loop over the rows has gone through there. It is taken from the rows' bounds, so
+// that no row pays for it.
+pub(crate) fn entries_to(starts: &[u32], end: usize) -> u64
+    requires { ⌜ (0 < length (now starts)) × (at (now starts) 0 ≤ end) ⌝ }
+    ensures { λ r. ⌜ r ≡ end - at (now (starts .entry)) 0 ⌝ }
+{
+    (end - wide(starts[0])) as u64
+}
+
+// Some products and some more.
+pub(crate) fn plus(done: Products, more: Products) -> Products
+    requires { ⌜ Few done × Few more ⌝ }
+    ensures { λ r. ⌜ r ≡ added done more ⌝ }
+{
+    Products {
+        made: done.made + more.made,
+        multiplied: done.multiplied + more.multiplied,
+    }
 }
 
 // Horner's step: c × x plus the product with v, into out. It is the product if c is 0. A row's end is the next row's start. The answer is one
@@ -218,9 +237,9 @@ pub(crate) fn horner(
     while 0 < i {
         i -= 1;
         if i % 2 == 0 {
-            done = done.and(step(m, g[i], v, starts, columns, values, work, out));
+            done = plus(done, step(m, g[i], v, starts, columns, values, work, out));
         } else {
-            done = done.and(step(m, g[i], v, starts, columns, values, out, work));
+            done = plus(done, step(m, g[i], v, starts, columns, values, out, work));
         }
     }
     done

@@ -1,7 +1,7 @@
 // Two checks of a vector that anyone offers: does A take x to b, and is w not zero and taken to zero. Neither needs the solver. A check makes one whole
 // product, whatever the vector is and wherever it fails.
+use crate::matrix::entries_to;
 use crate::matrix::row;
-use checks::entries_to;
 use checks::system_refusal;
 use checks::takes_refusal;
 use checks::wide;

@@ -16,6 +16,7 @@ ghost use Rattle.wiedemann.specs.Turns.{regionAt, Turning, Advanced, Seq
 ghost use Rattle.wiedemann.specs.Pass.{generatorAt, passed, Makes, Passes};
 ghost use Rattle.checks.specs.Pass.{State};
 ghost use Rattle.checks.specs.Products.{Few, added, productsWith};
+use crate::matrix::plus;
 use crate::matrix::step_within;
 use crate::projection::Projection;
 use crate::projection::projected;
@@ -75,7 +76,7 @@ fn advance(
         from,
         to,
     );
-    done.and(more)
+    plus(done, more)
 }
 
 // Term i of the 2 × left: the projection's dot product with the iterate Aⁱr.
@@ -206,7 +207,7 @@ fn take_factor(
     let first = terms(m, starts, columns, values, words, u, area, left);
     let t = recurrence_of_terms(m, area, 3 * n, 2 * left);
     let more = apply_within(m, starts, columns, values, area, 3 * n + (2 * left + 2), t);
-    let done = first.and(more);
+    let done = plus(first, more);
     Pass {
         left,
         degree: t,

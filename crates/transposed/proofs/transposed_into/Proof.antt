@@ -104,24 +104,29 @@ loop-again c =
           (to .ensures .0) (loop .inv .2) (made .ensures),
     )
 
-entries-to-requires : tie.Need-entries-to-requires Inv-loop μ-loop
-entries-to-requires c κs =
-    let start = c .before .before .before .before .before .before .before .before .before .before .before .before .before in
-    let loop = c .before .loop in
-    let valid = start .pre .0 .0 in
-    (omega (arith, valid .one-more), row-behind valid (omega (arith, loop .inv .0, start .pre .1 .1 .places)) (loop .inv .1))
+shared-slice-read-wide-3 : tie.Need-shared-slice-read-wide-3 Inv-loop μ-loop
+shared-slice-read-wide-3 c = omega (arith, c .before .before .before .before .before .before .before .before .before .before .before .before .before .before .pre .0 .0 .one-more)
+
+wide-requires-3 : tie.Need-wide-requires-3 Inv-loop μ-loop
+wide-requires-3 c κs = search needs
+
+sub-multiplied : tie.Need-sub-multiplied Inv-loop μ-loop
+sub-multiplied c =
+    let start = c .before .before .before .before .before .before .before .before .before .before .before .before .before .before .before in
+    let loop = c .before .before .before .loop in
+    omega (arith, row-behind (start .pre .0 .0) (omega (arith, loop .inv .0, start .pre .1 .1 .places)) (loop .inv .1), c .wide3 .ensures .0)
 
 same-length : tie.Need-same-length Inv-loop μ-loop
-same-length c = vector (c .before .before) .places ∙ sym (c .before .before .before .before .before .before .before .before .before .before .before .before .before .before .pre .1 .0)
+same-length c = vector (c .before .before .before) .places ∙ sym (c .before .before .before .before .before .before .before .before .before .before .before .before .before .before .before .pre .1 .0)
 
 returns : tie.Need-returns Inv-loop μ-loop
 returns c =
-    let start = c .before .before .before .before .before .before .before .before .before .before .before .before .before .before in
+    let start = c .before .before .before .before .before .before .before .before .before .before .before .before .before .before .before in
     let at = start .args in
     let A = matrix (now (at .starts)) (now (at .columns)) (now (at .values)) in
-    let loop = c .before .before .loop in
-    let end : loop .i ≡ length (now (at .starts)) - 1 = omega (arith, loop .inv .0, c .before .loop-test .left, start .pre .1 .1 .places) in
-    (product-ended (start .pre .0 .0) end (loop .inv .1) (c .entries-to .ensures), loop .inv .2 ∙ ap (gathered (at .m .p) A (now (at .v))) end ∙ gathered-all (at .m .p) A (now (at .v)))
+    let loop = c .before .before .before .loop in
+    let end : loop .i ≡ length (now (at .starts)) - 1 = omega (arith, loop .inv .0, c .before .before .loop-test .left, start .pre .1 .1 .places) in
+    (product-ended (start .pre .0 .0) end (loop .inv .1) (ap (λ k. loop .from - k) (c .wide3 .ensures .0)), loop .inv .2 ∙ ap (gathered (at .m .p) A (now (at .v))) end ∙ gathered-all (at .m .p) A (now (at .v)))
 
 pub transposed-into-spec : {M : Type 1} → statement M
 transposed-into-spec =
@@ -141,6 +146,8 @@ transposed-into-spec =
     add-i
     loop-less
     loop-again
-    entries-to-requires
+    shared-slice-read-wide-3
+    wide-requires-3
+    sub-multiplied
     same-length
     returns)

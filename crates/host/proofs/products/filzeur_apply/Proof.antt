@@ -1,3 +1,11 @@
+use mathlib.Core.Path.{_≡_, sym, subst}
+use denote.Ref.{now}
+use Prim.Native.Nat.{_-_, _*_}
+use lib.ListN.{length}
+use Rattle.meaning.specs.Matrix.{matrix, entryCount}
+use Rattle.meaning.specs.Refusal.{unlessRefused}
+use Rattle.laws.specs.Products.{apply-by-entry}
+use Rattle.host.specs.declared.products.Written.{Written}
 use borrow.Author.Needs.{needs}
 use Rattle.host.proofs.products.filzeur_apply.Statement.{statement}
 use Rattle.host.proofs.products.filzeur_apply.Tie as tie
@@ -15,7 +23,12 @@ same-length-2 : tie.Need-same-length-2
 same-length-2 c = search needs
 
 returns : tie.Need-returns
-returns c = (c .numbers-of .ensures _ _ _ (c .before .before .before .before .before .apply .ensures .0), c .before .before .before .before .before .apply .ensures .1)
+returns c =
+    let a = c .before .before .before .before .before .before .before .before .before .before .before .before .before .before .before .args in
+    let A = matrix (now (a .starts)) (now (a .columns)) (now (a .values)) in
+    let e = c .numbers-of .ensures _ _ _ (c .before .before .before .before .before .apply .ensures .0) in
+    let by-entry = subst (λ (x : Written). x .multiplied ≡ unlessRefused (x .refusal) ((length (now (a .g)) - 1) * entryCount A) 0) (sym e) (apply-by-entry (a .p) A (now (a .g)) (now (a .v)) (now (a .out)) (now (a .work))) in
+    (e, (by-entry, c .before .before .before .before .before .apply .ensures .1))
 
 pub filzeur-apply-spec : {M : Type 1} → statement M
 filzeur-apply-spec =

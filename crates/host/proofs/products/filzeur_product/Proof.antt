@@ -1,3 +1,9 @@
+use mathlib.Core.Path.{_≡_, sym, subst}
+use denote.Ref.{now}
+use Rattle.meaning.specs.Matrix.{matrix, entryCount}
+use Rattle.meaning.specs.Refusal.{unlessRefused}
+use Rattle.laws.specs.Products.{product-by-entry}
+use Rattle.host.specs.declared.products.Written.{Written}
 use borrow.Author.Needs.{needs}
 use Rattle.host.proofs.products.filzeur_product.Statement.{statement}
 use Rattle.host.proofs.products.filzeur_product.Tie as tie
@@ -12,7 +18,12 @@ same-length : tie.Need-same-length
 same-length c = search needs
 
 returns : tie.Need-returns
-returns c = (c .numbers-of .ensures _ _ _ (c .before .before .before .product .ensures .0), c .before .before .before .product .ensures .1)
+returns c =
+    let a = c .before .before .before .before .before .before .before .before .before .before .args in
+    let A = matrix (now (a .starts)) (now (a .columns)) (now (a .values)) in
+    let e = c .numbers-of .ensures _ _ _ (c .before .before .before .product .ensures .0) in
+    let by-entry = subst (λ (x : Written). x .multiplied ≡ unlessRefused (x .refusal) (entryCount A) 0) (sym e) (product-by-entry (a .p) A (now (a .v)) (now (a .out))) in
+    (e, (by-entry, c .before .before .before .product .ensures .1))
 
 pub filzeur-product-spec : {M : Type 1} → statement M
 filzeur-product-spec = tie.close (tie.spec product-requires numbers-of-requires same-length returns)

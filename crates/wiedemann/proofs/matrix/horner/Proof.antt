@@ -77,8 +77,8 @@ step-requires c κs =
     let loop = c .before .before .before .before .before .loop in
     (pre .0, (pre .1 .0, loop .inv .1 .out-places, pre .1 .3 .places, turn-work (pre .0) (loop .inv .1) (omega (arith, c .before .before .before .before .loop-test .taken)) (c .before .before .before .if2 .taken)))
 
-and-requires : tie.Need-and-requires Inv-loop μ-loop
-and-requires c κs =
+plus-requires : tie.Need-plus-requires Inv-loop μ-loop
+plus-requires c κs =
     let pre = c .before .before .before .before .before .before .before .before .before .before .before .before .before .before .before .before .before .pre in
     let loop = c .before .before .before .before .before .before .before .before .loop in
     (products-few (pre .0) (omega (arith, loop .inv .0, pre .1 .5)) (loop .inv .2), products-few (pre .0) (omega arith) (c .before .before .step .ensures .0))
@@ -93,7 +93,7 @@ loop-again c =
     let made = c .before .before .before .step .ensures in
     let a = c .before .before .before .before .before .before .before .before .before .before .before .before .before .before .before .before .before .before .args in
     let A = matrix (now (a .starts)) (now (a .columns)) (now (a .values)) in
-    let more : c .and .result ≡ added (loop .done) (productsWith 1 A) = c .and .ensures ∙ ap {B = Products} (added (loop .done)) (made .0) in (
+    let more : c .plus .result ≡ added (loop .done) (productsWith 1 A) = c .plus .ensures ∙ ap {B = Products} (added (loop .done)) (made .0) in (
       omega (arith, loop .inv .0, ap (λ (x : Products). x .made) more, test),
       turn-to-even (c .before .before .before .before .before .before .before .before .before .before .before .before .before .before .before .before .before .before .pre .0) (loop .inv .1) (omega (arith, test)) (c .before .before .before .before .before .before .before .if2 .taken) (made .1),
       products-next A (loop .inv .2) more,
@@ -112,8 +112,8 @@ step-requires-2 c κs =
     let loop = c .before .before .before .before .before .loop in
     (pre .0, (pre .1 .0, loop .inv .1 .work-places, pre .1 .3 .places, turn-out (pre .0) (loop .inv .1) (omega (arith, c .before .before .before .before .loop-test .taken)) (c .before .before .before .if2 .left)))
 
-and-requires-2 : tie.Need-and-requires-2 Inv-loop μ-loop
-and-requires-2 c κs =
+plus-requires-2 : tie.Need-plus-requires-2 Inv-loop μ-loop
+plus-requires-2 c κs =
     let pre = c .before .before .before .before .before .before .before .before .before .before .before .before .before .before .before .before .before .pre in
     let loop = c .before .before .before .before .before .before .before .before .loop in
     (products-few (pre .0) (omega (arith, loop .inv .0, pre .1 .5)) (loop .inv .2), products-few (pre .0) (omega arith) (c .before .before .step2 .ensures .0))
@@ -128,7 +128,7 @@ loop-again-2 c =
     let made = c .before .before .before .step2 .ensures in
     let a = c .before .before .before .before .before .before .before .before .before .before .before .before .before .before .before .before .before .before .args in
     let A = matrix (now (a .starts)) (now (a .columns)) (now (a .values)) in
-    let more : c .and2 .result ≡ added (loop .done) (productsWith 1 A) = c .and2 .ensures ∙ ap {B = Products} (added (loop .done)) (made .0) in (
+    let more : c .plus2 .result ≡ added (loop .done) (productsWith 1 A) = c .plus2 .ensures ∙ ap {B = Products} (added (loop .done)) (made .0) in (
       omega (arith, loop .inv .0, ap (λ (x : Products). x .made) more, test),
       turn-to-odd (c .before .before .before .before .before .before .before .before .before .before .before .before .before .before .before .before .before .before .pre .0) (loop .inv .1) (omega (arith, test)) (c .before .before .before .before .before .before .before .if2 .left) (made .1),
       products-next A (loop .inv .2) more,
@@ -170,13 +170,13 @@ horner-spec =
     mul-step
     shared-slice-read-step
     step-requires
-    and-requires
+    plus-requires
     loop-less
     loop-again
     mul-step-2
     shared-slice-read-step-2
     step-requires-2
-    and-requires-2
+    plus-requires-2
     loop-less-2
     loop-again-2
     same-length

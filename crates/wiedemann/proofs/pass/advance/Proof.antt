@@ -59,8 +59,8 @@ step-within-requires c κs =
     let t = turning (c .before) in
     (pre .0, (pre .1 .0, regions (3 * n - 0) (omega arith) (t .0) (t .1)))
 
-and-requires : tie.Need-and-requires
-and-requires c κs =
+plus-requires : tie.Need-plus-requires
+plus-requires c κs =
     let pre = c .before .before .before .before .before .before .before .before .before .before .before .pre in
     (pre .1 .2, products-few (pre .0) (omega arith) (c .before .before .step-within .ensures .0))
 
@@ -73,7 +73,7 @@ returns c =
     let n = length (now (a .starts)) - 1 in
     let made = c .before .before .before .step-within .ensures in
     let t = turning (c .before .before .before .before .before) in
-    let more : c .and .result ≡ added (a .done) (productsWith 1 (matrix (now (a .starts)) (now (a .columns)) (now (a .values)))) = c .and .ensures ∙ ap {B = Products} (added (a .done)) (made .0) in (
+    let more : c .plus .result ≡ added (a .done) (productsWith 1 (matrix (now (a .starts)) (now (a .columns)) (now (a .values)))) = c .plus .ensures ∙ ap {B = Products} (added (a .done)) (made .0) in (
       more,
       advanced-at (c .before .before .before .before .before .before .before .region .ensures) (c .before .before .before .before .before .region2 .ensures ∙ ap (λ (x : Products). regionAt n (x .made)) (sym more))
           (advanced (3 * n - 0) (omega arith) (t .0) (t .1) (made .1)),
@@ -93,6 +93,6 @@ advance-spec =
     part-step-within-start
     part-step-within-end
     step-within-requires
-    and-requires
+    plus-requires
     same-length
     returns)

@@ -80,8 +80,8 @@ apply-within-requires c κs =
       ),
     )
 
-and-requires : tie.Need-and-requires
-and-requires c κs =
+plus-requires : tie.Need-plus-requires
+plus-requires c κs =
     let pre = c .before .before .before .before .before .before .before .before .before .before .before .before .before .before .before .before .before .pre in
     let t = c .before .before .before .before .before .before .recurrence-of-terms .ensures .short in (
       products-few (pre .0 .0) (omega (arith, pre .1 .0 .2)) (c .before .before .before .before .before .before .before .before .before .before .terms .ensures .0),
@@ -101,7 +101,7 @@ returns c =
     let more = c .before .before .before .apply-within .ensures in
     let t = found .result in (
       ap {B = Pass} (λ (k : Products). record { left = a .left; degree = t; applications = k .made; multiplied = k .multiplied })
-          (c .and .ensures ∙ products-add A (2 * a .left - 1) t (2 * a .left - 1 + t) (first .0) (more .0) refl),
+          (c .plus .ensures ∙ products-add A (2 * a .left - 1) t (2 * a .left - 1 + t) (first .0) (more .0) refl),
       shortened (omega (arith, pre .1 .1 .0)) (first .1) (found .ensures) (more .1),
     )
 
@@ -119,6 +119,6 @@ take-factor-spec =
     add-apply-within
     add-apply-within-2
     apply-within-requires
-    and-requires
+    plus-requires
     same-length
     returns)
