@@ -2,16 +2,16 @@
 --     productsWith k A       k products with A
 --     added                  some products and some more
 --     products-none, products-add, products-next      .. with A; one more
---     Few, products-few      what keeps a sum of two within 64 bits: up to 65,536 products each; so it is of those with a valid matrix
+--     Few, products-few      what keeps a sum of two within 64 bits: up to 65,536 products each; so it is of those with a valid matrix,
+--     per-product-low        each of which multiplies at most 65,536 entries
 --     rows-ended, product-ended, row-behind      a loop over all rows is one product, which goes from the first row's start to the last one's end
 use mathlib.Core.Path.{_≡_, refl, sym, ap, ap₂, _∙_}
-use Prim.Native.Nat.{ℕ, zero, suc, _+_, _-_, _*_, _≤_, _<_}
+use Prim.Native.Nat.{ℕ, zero, suc, _+_, _-_, _≤_, _<_}
 use native.Mathlib.Numerals.{add-one}
 use native.Mathlib.Omega.{arith}
 use lib.ListN.{length}
-use Rattle.meaning.specs.List.{at, sum, sumFrom}
-use Rattle.meaning.specs.Matrix.{Matrix, size, rowEntries, perProduct, multiplied}
-use Rattle.laws.specs.List.{sum-zero, sum-suc}
+use Rattle.meaning.specs.List.{at}
+use Rattle.meaning.specs.Matrix.{Matrix, size, perProduct, multiplied}
 use Rattle.laws.specs.Products.{multiplied-none, multiplied-one, multiplied-add, multiplied-most, rows-entries}
 use Rattle.checks.specs.declared.Products.{Products}
 use Rattle.checks.specs.Valid.{Valid}

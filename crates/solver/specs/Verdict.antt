@@ -1,11 +1,12 @@
 -- What each case of the solver's answer says, and what a call leaves.
---     Counted            D, the passes and the applications of an outcome
---     Says               "kind, D, the passes and the applications", or the refusal's number
---     Leaves             each lent slice afterwards, and the third condition of what was found
+--     Counted            D, the passes, the applications of an outcome and the entries that they multiplied
+--     Says               "kind, D, the passes and the applications", with request (iii)'s entries, or the refusal's number
+--     ByEntry            request (iii): the entries multiplied are applications × entries, and fit
+--     Leaves             each lent slice afterwards, and the third condition of what was found, with ByEntry
 --     Solves             the answer, and that
 --     same-answer, same-slices      two runs on one system, whatever their words and slices, agree in kind, vector and f, and leave the same
 --     kindOf, SameRun, same-run      .. and answer the same
---     closing            the counts at the end, with the products that it took
+--     closing, closing-none      the counts at the end, with the products that it took; none if D = 0
 --     Ends, Closed       what is made of F when r is zero
 --     constant, divisor, coefficients, taken-in      F[0], its inverse and G in the polynomial slice; G(A)b is not refused
 --     closed             so it is the meaning's `solve`

@@ -1,8 +1,8 @@
 // Sparse matrices: the product of a row, and what is made of it.
 ghost use mathlib.Core.Path.{_≡_};
 ghost use mathlib.Core.Logic.{_≢_};
-ghost use Prim.Native.Nat.{ℕ, _+_, _-_, _%_, _≤_, _<_};
-ghost use lib.ListN.{length, drop};
+ghost use Prim.Native.Nat.{_+_, _-_, _%_, _≤_, _<_};
+ghost use lib.ListN.{length};
 ghost use Rattle.meaning.specs.List.{at, sumFrom, table};
 ghost use Rattle.meaning.specs.Field.{times};
 ghost use Rattle.modular.specs.Modulus.{Modular};

@@ -1,6 +1,5 @@
 use mathlib.Core.Path.{refl}
 use native.Mathlib.Omega.{arith}
-use borrow.Author.Needs.{needs}
 use Rattle.solver.proofs.closed.Statement.{statement}
 use Rattle.solver.proofs.closed.Tie as tie
 

@@ -3,7 +3,6 @@ use Rattle.solver.specs.Verdict.{run-passed, closed, refused, taken}
 use Rattle.laws.specs.Accepted.{call-accepted}
 use Rattle.meaning.specs.Matrix.{matrix}
 use denote.Ref.{now}
-use Prim.Native.Nat.{_-_}
 use mathlib.Core.Path.{sym, _∙_}
 use borrow.Author.Needs.{needs}
 use Rattle.solver.proofs.solve.Statement.{statement}

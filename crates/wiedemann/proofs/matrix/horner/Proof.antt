@@ -8,7 +8,6 @@ use Rattle.meaning.specs.Matrix.{matrix, apply}
 use Rattle.checks.specs.declared.Products.{Products}
 use Rattle.checks.specs.Products.{productsWith, added, products-none, products-next, products-few}
 use Rattle.wiedemann.specs.Horner.{Turn, turn-even, turn-odd, turn-work, turn-out, turn-to-even, turn-to-odd}
-use borrow.Author.Needs.{needs}
 use Rattle.wiedemann.proofs.matrix.horner.Statement.{statement}
 use Rattle.wiedemann.proofs.matrix.horner.Tie as tie
 
