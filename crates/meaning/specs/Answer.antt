@@ -30,7 +30,7 @@ unfoldable pub answerText : Outcome → List ℕ
 answerText o =
     line
     (bytes "answer" ∷ kindWord (o .kind) ∷ decimal (o .degree) ∷ decimal (passCount o) ∷ decimal (applications o) ∷ decimal (o .multiplied) ∷ [])
-    ++ passLines 1 (o .passes) ++ line (bytes "close" ∷ decimal (closeCost o) ∷ [])
+    ++ passLines 1 (o .passes) ++ line (bytes "close" ∷ decimal (closeCost (o .degree)) ∷ [])
     ++ flat (table (o .degree + 1) (λ i. line (bytes "f" ∷ decimal i ∷ decimal (at (o .polynomial) i) ∷ [])))
     ++ flat (table (length (o .vector)) (λ i. line (vectorWord (o .kind) ∷ decimal (i + 1) ∷ decimal (at (o .vector) i) ∷ [])))
     ++ line (bytes "end" ∷ [])

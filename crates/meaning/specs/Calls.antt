@@ -59,6 +59,14 @@ productRefusal p A v out =
 abbrev pub productAfter : (ℕ → Matrix → List ℕ → List ℕ) → ℕ → Matrix → List ℕ → List ℕ → List ℕ
 productAfter f p A v out = unlessRefused (productRefusal p A v out) (f p A v) out
 
+-- .. and what both answer: one product
+abbrev pub productCount : ℕ → Matrix → List ℕ → List ℕ → ℕ
+productCount p A v out = unlessRefused (productRefusal p A v out) (multiplied 1 A) 0
+
+-- request (iii), of an accepted matrix: a product multiplies its entries, k products k times as many; proved with the checks
+abbrev pub EveryProduct : Type 0
+EveryProduct = (p : ℕ) (A : Matrix) → first (matrixChecks p A) ≡ 0 → (k : ℕ) → multiplied k A ≡ k * entryCount A
+
 unfoldable pub applyRefusal : ℕ → Matrix → List ℕ → List ℕ → List ℕ → List ℕ → ℕ
 applyRefusal p A g v out work =
     first
@@ -67,14 +75,6 @@ applyRefusal p A g v out work =
     ∷ check 9 (not (elements p g && elements p v))
     ∷ check 11 (not (eqb (length out) (size A) && leb (2 * size A) (length work)))
     ∷ []))
-
--- .. and what both answer: one product
-abbrev pub productCount : ℕ → Matrix → List ℕ → List ℕ → ℕ
-productCount p A v out = unlessRefused (productRefusal p A v out) (multiplied 1 A) 0
-
--- request (iii), of an accepted matrix: a product multiplies its entries, k products k times as many; proved with the checks
-abbrev pub EveryProduct : Type 0
-EveryProduct = (p : ℕ) (A : Matrix) → first (matrixChecks p A) ≡ 0 → (k : ℕ) → multiplied k A ≡ k * entryCount A
 
 abbrev pub applyAfter : ℕ → Matrix → List ℕ → List ℕ → List ℕ → List ℕ → List ℕ
 applyAfter p A g v out work = unlessRefused (applyRefusal p A g v out work) (apply p A g v) out

@@ -14,8 +14,8 @@
 --     Kind, Outcome          solved or singular; what a run ends with; request (iii): "the solver's result carries" the entries that its products multiplied
 --     passCount              "the passes", their number
 --     spent                  the applications of passes, summed
---     closeCost              what the end takes: "D − 1 for G(A)b where D is at least 1", else 0
---     applications           "one for each product with A": those of the passes and of the end
+--     closeCost D            what the end takes: "D − 1 for G(A)b where D is at least 1", else 0
+--     productsMade, applications      "one for each product with A": those of the passes and of the end; of an outcome
 --     charge, bill           request (i): a pass in numbers, "left, degree t, applications of that pass"; the passes in numbers, one after the other
 --     billed B qs            the slice that held B, with these numbers at its front, for as many passes as it has room for
 --     close                  "when r is zero, let G = (F − F[0]) / z .."
@@ -110,11 +110,14 @@ unfoldable pub spent : List Pass → ℕ
 spent [] = 0
 spent (q ∷ qs) = q .applications + spent qs
 
-abbrev pub closeCost : Outcome → ℕ
-closeCost o = o .degree - 1
+abbrev pub closeCost : ℕ → ℕ
+closeCost D = D - 1
+
+abbrev pub productsMade : List Pass → ℕ → ℕ
+productsMade qs D = spent qs + closeCost D
 
 abbrev pub applications : Outcome → ℕ
-applications o = spent (o .passes) + closeCost o
+applications o = productsMade (o .passes) (o .degree)
 
 abbrev pub charge : Pass → List ℕ
 charge q = q .left ∷ q .degree ∷ q .applications ∷ []
@@ -144,7 +147,7 @@ close p A b c =
       polynomial = c .factor;
       degree = c .found;
       passes = c .passes;
-      multiplied = multiplied (spent (c .passes) + (c .found - 1)) A;
+      multiplied = multiplied (productsMade (c .passes) (c .found)) A;
     }
 
 unfoldable pub solve : ℕ → Matrix → List ℕ → List ℕ → Outcome

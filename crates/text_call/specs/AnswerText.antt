@@ -92,7 +92,7 @@ module _ (o : Outcome) (B : List ℕ) (h : billLines B (passCount o) ≡ passLin
   unfolding answerText textOf elementLines
   by-kind k e =
       let numbers = decimal (o .degree) ∷ decimal (passCount o) ∷ decimal (applications o) ∷ decimal (o .multiplied) ∷ [] in
-      let closes = line (bytes "close" ∷ decimal (closeCost o) ∷ []) in
+      let closes = line (bytes "close" ∷ decimal (closeCost (o .degree)) ∷ []) in
       let rest : Kind → List ℕ = λ j. flat (table (length (o .vector)) (elementLine (vectorWord j) 1 (o .vector))) in
       ap (λ j. line (bytes "answer" ∷ kindWord j ∷ numbers) ++ passLines 1 (o .passes) ++ closes ++ flat (table (o .degree + 1) (λ i. line (bytes "f" ∷ decimal i ∷ decimal (at (o .polynomial) i) ∷ []))) ++ rest j ++ line (bytes "end" ∷ [])) e
       ∙ ap₂ (λ a q. a ++ q ++ closes ++ flat (table (o .degree + 1) (λ i. line (bytes "f" ∷ decimal i ∷ decimal (at (o .polynomial) i) ∷ []))) ++ rest k ++ line (bytes "end" ∷ [])) (sym (line-two-words (bytes "answer") (kindWord k) numbers)) (sym h)

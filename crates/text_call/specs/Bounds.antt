@@ -178,7 +178,7 @@ module _ (o : Outcome) where
   passes = passLines 1 (o .passes)
 
   abbrev closes : List ℕ
-  closes = line (bytes "close" ∷ decimal (closeCost o) ∷ [])
+  closes = line (bytes "close" ∷ decimal (closeCost (o .degree)) ∷ [])
 
   length-answer : length (answerText o) ≡ length head + length passes + length closes + length powers + length places + 4
   unfolding answerText bytes
@@ -239,9 +239,9 @@ module _ (o : Outcome) where
         let closes-short : length closes ≤ 10 =
         omega (
           arith,
-          length-line-more (bytes "close") (decimal (closeCost o)) [],
-          length-line-last (decimal (closeCost o)),
-          decimal-short 2 (closeCost o) (omega arith),
+          length-line-more (bytes "close") (decimal (closeCost (o .degree))) [],
+          length-line-last (decimal (closeCost (o .degree))),
+          decimal-short 2 (closeCost (o .degree)) (omega arith),
         ) in
         omega (
           arith,

@@ -130,7 +130,7 @@ module _ (o : Outcome) where
   head = bytes "answer" ∷ kindWord (o .kind) ∷ map decimal (o .degree ∷ passCount o ∷ applications o ∷ o .multiplied ∷ [])
 
   abbrev closes : List (List ℕ)
-  closes = bytes "close" ∷ decimal (closeCost o) ∷ []
+  closes = bytes "close" ∷ decimal (closeCost (o .degree)) ∷ []
 
   module _ {w : List ℕ} {i : ℕ} where
     head-adds : Adds w i (line head) (cond (equal (bytes "answer") w) (valueOf (getD head i [])) 0)
@@ -142,7 +142,7 @@ module _ (o : Outcome) where
         (every-more (free 10) (bytes "answer") vs (plain-answer .1) (every-more (free 10) (kindWord (o .kind)) (map decimal ks) (plain-kind (o .kind) .1) (decimals-free 10 ks (omega arith))))
 
     closes-adds : Adds w i (line closes) (cond (equal (bytes "close") w) (valueOf (getD closes i [])) 0)
-    closes-adds = adds-numbers (bytes "close") (closeCost o ∷ []) plain-close
+    closes-adds = adds-numbers (bytes "close") (closeCost (o .degree) ∷ []) plain-close
 
   -- the sum by what the first line, the `pass` lines and the `close` line add
   whole : (w : List ℕ) (i a b c : ℕ) → equal [] w ≡ false → equal (bytes "f") w ≡ false → equal (vectorWord (o .kind)) w ≡ false → equal (bytes "end") w ≡ false
@@ -172,11 +172,11 @@ module _ (o : Outcome) where
   of-passes =
       whole (bytes "pass") 4 0 (spent (o .passes)) 0 refl refl (silent (o .kind) .1) refl head-adds (spent-lines 1 (o .passes)) closes-adds ∙ omega arith
 
-  of-close : total (bytes "close") 1 (lineFields (answerText o)) ≡ closeCost o
+  of-close : total (bytes "close") 1 (lineFields (answerText o)) ≡ closeCost (o .degree)
   unfolding bytes equal
   of-close =
-      whole (bytes "close") 1 0 0 (closeCost o) refl refl (silent (o .kind) .2) refl head-adds (other-passes refl 1 (o .passes))
-      (adds-as closes-adds refl (value-decimal (closeCost o)))
+      whole (bytes "close") 1 0 0 (closeCost (o .degree)) refl refl (silent (o .kind) .2) refl head-adds (other-passes refl 1 (o .passes))
+      (adds-as closes-adds refl (value-decimal (closeCost (o .degree))))
       ∙ omega arith
 
   pub answer-adds-up : AddsUp (answerText o)
