@@ -149,7 +149,11 @@ slice-read-constant c = search needs
 closed-requires : tie.Need-closed-requires
 closed-requires c κs =
     let pre = c .before .before .before .before .before .before .before .before .before .before .before .before .before .before .before .before .before .before .before .before .before .before .before .before .before .pre in
-    (pre .1 .0 .few, products-few (pre .0 .valid) (omega (arith, pre .1 .0 .found, pre .0 .valid .sized)) (image (c .before .before .before .before .before .before) .0))
+    let counts = pre .1 .0 .few in
+    let done = products-few (pre .0 .valid) (omega (arith, pre .1 .0 .found, pre .0 .valid .sized)) (image (c .before .before .before .before .before .before) .0) in (
+      record { applications-low = omega (arith, counts .applications-low, pre .0 .accepted .size-b, pre .0 .valid .sized); multiplied-low = omega (arith, counts .multiplied-low) },
+      record { made-low = omega (arith, done .made-low); multiplied-low = omega (arith, done .multiplied-low) },
+    )
 
 same-length-4 : tie.Need-same-length-4
 same-length-4 c = search needs
@@ -195,7 +199,11 @@ divide-requires c κs =
 closed-requires-2 : tie.Need-closed-requires-2
 closed-requires-2 c κs =
     let pre = c .before .before .before .before .before .before .before .before .before .before .before .before .before .before .before .before .before .before .before .before .before .before .before .before .before .before .before .before .before .before .pre in
-    (pre .1 .0 .few, products-few (pre .0 .valid) (omega (arith, pre .1 .0 .found, pre .0 .valid .sized)) (image (c .before .before .before .before .before .before .before .before .before .before .before) .0))
+    let counts = pre .1 .0 .few in
+    let done = products-few (pre .0 .valid) (omega (arith, pre .1 .0 .found, pre .0 .valid .sized)) (image (c .before .before .before .before .before .before .before .before .before .before .before) .0) in (
+      record { applications-low = omega (arith, counts .applications-low, pre .0 .accepted .size-b, pre .0 .valid .sized); multiplied-low = omega (arith, counts .multiplied-low) },
+      record { made-low = omega (arith, done .made-low); multiplied-low = omega (arith, done .multiplied-low) },
+    )
 
 same-length-7 : tie.Need-same-length-7
 same-length-7 c = search needs

@@ -80,7 +80,10 @@ plus-requires : tie.Need-plus-requires Inv-loop μ-loop
 plus-requires c κs =
     let pre = c .before .before .before .before .before .before .before .before .before .before .before .before .before .before .before .before .before .pre in
     let loop = c .before .before .before .before .before .before .before .before .loop in
-    (products-few (pre .0) (omega (arith, loop .inv .0, pre .1 .5)) (loop .inv .2), products-few (pre .0) (omega arith) (c .before .before .step .ensures .0))
+    let done = products-few (pre .0) (omega (arith, loop .inv .0, pre .1 .5)) (loop .inv .2) in (
+      record { made-low = omega (arith, done .made-low); multiplied-low = omega (arith, done .multiplied-low) },
+      products-few (pre .0) (omega arith) (c .before .before .step .ensures .0),
+    )
 
 loop-less : tie.Need-loop-less Inv-loop μ-loop
 loop-less c = omega (arith, c .before .before .before .before .before .before .before .before .loop-test .taken)
@@ -115,7 +118,10 @@ plus-requires-2 : tie.Need-plus-requires-2 Inv-loop μ-loop
 plus-requires-2 c κs =
     let pre = c .before .before .before .before .before .before .before .before .before .before .before .before .before .before .before .before .before .pre in
     let loop = c .before .before .before .before .before .before .before .before .loop in
-    (products-few (pre .0) (omega (arith, loop .inv .0, pre .1 .5)) (loop .inv .2), products-few (pre .0) (omega arith) (c .before .before .step2 .ensures .0))
+    let done = products-few (pre .0) (omega (arith, loop .inv .0, pre .1 .5)) (loop .inv .2) in (
+      record { made-low = omega (arith, done .made-low); multiplied-low = omega (arith, done .multiplied-low) },
+      products-few (pre .0) (omega arith) (c .before .before .step2 .ensures .0),
+    )
 
 loop-less-2 : tie.Need-loop-less-2 Inv-loop μ-loop
 loop-less-2 c = omega (arith, c .before .before .before .before .before .before .before .before .loop-test .taken)
