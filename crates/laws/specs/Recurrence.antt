@@ -5,6 +5,7 @@
 --     step-zero, step-grow, step-stay      the cases of a step: the discrepancy is 0; it is not and 2·L < r; it is not and r ≤ 2·L
 --     steps-zero, steps-suc, steps-at      the steps for 1 to r end with what is done for r
 --     discrepancy-lt           the discrepancy is below p
+--     discrepancy-first, steps-first       d of r and the steps for 1 to r are those of the first r terms: no later one is needed
 --     at-update                the coefficients of q − (d/e)·z·t
 --     Regular p r c            after r steps: L ≤ r; q's elements are below p, and 0 above L; z·t's are 0 above r + 1 − L
 --     steps-regular            the steps keep it
@@ -17,14 +18,15 @@ use Prim.Native.Nat.{ℕ, zero, suc, _+_, _-_, _*_, _%_, _≤_, _<_, max}
 use native.Mathlib.Nat.{mod-lt, mul-zero, zero-mod, sub-zero, add-mod-right, mod-eq-of-lt, le-max-left, le-max-right}
 use native.Mathlib.Decide.{decLt, ℕ-discrete}
 use native.Mathlib.Omega.{arith}
-use lib.ListN.{length, List·getD-eq-default}
+use lib.ListN.{length, take, List·getD-eq-default}
+use lib.Seq.{getD-take}
 use lib.Dec.{eqb, ltb}
 use borrow.Author.Tests.{eqb-true, eq-eqb, ne-eqb, lt-ltb, le-ltb}
 use Rattle.meaning.specs.List.{at, sum, table, every}
 use Rattle.meaning.specs.Field.{minus, times, inverse}
 use Rattle.meaning.specs.Recurrence.{isMonic, Steps, start, discrepancy, update, step, steps, reversed, degree, generator}
 use Rattle.laws.specs.Bool.{and-left, and-right}
-use Rattle.laws.specs.List.{length-table, getD-table, getD-table-past}
+use Rattle.laws.specs.List.{sum-ext, length-table, getD-table, getD-table-past}
 
 -- ---- monic polynomials
 
@@ -95,6 +97,19 @@ module _ (p : ℕ) (s : List ℕ) where
   pub discrepancy-lt : 0 < p → (r : ℕ) (c : Steps) → discrepancy p s r c < p
   unfolding discrepancy
   discrepancy-lt k r c = mod-lt (sum (c .L + 1) (λ i. at (c .q) i * at s (r - 1 - i))) k
+
+  module _ (k : ℕ) where
+    pub discrepancy-first : (r : ℕ) (c : Steps) → 0 < r → r ≤ k → discrepancy p (take k s) r c ≡ discrepancy p s r c
+    unfolding discrepancy
+    discrepancy-first r c z l =
+        ap (λ x. x % p)
+        (sum-ext (c .L + 1) (λ i. at (c .q) i * at (take k s) (r - 1 - i)) (λ i. at (c .q) i * at s (r - 1 - i))
+        (λ i h. ap (λ x. at (c .q) i * x) (getD-take k s (r - 1 - i) 0 (omega (arith, z, l)))))
+
+    pub steps-first : (r : ℕ) → r ≤ k → steps p (take k s) r ≡ steps p s r
+    unfolding steps step
+    steps-first zero l = refl
+    steps-first (suc r) l = rw (steps-first r (omega (arith, l)), discrepancy-first (suc r) (steps p s r) (omega arith) l)
 
 -- absent coefficients are 0, and so is what comes of them
 pub at-update : (p d : ℕ) (st : Steps) → 0 < p → (i : ℕ)

@@ -8,16 +8,18 @@ use mathlib.Core.Logic.{⊎-elim}
 use mathlib.Core.List.{List}
 use Prim.Native.Nat.{ℕ, _+_, _-_, _≤_, _<_}
 use native.Mathlib.Omega.{arith}
-use lib.ListN.{length, take, drop, length-drop}
-use lib.Seq.{getD-take, getD-drop, length-take-le}
+use lib.ListN.{length, take, drop}
+use lib.Seq.{length-take-le}
 use Rattle.meaning.specs.List.{at}
 use Rattle.meaning.specs.Recurrence.{steps, reversed, degree, generator}
 use Rattle.laws.specs.List.{table-of, getD-table, getD-table-past}
+use Rattle.laws.specs.Part.{length-part, at-part}
 use Rattle.laws.specs.Recurrence.{Regular, steps-regular}
 use Rattle.recurrence.specs.declared.steps.Register.{Register}
-use Rattle.recurrence.specs.Recurrence.{Ready, AfterSteps, Reversed, HoldsGenerator}
-use Rattle.recurrence.proofs.HoldsSteps.{lt-or-ge}
-use Rattle.recurrence.proofs.AfterSteps.{front}
+use Rattle.recurrence.specs.Recurrence.{Ready, Reversed, HoldsGenerator}
+use Rattle.recurrence.specs.Steps.{FollowsSteps, represented, Laid}
+use Rattle.recurrence.proofs.Represented.{lt-or-ge}
+use Rattle.recurrence.proofs.Stepping.{front}
 
 module _ (p : ℕ) (s : List ℕ) (n : ℕ) (e : length s ≡ n) where
   pub degree-at : degree p s ≡ steps p s n .L
@@ -35,20 +37,21 @@ module _ (p : ℕ) (s : List ℕ) (n : ℕ) (e : length s ≡ n) where
   at-generator-past i l =
       getD-table-past (degree p s + 1) (λ k. at (steps p s (length s) .q) (degree p s - k)) i 0 (omega (arith, degree-at))
 
-pub holds-generator : {p count r : ℕ} {W W₁ W′ : List ℕ} {c : Register} → Ready p count W → r ≡ count → AfterSteps p count r W W₁ c
-    → Reversed W₁ (count + 2) (c .length) W′ → HoldsGenerator p count W W′ (c .length)
-holds-generator {p} {count} {r} {W} {W₁} {W′} {c} ready end b turned =
+pub holds-generator : {p count r : ℕ} {W W₁ W′ : List ℕ} {c : Register} → Ready p count W → r ≡ count
+    → FollowsSteps p (take r W) r (c .d) (represented count W₁ c) → Laid p count r W W₁ c
+    → Reversed W₁ (count + 2) (c .L) W′ → HoldsGenerator p count W W′ (c .L)
+holds-generator {p} {count} {r} {W} {W₁} {W′} {c} ready end followed laid turned =
     record {
-      answer = a .holds .L ∙ sym (degree-at p s count size);
+      answer = follows .L ∙ sym (degree-at p s count size);
       f = table-of 0 (take (count + 2) (drop (count + 2) W′)) (count + 2) (λ i. at (generator p s) i)
-          (length-take-le (count + 2) (drop (count + 2) W′) (subst (λ n. count + 2 ≤ n) (sym (length-drop (count + 2) W′)) (omega (arith, room))))
-          (λ i l. getD-take (count + 2) (drop (count + 2) W′) i 0 l ∙ getD-drop (count + 2) W′ i 0 ∙ place i l);
+          (length-part (count + 2) (count + 2) W′ (omega (arith, room, ready .room)))
+          (λ i l. at-part (count + 2) (count + 2) W′ i l ∙ place i l);
       terms =
-          front (count + 2) W₁ W′ (turned .same-length) (omega (arith, a .room, ready .room)) (λ k l. turned .before k l) ∙ a .terms;
+          front (count + 2) W₁ W′ (turned .same-length) (omega (arith, laid .same-length, ready .room)) (λ k l. turned .before k l) ∙ laid .terms;
     }
   where
-    a : AfterSteps p count count W W₁ c
-    a = subst (λ n. AfterSteps p count n W W₁ c) end b
+    follows : FollowsSteps p (take count W) count (c .d) (represented count W₁ c)
+    follows = subst (λ n. FollowsSteps p (take n W) n (c .d) (represented count W₁ c)) end followed
 
     s : List ℕ
     s = take count W
@@ -57,27 +60,30 @@ holds-generator {p} {count} {r} {W} {W₁} {W′} {c} ready end b turned =
     size = length-take-le count W (omega (arith, ready .room))
 
     room : length W′ ≡ length W
-    room = turned .same-length ∙ a .room
+    room = turned .same-length ∙ laid .same-length
 
     regular : Regular p count (steps p s count)
     regular = steps-regular p (ready .two) s count
 
-    within : c .length ≤ count
-    within = subst (λ x. x ≤ count) (sym (a .holds .L)) (regular .within)
+    within : c .L ≤ count
+    within = omega (arith, laid .within, end)
+
+    q : (i : ℕ) → i < count + 2 → at W₁ (count + 2 + i) ≡ at (steps p s count .q) i
+    q i l = sym (at-part (count + 2) (count + 2) W₁ i l) ∙ follows .q i
 
     place : (i : ℕ) → i < count + 2 → at W′ (count + 2 + i) ≡ at (generator p s) i
     place i l =
         ⊎-elim
-        (λ past. turned .after (count + 2 + i) (omega arith) ∙ a .holds .q i l
-        ∙ regular .q-end i (subst (λ x. x < i) (a .holds .L) past)
-        ∙ sym (at-generator-past p s count size i (subst (λ x. x < i) (a .holds .L) past)))
-        (λ inside. turned .inside i inside ∙ a .holds .q (c .length - i) (omega (arith, within))
-        ∙ ap (λ k. at (steps p s count .q) (k - i)) (a .holds .L)
-        ∙ sym (at-generator-within p s count size i (subst (λ x. i ≤ x) (a .holds .L) inside)))
-        (lt-or-ge (c .length) i)
+        (λ past. turned .after (count + 2 + i) (omega arith) ∙ q i l
+        ∙ regular .q-end i (subst (λ x. x < i) (follows .L) past)
+        ∙ sym (at-generator-past p s count size i (subst (λ x. x < i) (follows .L) past)))
+        (λ inside. turned .inside i inside ∙ q (c .L - i) (omega (arith, within))
+        ∙ ap (λ k. at (steps p s count .q) (k - i)) (follows .L)
+        ∙ sym (at-generator-within p s count size i (subst (λ x. i ≤ x) (follows .L) inside)))
+        (lt-or-ge (c .L) i)
 
 pub generator-at : {p count : ℕ} {W W′ : List ℕ} {L : ℕ} → HoldsGenerator p count W W′ L → (i : ℕ) → i < count + 2
     → at W′ (count + 2 + i) ≡ at (generator p (take count W)) i
 generator-at {p} {count} {W} {W′} {L} held i l =
-    sym (getD-take (count + 2) (drop (count + 2) W′) i 0 l ∙ getD-drop (count + 2) W′ i 0) ∙ ap (λ x. at x i) (held .f)
+    sym (at-part (count + 2) (count + 2) W′ i l) ∙ ap (λ x. at x i) (held .f)
     ∙ getD-table (count + 2) (λ k. at (generator p (take count W)) k) i 0 l

@@ -1,6 +1,6 @@
 -- laws that only the proofs here use
 pub mod Reversing
-pub mod HoldsSteps
-pub mod AfterSteps
+pub mod Represented
+pub mod Stepping
 pub mod HoldsGenerator
 pub mod Recurred

@@ -13,7 +13,7 @@ use lib.ListN.{length, set, length-set}
 use lib.Seq.{getD-set-same, getD-set-other}
 use Rattle.meaning.specs.List.{at}
 use Rattle.recurrence.specs.Recurrence.{Reversed}
-use Rattle.recurrence.proofs.HoldsSteps.{lt-or-ge}
+use Rattle.recurrence.proofs.Represented.{lt-or-ge}
 
 pub record Reversing (W : List ℕ) (a L i j : ℕ) (W′ : List ℕ) : Type 0 where
   pub ends : i + j ≡ L

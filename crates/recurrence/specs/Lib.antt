@@ -1,4 +1,5 @@
 -- what the contracts cite
 pub mod Convolution
 pub mod Recurrence
+pub mod Steps
 pub mod Factor

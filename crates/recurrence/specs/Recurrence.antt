@@ -1,12 +1,5 @@
--- What the contracts of the shortest recurrence say. A slice of four regions of count + 2 places holds the terms and document 01's q and t; a
--- register holds L, e and where t stands.
+-- What the contracts of the shortest recurrence say; what stands after each r is said in specs/Steps.antt.
 --     Ready            what the steps ask: p of 2 to 2³¹ − 1, prime or not; `count` terms at the slice's front, all below p; room for four regions
---     Places           where t stands and which region it leaves free: the third and the fourth, or the other way round
---     HoldsSteps       regions and register hold q, t, L and e of some steps, r terms taken
---     BeforeStep       what is asked for the step r: the slice is ready, and holds what the steps for 1 to r − 1 make of the terms
---     shifted          a register after t = z·t
---     lengthened       a register after t = q, L = r − L, e = d
---     AfterSteps       a slice before and after: regions and register hold what document 01's steps for 1 to r make of the terms, and those stay
 --     Reversed         a slice after L + 1 places of it, from a on, were put in reverse order
 --     HoldsGenerator   a slice before and after the core: L, and f with zeros after it in the second region
 --     termsRefusal     3, 8, 11 and 9 of terms at the front of a slice
@@ -15,7 +8,7 @@
 --     GivesDegree      what each case of an answer says: document 01's number of the refusal, 0 for none, and L
 --     Recurred         what a call answers and leaves, and Massey's promise of it
 use mathlib.Core.Path.{_≡_, sym, subst}
-use mathlib.Core.Logic.{_≢_, _⊎_}
+use mathlib.Core.Logic.{_≢_}
 use mathlib.Core.Bool.{not}
 use mathlib.Core.List.{List, [], _∷_}
 use Prim.Native.Nat.{ℕ, _+_, _-_, _*_, _≤_, _<_}
@@ -25,14 +18,12 @@ use lib.ListN.{length, take, drop}
 use lib.Seq.{getD-take, length-take-le}
 use borrow.Author.Tests.{leb-true, ltb-true, le-leb}
 use Rattle.meaning.specs.List.{at, padded}
-use Rattle.meaning.specs.Field.{inverse}
-use Rattle.meaning.specs.Recurrence.{IsShortest, Steps, steps, degree, generator}
+use Rattle.meaning.specs.Recurrence.{IsShortest, degree, generator}
 use Rattle.meaning.specs.Refusal.{check, first, within, elements}
 use Rattle.laws.specs.List.{every-at}
 use Rattle.laws.specs.Refusal.{first-nil, first-passed, first-pass, within-low, within-high, within-of}
 use Rattle.checks.specs.Valid.{elements-of}
 use Rattle.meaning.specs.Calls.{recurrenceRefusal, recurrenceAnswer, recurrenceAfter}
-use Rattle.recurrence.specs.declared.steps.Register.{Register}
 use Rattle.recurrence.specs.declared.Answer.{Answer}
 use Rattle.recurrence.specs.declared.Answer.the-variants.{Degree, Refused}
 
@@ -42,41 +33,6 @@ pub record Ready (p count : ℕ) (W : List ℕ) : Type 0 where
   pub few : count ≤ 8192
   pub room : 4 * count + 8 ≤ length W
   pub elements : (i : ℕ) → i < count → at W i < p
-
-abbrev pub Places : ℕ → ℕ → ℕ → Type 0
-Places count t spare =
-    ((t ≡ 2 * (count + 2)) × (spare ≡ 3 * (count + 2))) ⊎ ((t ≡ 3 * (count + 2)) × (spare ≡ 2 * (count + 2)))
-
-pub record HoldsSteps (p count r : ℕ) (W : List ℕ) (c : Register) (st : Steps) : Type 0 where
-  pub L : c .length ≡ st .L
-  pub e : c .e ≡ st .e
-  pub inverted : c .inverse ≡ inverse p (st .e)
-  pub q : (i : ℕ) → i < count + 2 → at W (count + 2 + i) ≡ at (st .q) i
-  -- z·t: nothing below the shift, then the coefficients that are held, then nothing
-  pub t-low : (i : ℕ) → i < c .shift → at (0 ∷ st .t) i ≡ 0
-  pub t-held : (i : ℕ) → i < c .held → at (0 ∷ st .t) (c .shift + i) ≡ at W (c .t + i)
-  pub t-end : (i : ℕ) → c .shift + c .held ≤ i → at (0 ∷ st .t) i ≡ 0
-  pub t-short : c .shift + c .held + c .length ≤ r + 2
-  pub places : Places count (c .t) (c .spare)
-
-pub record BeforeStep (p count r : ℕ) (W : List ℕ) (c : Register) : Type 0 where
-  pub ready : Ready p count W
-  pub low : 0 < r
-  pub high : r ≤ count
-  pub holds : HoldsSteps p count (r - 1) W c (steps p (take count W) (r - 1))
-
-abbrev pub shifted : Register → Register
-shifted c =
-    record { length = c .length; e = c .e; inverse = c .inverse; t = c .t; held = c .held; shift = c .shift + 1; spare = c .spare }
-
-abbrev pub lengthened : ℕ → ℕ → ℕ → Register → Register
-lengthened p r d c =
-    record { length = r - c .length; e = d; inverse = inverse p d; t = c .spare; held = c .length + 1; shift = 1; spare = c .t }
-
-pub record AfterSteps (p count r : ℕ) (W W′ : List ℕ) (c : Register) : Type 0 where
-  pub room : length W′ ≡ length W
-  pub terms : take (count + 2) W′ ≡ take (count + 2) W
-  pub holds : HoldsSteps p count r W′ c (steps p (take count W) r)
 
 pub record Reversed (W : List ℕ) (a L : ℕ) (W′ : List ℕ) : Type 0 where
   pub same-length : length W′ ≡ length W

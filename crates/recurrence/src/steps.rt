@@ -1,7 +1,13 @@
-// The shortest recurrence of a list, by document 01's steps. They run in one slice of four regions of count + 2 places each: the terms,
-// q, and two in which t and the q that is to become t take turns. t is never moved: `shift` says how often it was multiplied by z.
+// The shortest recurrence of a list, by document 01's steps: document 002, algorithm Minimum Polynomial, Step 2. Its letters are
 //
-// The contracts cite the crate meaning (Recurrence: the steps) and specs/Recurrence.antt (what regions and register hold).
+//     document 002    a    Λ    Σ    l    δ_r    δ
+//     here            s    q    t    L    d      e
+//
+// The steps run in one slice of four regions of count + 2 places each: the terms s, q, and two in which t and the q that is to become t take
+// turns. t is never moved: `shift` says how often it was multiplied by z.
+//
+// The contracts cite the crate meaning (Recurrence: the steps) and specs/Steps.antt: FollowsSteps, that d, q, t, L and e are those of document
+// 01's steps, and apart from it how regions and register stand for them (represented, Laid).
 use crate::convolution::crossed;
 use modular::modulus::Modulus;
 use modular::multiplier::Multiplier;
@@ -9,24 +15,27 @@ use slices::clear;
 use slices::copy_within;
 ghost use mathlib.Core.Path.{_≡_};
 ghost use Prim.Native.Nat.{ℕ, _+_, _≤_, _<_};
-ghost use lib.ListN.{length};
+ghost use lib.ListN.{length, take};
 ghost use Rattle.meaning.specs.List.{at};
 ghost use Rattle.meaning.specs.Field.{minus, times};
 ghost use Rattle.modular.specs.Modulus.{Modular};
 ghost use Rattle.laws.specs.Written.{Written};
-ghost use Rattle.recurrence.specs.Recurrence.{Ready, BeforeStep, AfterSteps, HoldsGenerator, Reversed, shifted, lengthened};
+ghost use Rattle.recurrence.specs.Recurrence.{Ready, HoldsGenerator, Reversed};
+ghost use Rattle.recurrence.specs.Steps.{FollowsSteps, represented, Laid, BeforeStep};
 
 // What the steps keep beside the regions.
 pub(crate) struct Register {
-    // L
-    pub(crate) length: usize,
-    // e, and its inverse
-    pub(crate) e: u32,
-    pub(crate) inverse: u32,
-    // z·t: `held` coefficients, which stand at `t`, times z to the power `shift`
+    // d, the discrepancy of r
+    pub(crate) d: u32,
+    // t: `held` coefficients, which stand from `t` on, times z to the power `shift`
     pub(crate) t: usize,
     pub(crate) held: usize,
     pub(crate) shift: usize,
+    // L
+    pub(crate) L: usize,
+    // e, and its inverse
+    pub(crate) e: u32,
+    pub(crate) inverse: u32,
     // the region that t leaves free
     pub(crate) spare: usize,
 }
@@ -66,82 +75,83 @@ fn reverse(work: &mut [u32], from: usize, length: usize)
 
 // ---- the steps
 
-// t becomes z·t.
-fn shifted(c: Register) -> Register
-    requires { ⌜ c .shift < 16384 ⌝ }
-    ensures { λ next. ⌜ next ≡ shifted c ⌝ }
-{
-    Register {
-        length: c.length,
-        e: c.e,
-        inverse: c.inverse,
-        t: c.t,
-        held: c.held,
-        shift: c.shift + 1,
-        spare: c.spare,
-    }
-}
-
-// t becomes the copy of q, L becomes r − L, e becomes d.
-fn lengthened(p: u32, r: usize, d: u32, c: Register) -> Register
-    requires { ⌜ (c .length ≤ r) × (r ≤ 8192) ⌝ }
-    ensures { λ next. ⌜ next ≡ lengthened p r d c ⌝ }
-{
-    Register {
-        length: r - c.length,
-        e: d,
-        inverse: field::inverse_modulo(p, d),
-        t: c.spare,
-        held: c.length + 1,
-        shift: 1,
-        spare: c.t,
-    }
-}
-
-// q = 1, t = 0, L = 0, e = 1, whatever the regions held.
+// Λ₀ ← 1; Σ₀ ← 0; l₀ ← 0; δ ← 1: q = 1, t = 0, L = 0, e = 1, whatever the regions held.
 pub(crate) fn start(p: u32, count: usize, work: &mut [u32]) -> Register
     requires { ⌜ Ready p count (now work) ⌝ }
-    ensures { λ c. ⌜ AfterSteps p count 0 (now (work .entry)) (now (work .exit)) c ⌝ }
+    ensures { λ c. ⌜ FollowsSteps p (take 0 (now (work .entry))) 0 (c .d) (represented count (now (work .exit)) c) ⌝ }
+    ensures { λ c. ⌜ Laid p count 0 (now (work .entry)) (now (work .exit)) c ⌝ }
 {
     let q = count + 2;
     let end = 2 * q;
     clear(&mut work[q..end]);
     work[q] = 1;
     Register {
-        length: 0,
-        e: 1,
-        inverse: 1,
+        d: 0,
         t: 2 * q,
         held: 0,
-        shift: 1,
+        shift: 0,
+        L: 0,
+        e: 1,
+        inverse: 1,
         spare: 3 * q,
     }
 }
 
-// What is done for r: the discrepancy, the update, the length.
-pub(crate) fn step(m: Modulus, count: usize, work: &mut [u32], r: usize, c: Register) -> Register
-    requires { ⌜ BeforeStep (m .p) count r (now work) c × Modular m ⌝ }
-    ensures { λ next. ⌜ AfterSteps (m .p) count r (now (work .entry)) (now (work .exit)) next ⌝ }
+// What is done for r: d, q, t, L and e of r − 1 become those of r. Of the terms the first r are read.
+pub(crate) fn step(
+    m: Modulus,
+    count: usize,
+    work: &mut [u32],
+    r: usize,
+    before: Register,
+) -> Register
+    requires { ⌜ BeforeStep (m .p) count r (now work) before × Modular m ⌝ }
+    ensures { λ c. ⌜ FollowsSteps (m .p) (take r (now (work .entry))) r (c .d) (represented count (now (work .exit)) c) ⌝ }
+    ensures { λ c. ⌜ Laid (m .p) count r (now (work .entry)) (now (work .exit)) c ⌝ }
 {
     let q = count + 2;
-    let d = crossed(work, q, r - 1, 0, c.length + 1).residue(m);
+    let mut c = before;
+    // Discrepancy. δ_r: d = the sum of q[i] × s[r − 1 − i] over i = 0 to L.
+    let d = crossed(work, q, r - 1, 0, c.L + 1).residue(m);
+    c.d = d;
     if d == 0 {
-        return shifted(c);
+        // If δ_r = 0: t = z·t.
+        c.shift += 1;
+        return c;
     }
-    // q − (d/e)·z·t in q's place. Where t is to become q, q is copied before.
-    let longer = 2 * c.length < r;
+    // Update. Else Λ_r ← Λ_{r−1} − (δ_r/δ)·λ·Σ_{r−1}: q = q − (d/e)·z·t. Where t is to become the old q, that is copied first.
+    let longer = 2 * c.L < r;
     if longer {
-        copy_within(work, q, c.spare, c.length + 1);
+        copy_within(work, q, c.spare, c.L + 1);
     }
-    subtract(m, m.product(d, c.inverse), work, q + c.shift, c.t, c.held);
+    subtract(
+        m,
+        m.product(d, c.inverse),
+        work,
+        q + 1 + c.shift,
+        c.t,
+        c.held,
+    );
+    // Length.
     if longer {
-        lengthened(m.p, r, d, c)
+        // If 2·l < r: t = the old q, L = r − L, e = d.
+        let t = c.t;
+        c.t = c.spare;
+        c.spare = t;
+        c.held = c.L + 1;
+        c.shift = 0;
+        c.L = r - c.L;
+        c.e = d;
+        c.inverse = field::inverse_modulo(m.p, d);
     } else {
-        shifted(c)
+        // Else: t = z·t.
+        c.shift += 1;
     }
+    c
 }
 
-// The shortest recurrence of the `count` terms at the front of `work`: its degree L, and f in the second region, zeros after it.
+// For r = 1, 2, ..: the shortest recurrence of the `count` terms at the front of `work`, its degree L, and f in the second region, zeros
+// after it. f ← λ^l·Λ(1/λ) is q in reverse order.
 pub(crate) fn shortest(m: Modulus, count: usize, work: &mut [u32]) -> usize
     requires { ⌜ Ready (m .p) count (now work) × Modular m ⌝ }
     ensures { λ L. ⌜ HoldsGenerator (m .p) count (now (work .entry)) (now (work .exit)) L ⌝ }
@@ -152,6 +162,6 @@ pub(crate) fn shortest(m: Modulus, count: usize, work: &mut [u32]) -> usize
         r += 1;
         c = step(m, count, work, r, c);
     }
-    reverse(work, count + 2, c.length);
-    c.length
+    reverse(work, count + 2, c.L);
+    c.L
 }

@@ -1,16 +1,20 @@
--- `recurrence::steps::shortest` meets its contract: after r steps the slice holds what the steps for 1 to r make.
+-- `recurrence::steps::shortest` meets its contract. The loop's invariant says what stands after each r: d, q, t, L and e are those of document 01's
+-- steps for 1 to r, of the first r terms.
 use mathlib.Core.Path.{_≡_}
-use Prim.Native.Nat.{_-_, _≤_}
+use Prim.Native.Nat.{_+_, _-_, _≤_}
 use native.Mathlib.Omega.{arith}
 use borrow.Author.Needs.{needs}
-use Rattle.recurrence.specs.Recurrence.{AfterSteps}
-use Rattle.recurrence.proofs.AfterSteps.{after-both, after-own, before-step}
+use lib.ListN.{take}
+use Rattle.recurrence.specs.Steps.{FollowsSteps, represented, Laid}
+use Rattle.recurrence.proofs.Represented.{follows-before, follows-after, laid-both, laid-own}
+use Rattle.recurrence.proofs.Stepping.{before-step}
 use Rattle.recurrence.proofs.HoldsGenerator.{holds-generator}
 use Rattle.recurrence.proofs.steps.shortest.Statement.{statement}
 use Rattle.recurrence.proofs.steps.shortest.Tie as tie
 
 abbrev Inv-loop : tie.InvT-loop
-Inv-loop m count work₀ c₀ r₀ work c r = (r ≤ count) × AfterSteps (m .p) count r work₀ work c
+Inv-loop m count work₀ c₀ r₀ work c r =
+    (r ≤ count) × FollowsSteps (m .p) (take r work₀) r (c .d) (represented count work c) × Laid (m .p) count r work₀ work c
 
 abbrev μ-loop : tie.MeasureT-loop
 μ-loop m count work₀ c₀ r₀ work c r = count - r
@@ -19,7 +23,9 @@ start-requires : tie.Need-start-requires Inv-loop μ-loop
 start-requires c κs = c .before .before .pre .0
 
 loop-holds : tie.Need-loop-holds Inv-loop μ-loop
-loop-holds c = (omega arith, after-own (c .before .before .start .ensures))
+loop-holds c =
+    let begun = c .before .before .start .ensures in
+    (omega arith, follows-after (begun .1) 0 (omega arith) (begun .0), laid-own (begun .1))
 
 add-r : tie.Need-add-r Inv-loop μ-loop
 add-r c = omega arith
@@ -29,13 +35,18 @@ step-requires c κs =
     let loop = c .before .before in
     let begun = loop .before .before .before in
     let start = begun .before .before .before in
-    (before-step (start .pre .0) (after-both (begun .start .ensures) (loop .loop .inv .1)) (c .before .loop-test .taken), start .pre .1)
+    let laid = begun .start .ensures .1 in
+    let inv = loop .loop .inv in
+    (before-step (start .pre .0) (c .before .loop-test .taken) (follows-before laid (loop .loop .r) (inv .0) (inv .1)) (laid-both laid (inv .2)), start .pre .1)
 
 loop-less : tie.Need-loop-less Inv-loop μ-loop
 loop-less c = omega arith
 
 loop-again : tie.Need-loop-again Inv-loop μ-loop
-loop-again c = (omega arith, after-both (c .before .before .before .before .before .loop .inv .1) (c .before .before .step .ensures))
+loop-again c =
+    let inv = c .before .before .before .before .before .loop .inv in
+    let made = c .before .before .step .ensures in
+    (omega arith, follows-before (inv .2) (c .before .before .before .before .before .loop .r + 1) (omega arith) (made .0), laid-both (inv .2) (made .1))
 
 add-reverse : tie.Need-add-reverse Inv-loop μ-loop
 add-reverse c = omega arith
@@ -52,7 +63,9 @@ returns c =
     let begun = loop .before .before .before in
     let start = begun .before .before .before in
     let end : loop .loop .r ≡ start .args .count = omega (arith, loop .loop .inv .0, c .before .before .before .before .loop-test .left) in
-    holds-generator (start .pre .0) end (after-both (begun .start .ensures) (loop .loop .inv .1)) (c .before .before .reverse .ensures)
+    let laid = begun .start .ensures .1 in
+    let inv = loop .loop .inv in
+    holds-generator (start .pre .0) end (follows-before laid (loop .loop .r) (inv .0) (inv .1)) (laid-both laid (inv .2)) (c .before .before .reverse .ensures)
 
 pub shortest-spec : {M : Type 1} → statement M
 shortest-spec =

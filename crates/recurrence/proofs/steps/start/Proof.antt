@@ -7,7 +7,7 @@ use Rattle.meaning.specs.List.{zeros}
 use Rattle.laws.specs.Written.{written-all}
 use Rattle.laws.specs.Part.{length-part}
 use Rattle.laws.specs.Lent.{written-lent}
-use Rattle.recurrence.proofs.AfterSteps.{after-start}
+use Rattle.recurrence.proofs.Stepping.{start-follows, start-laid}
 use borrow.Author.Needs.{needs}
 use Rattle.recurrence.proofs.steps.start.Statement.{statement}
 use Rattle.recurrence.proofs.steps.start.Tie as tie
@@ -57,8 +57,9 @@ returns c =
     let m = 2 * q - q in
     let size : m ≡ q = omega arith in
     let fits : q + m ≤ length W = omega (arith, size, ready .room) in
-    after-start (a .p) (a .count) W _ ready
-    (written-all size (written-lent W q m (λ i. 0) (c .before .before .clear .last .0) fits (c .before .before .clear .ensures ∙ ap zeros (length-part q m W fits))))
+    let cleared =
+    written-all size (written-lent W q m (λ i. 0) (c .before .before .clear .last .0) fits (c .before .before .clear .ensures ∙ ap zeros (length-part q m W fits))) in
+    (start-follows (a .p) (a .count) W _ ready cleared, start-laid (a .p) (a .count) W _ ready cleared)
 
 pub start-spec : {M : Type 1} → statement M
 start-spec =

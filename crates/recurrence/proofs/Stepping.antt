@@ -1,0 +1,430 @@
+-- What the code's step makes of a slice that holds the steps before r: document 01's step for r, of the first r terms.
+--     front, written-front       what happens further up leaves the front
+--     fresh, after-start         the register of q = 1, t = 0, L = 0 and e = 1, and the start
+--     before-step                after r − 1 steps the slice is ready for r
+--     crossing                   what the discrepancy's products ask
+--     shifted, lengthened        a register after t = z·t, and after t = q, L = r − L, e = d
+--     Kept, kept-same, kept-copied     the slice where the update begins: as it was, but for a copy of q where the length is to change
+--     copying, subtracting       what the copy and the update ask
+--     discrepancy-is             the sum of the products is the discrepancy
+--     after-zero, after-stay, after-grow      the three cases
+use mathlib.Core.Path.{_≡_, refl, sym, ap, ap₂, _∙_, subst}
+use mathlib.Core.Logic.{_≢_, _⊎_, inl, inr, ⊎-elim}
+use mathlib.Core.Bool.{Bool, true, false}
+use mathlib.Core.List.{List, [], _∷_}
+use Prim.Native.Nat.{ℕ, zero, suc, _+_, _-_, _*_, _%_, _≤_, _<_}
+use native.Mathlib.Nat.{zero-add, mod-eq-of-lt}
+use native.Mathlib.Omega.{arith}
+use lib.ListN.{length, take, set, length-set}
+use lib.Seq.{ext-getD, getD-take, length-take-le, take-take, take-set-le, getD-set-same, getD-set-other}
+use Rattle.meaning.specs.List.{at, sum, sumFrom}
+use Rattle.meaning.specs.Field.{minus, times, inverse}
+use Rattle.meaning.specs.Recurrence.{Steps, start, discrepancy, update, steps}
+use Rattle.laws.specs.List.{sum-ext}
+use Rattle.laws.specs.Recurrence.{times-lt, times-zero, minus-zero, at-update, step-zero, step-stay, step-grow, steps-zero, steps-at, steps-first, Regular, steps-regular}
+use Rattle.laws.specs.Part.{part, Apart, before, after, at-part, part-ext, written-other-at}
+use Rattle.laws.specs.Written.{Written, written-none}
+use Rattle.residue.specs.Inverse.{inverse-is}
+use Rattle.modular.specs.declared.sums.Total.{Total}
+use Rattle.modular.specs.Total.{number}
+use Rattle.modular.specs.Sums.{Summed, sumFrom-zero}
+use Rattle.recurrence.specs.declared.steps.Register.{Register}
+use Rattle.recurrence.specs.Convolution.{cross, Crossing, nothing}
+use Rattle.recurrence.specs.Recurrence.{Ready}
+use Rattle.recurrence.specs.Steps.{FollowsSteps, timesPower, represented, Laid, BeforeStep}
+use Rattle.recurrence.proofs.Represented.{lt-or-ge, power-none, power-low, power-at, power-next, z-same, part-past, t-within, spare-within, exchanged, terms-same, follows-after, laid-own}
+
+-- ---- the front
+
+pub front : (m : ℕ) (W W′ : List ℕ) → length W′ ≡ length W → m ≤ length W → ((k : ℕ) → k < m → at W′ k ≡ at W k) → take m W′ ≡ take m W
+front m W W′ e fits same =
+    ext-getD 0 (take m W′) (take m W) (length-take-le m W′ (omega arith) ∙ sym (length-take-le m W fits))
+    (λ i l. let b : i < m = omega (arith, length-take-le m W′ (omega arith)) in
+    getD-take m W′ i 0 b ∙ same i b ∙ sym (getD-take m W i 0 b))
+
+pub written-front : {W W′ : List ℕ} {a n : ℕ} {f : ℕ → ℕ} (m : ℕ) → Written W a n f W′ → m ≤ length W → m ≤ a → take m W′ ≡ take m W
+written-front {W} {W′} m w fits l = front m W W′ (w .same-length) fits (λ k h. w .before k (omega arith))
+
+-- ---- registers
+
+abbrev pub fresh : ℕ → Register
+fresh count =
+    record { d = 0; t = 2 * (count + 2); held = 0; shift = 0; L = 0; e = 1; inverse = 1; spare = 3 * (count + 2) }
+
+abbrev pub shifted : ℕ → Register → Register
+shifted δ c =
+    record { d = δ; t = c .t; held = c .held; shift = c .shift + 1; L = c .L; e = c .e; inverse = c .inverse; spare = c .spare }
+
+abbrev pub lengthened : ℕ → ℕ → ℕ → Register → Register
+lengthened r δ y c =
+    record { d = δ; t = c .spare; held = c .L + 1; shift = 0; L = r - c .L; e = δ; inverse = y; spare = c .t }
+
+-- a whole region: what it holds, and nothing past its end
+q-whole : (p count r : ℕ) (s W : List ℕ) → 1 < p → r ≤ count → 4 * count + 8 ≤ length W
+    → ((i : ℕ) → i < count + 2 → at W (count + 2 + i) ≡ at (steps p s r .q) i)
+    → (i : ℕ) → at (part (count + 2) (count + 2) W) i ≡ at (steps p s r .q) i
+q-whole p count r s W two few room held i =
+    ⊎-elim
+    (λ l. at-part (count + 2) (count + 2) W i l ∙ held i l)
+    (λ l. part-past (count + 2) (count + 2) W i (omega (arith, room)) l
+    ∙ sym (regular .q-end i (omega (arith, l, few, regular .within))))
+    (lt-or-ge i (count + 2))
+  where
+    regular : Regular p r (steps p s r)
+    regular = steps-regular p two s r
+
+-- ---- the start
+
+module _ (p count : ℕ) (W W₁ : List ℕ) (ready : Ready p count W) (w : Written W (count + 2) (count + 2) (λ i. 0) W₁) where
+  abbrev W₀ : List ℕ
+  W₀ = set W₁ (count + 2) 1
+
+  same-length : length W₀ ≡ length W
+  same-length = length-set W₁ (count + 2) 1 ∙ w .same-length
+
+  one : (i : ℕ) → i < count + 2 → at W₀ (count + 2 + i) ≡ at (1 ∷ []) i
+  one zero l =
+      let e : count + 2 + 0 ≡ count + 2 = omega arith in
+      ap (at W₀) e ∙ getD-set-same W₁ (count + 2) 1 0 (omega (arith, w .same-length, ready .room))
+  one (suc i) l = getD-set-other W₁ (count + 2) (count + 2 + suc i) 1 0 (omega arith) ∙ w .inside (suc i) l
+
+  pub start-laid : Laid p count 0 W W₀ (fresh count)
+  start-laid =
+      record {
+        same-length = same-length;
+        terms =
+            take-set-le (count + 2) W₁ (count + 2) 1 (omega arith) ∙ written-front (count + 2) w (omega (arith, ready .room)) (omega arith);
+        places = inl (refl, refl);
+        inverted = sym (inverse-is p 1 1 (ready .two) (mod-eq-of-lt (ready .two)));
+        within = omega arith;
+        short = omega arith;
+      }
+
+  pub start-follows : FollowsSteps p (take 0 W) 0 0 (represented count W₀ (fresh count))
+  unfolding start timesPower
+  start-follows =
+      record {
+        d = λ l. absurd (omega arith);
+        q = q-whole p count 0 (take 0 W) W₀ (ready .two) (omega arith) (omega (arith, same-length, ready .room))
+            (λ i l. one i l ∙ sym (ap (λ x. at (x .q) i) (steps-zero p (take 0 W))));
+        t = λ i. sym (ap (λ x. at (x .t) i) (steps-zero p (take 0 W)));
+        L = sym (ap (λ x. x .L) (steps-zero p (take 0 W)));
+        e = sym (ap (λ x. x .e) (steps-zero p (take 0 W)));
+      }
+
+-- ---- from one r to the next
+
+pub before-step : {p count r : ℕ} {W W′ : List ℕ} {c : Register} → Ready p count W → r < count
+    → FollowsSteps p (take r W) r (c .d) (represented count W′ c) → Laid p count r W W′ c → BeforeStep p count (r + 1) W′ c
+before-step {p} {count} {r} {W} {W′} {c} ready l follows laid =
+    record {
+      first =
+          record {
+            two = ready .two;
+            small = ready .small;
+            few = omega (arith, ready .few, l);
+            room = omega (arith, laid .same-length, ready .room, l);
+            elements = λ i b. subst (λ x. x < p) (sym (same i (omega (arith, b, l)))) (ready .elements i (omega (arith, b, l)));
+          };
+      low = omega arith;
+      high = omega arith;
+      few = ready .few;
+      room = omega (arith, laid .same-length, ready .room);
+      follows =
+          let e : r ≡ r + 1 - 1 = omega arith in
+          subst (λ n. FollowsSteps p (take n W′) n (c .d) (represented count W′ c)) e (follows-after laid r (omega arith) follows);
+      laid =
+          let e : r ≡ r + 1 - 1 = omega arith in
+          subst (λ n. Laid p count n W′ W′ c) e (laid-own laid);
+    }
+  where
+    same : (i : ℕ) → i < count → at W′ i ≡ at W i
+    same i b =
+        sym (getD-take (count + 2) W′ i 0 (omega arith)) ∙ ap (λ l. at l i) (laid .terms) ∙ getD-take (count + 2) W i 0 (omega arith)
+
+-- W₁ is W, but for the first `size` coefficients of q in the spare region: all of them where the length is to change
+pub record Kept (count : ℕ) (W W₁ : List ℕ) (c : Register) (longer : Bool) : Type 0 where
+  pub size : ℕ
+  pub few : size ≤ c .L + 1
+  pub all : longer ≡ true → size ≡ c .L + 1
+  pub copied : Written W (c .spare) size (λ i. at W (count + 2 + i)) W₁
+
+pub kept-same : {count : ℕ} {W : List ℕ} {c : Register} → Kept count W W c false
+kept-same {count} {W} {c} =
+    record {
+      size = 0;
+      few = omega arith;
+      all = λ e. absurd (let z : _≡_ {A = ℕ} 0 1 = cc in omega arith);
+      copied = written-none W (c .spare) (λ i. at W (count + 2 + i));
+    }
+
+pub kept-copied : {count : ℕ} {W W₁ : List ℕ} {c : Register} {longer : Bool} → Written W (c .spare) (c .L + 1) (λ i. at W (count + 2 + i)) W₁
+    → Kept count W W₁ c longer
+kept-copied {c} w = record { size = c .L + 1; few = omega arith; all = λ e. refl; copied = w }
+
+-- ---- the step for r
+
+module _ {p count r : ℕ} {W : List ℕ} {c : Register} (ask : BeforeStep p count r W c) where
+  open BeforeStep ask using (first, low, high, few, room, follows, laid)
+
+  abbrev s : List ℕ
+  s = take r W
+
+  abbrev st : Steps
+  st = steps p s (r - 1)
+
+  regular : Regular p (r - 1) st
+  regular = steps-regular p (first .two) s (r - 1)
+
+  positive : 0 < p
+  positive = omega (arith, first .two)
+
+  -- the steps for 1 to r − 1 do not ask for the term that r adds
+  same : steps p (take (r - 1) W) (r - 1) ≡ st
+  same = ap (λ x. steps p x (r - 1)) (sym (take-take (r - 1) r W (omega arith))) ∙ steps-first p s (r - 1) (r - 1) (omega arith)
+
+  L-is : c .L ≡ st .L
+  L-is = follows .L ∙ ap (λ x. x .L) same
+
+  e-is : c .e ≡ st .e
+  e-is = follows .e ∙ ap (λ x. x .e) same
+
+  q-is : (i : ℕ) → i < count + 2 → at W (count + 2 + i) ≡ at (st .q) i
+  q-is i l = sym (at-part (count + 2) (count + 2) W i l) ∙ follows .q i ∙ ap (λ x. at (x .q) i) same
+
+  t-is : (i : ℕ) → at (timesPower (c .shift) (part (c .t) (c .held) W)) i ≡ at (st .t) i
+  t-is i = follows .t i ∙ ap (λ x. at (x .t) i) same
+
+  past : (i : ℕ) → c .L < i → at (st .q) i ≡ 0
+  past i l = regular .q-end i (subst (λ x. x < i) L-is l)
+
+  q-element : (i : ℕ) → i < count + 2 → at W (count + 2 + i) < p
+  q-element i l = subst (λ x. x < p) (sym (q-is i l)) (regular .element i)
+
+  t-room : c .t + c .held ≤ length W
+  t-room = omega (arith, t-within count (c .t) (c .spare) (laid .places) .1, laid .short, low, high, room)
+
+  -- z·t: nothing, then the coefficients that are held, then nothing
+  zt-low : (i : ℕ) → i < 1 + c .shift → at (0 ∷ st .t) i ≡ 0
+  zt-low zero l = refl
+  zt-low (suc i) l = sym (t-is i) ∙ power-low (c .shift) (part (c .t) (c .held) W) i (omega arith)
+
+  zt-held : (i : ℕ) → i < c .held → at (0 ∷ st .t) (1 + c .shift + i) ≡ at W (c .t + i)
+  zt-held i l =
+      let e : 1 + c .shift + i ≡ suc (c .shift + i) = omega arith in
+      ap (at (0 ∷ st .t)) e ∙ sym (t-is (c .shift + i)) ∙ power-at (c .shift) (part (c .t) (c .held) W) i ∙ at-part (c .t) (c .held) W i l
+
+  zt-end : (i : ℕ) → 1 + c .shift + c .held ≤ i → at (0 ∷ st .t) i ≡ 0
+  zt-end zero l = absurd (omega arith)
+  zt-end (suc i) l =
+      let e : i ≡ c .shift + (i - c .shift) = omega arith in
+      sym (t-is i) ∙ ap (at (timesPower (c .shift) (part (c .t) (c .held) W))) e
+      ∙ power-at (c .shift) (part (c .t) (c .held) W) (i - c .shift)
+      ∙ part-past (c .t) (c .held) W (i - c .shift) t-room (omega arith)
+
+  -- ---- the discrepancy
+
+  pub crossing : Crossing W (count + 2) (r - 1) 0 (c .L + 1)
+  crossing =
+      record {
+        order = omega arith;
+        few = omega (arith, laid .within, high, few);
+        front = omega (arith, laid .within, high, room);
+        back = omega (arith, laid .within, low);
+        room = omega (arith, high, room);
+        left = λ i a l. omega (arith, q-element i (omega (arith, l, laid .within, high)), first .small);
+        right = λ i a l. omega (arith, first .elements (r - 1 - i) (omega (arith, low)), first .small);
+      }
+
+  discrepancy-is : (T : Total) (d : ℕ) → Summed nothing T 0 (c .L + 1) (cross W (count + 2) (r - 1)) → d ≡ number T % p
+      → d ≡ discrepancy p s r st
+  unfolding discrepancy
+  discrepancy-is T d summed residue =
+      residue
+      ∙ ap (λ x. x % p)
+      (summed .sum ∙ zero-add (sumFrom 0 (c .L + 1) (cross W (count + 2) (r - 1)))
+      ∙ sumFrom-zero (c .L + 1) (cross W (count + 2) (r - 1))
+      ∙ sum-ext (c .L + 1) (cross W (count + 2) (r - 1)) (λ i. at (st .q) i * at s (r - 1 - i))
+      (λ i l. ap₂ _*_ (q-is i (omega (arith, l, laid .within, high))) (sym (getD-take r W (r - 1 - i) 0 (omega (arith, low)))))
+      ∙ ap (λ n. sum (n + 1) (λ i. at (st .q) i * at s (r - 1 - i))) L-is)
+
+  -- ---- the update
+
+  pub copying : (count + 2 + (c .L + 1) ≤ length W) × (c .spare + (c .L + 1) ≤ length W) × ((c .spare ≤ count + 2) ⊎ (count + 2 + (c .L + 1) ≤ c .spare))
+  copying =
+      let b = spare-within count (c .t) (c .spare) (laid .places) in (
+        omega (arith, laid .within, high, room),
+        omega (arith, b .1, laid .within, high, room),
+        inr (omega (arith, b .0, laid .within, high)),
+      )
+
+  -- t's region and the spare one have no place in common
+  apart : (n : ℕ) → n ≤ c .L + 1 → Apart (c .spare) n (c .t) (c .held)
+  apart n l =
+      ⊎-elim
+      (λ e. after (omega (arith, e .0, e .1, laid .short, low, high)))
+      (λ e. before (omega (arith, e .0, e .1, l, laid .within, high)))
+      (laid .places)
+
+  module _ {W₁ : List ℕ} {longer : Bool} (kept : Kept count W W₁ c longer) where
+    room₁ : length W₁ ≡ length W
+    room₁ = kept .copied .same-length
+
+    q₁ : (i : ℕ) → i < count + 2 → at W₁ (count + 2 + i) ≡ at (st .q) i
+    q₁ i l =
+        kept .copied .before (count + 2 + i) (omega (arith, l, spare-within count (c .t) (c .spare) (laid .places) .0)) ∙ q-is i l
+
+    t₁ : (i : ℕ) → i < c .held → at W₁ (c .t + i) ≡ at W (c .t + i)
+    t₁ i l = written-other-at (c .t) (c .held) i (apart (kept .size) (kept .few)) l (kept .copied)
+
+    module _ (d k : ℕ) (constant : k ≡ times p d (c .inverse)) where
+      pub subtracting : (k < p) × (count + 2 + 1 + c .shift + c .held ≤ c .t) × (c .t + c .held ≤ length W₁)
+          × ((i : ℕ) → i < c .held → at W₁ (count + 2 + 1 + c .shift + i) < p)
+      subtracting = (
+        subst (λ x. x < p) (sym constant) (times-lt p d (c .inverse) positive),
+        omega (arith, t-within count (c .t) (c .spare) (laid .places) .0, laid .short, low, high),
+        omega (arith, t-room, room₁),
+        (λ i l.
+            let e : count + 2 + (1 + c .shift + i) ≡ count + 2 + 1 + c .shift + i = omega arith in
+            subst (λ x. at W₁ x < p) e
+            (subst (λ x. x < p) (sym (q₁ (1 + c .shift + i) (omega (arith, l, laid .short, low, high)))) (regular .element (1 + c .shift + i)))),
+      )
+
+      module _ {W′ : List ℕ}
+          (w : Written W₁ (count + 2 + 1 + c .shift) (c .held) (λ i. minus p (at W₁ (count + 2 + 1 + c .shift + i)) (times p k (at W₁ (c .t + i)))) W′) where
+        -- d/e
+        quotient : k ≡ times p d (inverse p (st .e))
+        quotient = constant ∙ ap (times p d) (laid .inverted ∙ ap (inverse p) e-is)
+
+        idle : (i : ℕ) → at (0 ∷ st .t) i ≡ 0 → at (st .q) i ≡ at (update p d st) i
+        idle i e =
+            sym (at-update p d st positive i ∙ ap (λ x. minus p (at (st .q) i) (times p (times p d (inverse p (st .e))) x)) e
+            ∙ ap (minus p (at (st .q) i)) (times-zero p (times p d (inverse p (st .e)))) ∙ minus-zero p (at (st .q) i) (regular .element i))
+
+        inside : (i j : ℕ) → i ≡ 1 + c .shift + j → j < c .held → at W′ (count + 2 + i) ≡ at (update p d st) i
+        inside i j e l =
+            let a : count + 2 + i ≡ count + 2 + 1 + c .shift + j = omega arith in
+            let b : count + 2 + 1 + c .shift + j ≡ count + 2 + (1 + c .shift + j) = omega arith in
+            ap (at W′) a ∙ w .inside j l
+            ∙ ap₂ (λ x y. minus p x (times p k y))
+            (ap (at W₁) b ∙ q₁ (1 + c .shift + j) (omega (arith, l, laid .short, low, high)))
+            (t₁ j l ∙ sym (zt-held j l))
+            ∙ ap (λ x. minus p (at (st .q) (1 + c .shift + j)) (times p x (at (0 ∷ st .t) (1 + c .shift + j)))) quotient
+            ∙ sym (at-update p d st positive (1 + c .shift + j)) ∙ ap (at (update p d st)) (sym e)
+
+        updated : (i : ℕ) → i < count + 2 → at W′ (count + 2 + i) ≡ at (update p d st) i
+        updated i l =
+            ⊎-elim
+            (λ below. w .before (count + 2 + i) (omega arith) ∙ q₁ i l ∙ idle i (zt-low i below))
+            (λ from. ⊎-elim
+            (λ within. inside i (i - (1 + c .shift)) (omega arith) (omega arith))
+            (λ past. w .after (count + 2 + i) (omega arith) ∙ q₁ i l ∙ idle i (zt-end i past))
+            (lt-or-ge i (1 + c .shift + c .held)))
+            (lt-or-ge i (1 + c .shift))
+
+        same-length′ : length W′ ≡ length W
+        same-length′ = w .same-length ∙ room₁
+
+        same-front : take (count + 2) W′ ≡ take (count + 2) W
+        same-front =
+            written-front (count + 2) w (omega (arith, room₁, room)) (omega arith)
+            ∙ written-front (count + 2) (kept .copied) (omega (arith, room)) (omega (arith, spare-within count (c .t) (c .spare) (laid .places) .0))
+
+        -- what stands above q's region stays
+        above : (a i : ℕ) → 2 * (count + 2) ≤ a → at W′ (a + i) ≡ at W₁ (a + i)
+        above a i l = w .after (a + i) (omega (arith, laid .short, low, high))
+
+        t-stays : part (c .t) (c .held) W′ ≡ part (c .t) (c .held) W
+        t-stays =
+            part-ext (c .t) (c .held) W′ W (omega (arith, t-room, same-length′)) t-room
+            (λ i l. above (c .t) i (t-within count (c .t) (c .spare) (laid .places) .0) ∙ t₁ i l)
+
+        q-kept : longer ≡ true → (i : ℕ) → i < c .L + 1 → at W′ (c .spare + i) ≡ at (st .q) i
+        q-kept e i l =
+            above (c .spare) i (spare-within count (c .t) (c .spare) (laid .places) .0)
+            ∙ kept .copied .inside i (subst (λ n. i < n) (sym (kept .all e)) l) ∙ q-is i (omega (arith, l, laid .within, high))
+
+  -- ---- the three cases
+
+  module _ (T : Total) (d : ℕ) (summed : Summed nothing T 0 (c .L + 1) (cross W (count + 2) (r - 1))) (residue : d ≡ number T % p) where
+    d-is : d ≡ discrepancy p s r st
+    d-is = discrepancy-is T d summed residue
+
+    -- a step that ends in the steps given
+    ending : (W′ : List ℕ) (c′ : Register) (st′ : Steps) → steps p s r ≡ st′ → length W′ ≡ length W → c′ .d ≡ d
+        → ((i : ℕ) → i < count + 2 → at W′ (count + 2 + i) ≡ at (st′ .q) i)
+        → ((i : ℕ) → at (timesPower (c′ .shift) (part (c′ .t) (c′ .held) W′)) i ≡ at (st′ .t) i)
+        → c′ .L ≡ st′ .L → c′ .e ≡ st′ .e → FollowsSteps p s r (c′ .d) (represented count W′ c′)
+    ending W′ c′ st′ end same-length found q t L e =
+        record {
+          d = λ l. found ∙ d-is;
+          q = q-whole p count r s W′ (first .two) high (omega (arith, same-length, room)) (λ i l. q i l ∙ ap (λ x. at (x .q) i) (sym end));
+          t = λ i. t i ∙ ap (λ x. at (x .t) i) (sym end);
+          L = L ∙ ap (λ x. x .L) (sym end);
+          e = e ∙ ap (λ x. x .e) (sym end);
+        }
+
+    shifted-laid : {W′ : List ℕ} → length W′ ≡ length W → take (count + 2) W′ ≡ take (count + 2) W → Laid p count r W W′ (shifted d c)
+    shifted-laid same-length terms =
+        record {
+          same-length = same-length;
+          terms = terms;
+          places = laid .places;
+          inverted = laid .inverted;
+          within = omega (arith, laid .within);
+          short = omega (arith, laid .short, low);
+        }
+
+    -- t = z·t
+    t-shifted : (W′ : List ℕ) → part (c .t) (c .held) W′ ≡ part (c .t) (c .held) W
+        → (i : ℕ) → at (timesPower (c .shift + 1) (part (c .t) (c .held) W′)) i ≡ at (0 ∷ st .t) i
+    t-shifted W′ stays i =
+        ap (λ x. at (timesPower (c .shift + 1) x) i) stays
+        ∙ ap (λ x. at x i) (power-next (c .shift) (part (c .t) (c .held) W))
+        ∙ z-same (timesPower (c .shift) (part (c .t) (c .held) W)) (st .t) t-is i
+
+    pub after-zero : d ≡ 0 → FollowsSteps p s r d (represented count W (shifted d c)) × Laid p count r W W (shifted d c)
+    after-zero z = (
+      ending W (shifted d c) (record { q = st .q; t = 0 ∷ st .t; L = st .L; e = st .e })
+          (steps-at p s r low ∙ step-zero p s r st (sym d-is ∙ z)) refl refl q-is (t-shifted W refl) L-is e-is,
+      shifted-laid refl refl,
+    )
+
+    module _ (nonzero : d ≢ 0) {W₁ : List ℕ} {longer : Bool} (kept : Kept count W W₁ c longer) (k : ℕ) (constant : k ≡ times p d (c .inverse)) {W′ : List ℕ}
+        (w : Written W₁ (count + 2 + 1 + c .shift) (c .held) (λ i. minus p (at W₁ (count + 2 + 1 + c .shift + i)) (times p k (at W₁ (c .t + i)))) W′) where
+      pub after-stay : r ≤ 2 * c .L → FollowsSteps p s r d (represented count W′ (shifted d c)) × Laid p count r W W′ (shifted d c)
+      after-stay long = (
+        ending W′ (shifted d c) (record { q = update p d st; t = 0 ∷ st .t; L = st .L; e = st .e })
+            (steps-at p s r low ∙ step-stay p s r st (λ z. nonzero (d-is ∙ z)) (subst (λ x. r ≤ 2 * x) L-is long)
+            ∙ ap {B = Steps} (λ x. record { q = update p x st; t = 0 ∷ st .t; L = st .L; e = st .e }) (sym d-is))
+            (same-length′ kept d k constant w) refl (updated kept d k constant w) (t-shifted W′ (t-stays kept d k constant w)) L-is e-is,
+        shifted-laid (same-length′ kept d k constant w) (same-front kept d k constant w),
+      )
+
+      pub after-grow : longer ≡ true → 2 * c .L < r → (y : ℕ) → y ≡ inverse p d
+          → FollowsSteps p s r d (represented count W′ (lengthened r d y c)) × Laid p count r W W′ (lengthened r d y c)
+      after-grow grows short y inverted = (
+        ending W′ (lengthened r d y c) (record { q = update p d st; t = st .q; L = r - st .L; e = d })
+            (steps-at p s r low ∙ step-grow p s r st (λ z. nonzero (d-is ∙ z)) (subst (λ x. 2 * x < r) L-is short)
+            ∙ ap {B = Steps} (λ x. record { q = update p x st; t = st .q; L = r - st .L; e = x }) (sym d-is))
+            (same-length′ kept d k constant w) refl (updated kept d k constant w) t (ap (λ x. r - x) L-is) refl,
+        record {
+          same-length = same-length′ kept d k constant w;
+          terms = same-front kept d k constant w;
+          places = exchanged count (c .t) (c .spare) (laid .places);
+          inverted = inverted;
+          within = omega arith;
+          short = omega (arith, laid .within, low);
+        },
+      )
+        where
+          fits : c .spare + (c .L + 1) ≤ length W′
+          fits = omega (arith, copying .1, same-length′ kept d k constant w)
+
+          t : (i : ℕ) → at (timesPower 0 (part (c .spare) (c .L + 1) W′)) i ≡ at (st .q) i
+          t i =
+              ap (λ x. at x i) (power-none (part (c .spare) (c .L + 1) W′))
+              ∙ ⊎-elim
+              (λ l. at-part (c .spare) (c .L + 1) W′ i l ∙ q-kept kept d k constant w grows i l)
+              (λ l. part-past (c .spare) (c .L + 1) W′ i fits l ∙ sym (past i (omega arith)))
+              (lt-or-ge i (c .L + 1))

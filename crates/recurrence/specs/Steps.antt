@@ -1,0 +1,64 @@
+-- What stands after each r of the recurrence's steps (src/steps.rt), as document 02, (iv), asks. What is represented, by names of the meaning alone:
+--     FollowsSteps     "after each r its d, q, t, L and e are those of document 01's steps"
+-- How a slice and a register represent it. The slice has four regions of count + 2 places: the terms, q, and two in which t and the q that is to become t
+-- take turns.
+--     timesPower k f   z to the power k times f
+--     represented      the q, t, L and e that regions and register stand for
+--     Places           where t stands and which region it leaves free: the third and the fourth, or the other way round
+--     Laid             a slice before and after: its terms stay, and the register fits its regions
+--     BeforeStep       what is asked for r: p of 2 to 2³¹ − 1, prime or not; four regions; of the terms the first r, and of no later one anything; and all
+--                      that the steps for 1 to r − 1 left
+use mathlib.Core.Path.{_≡_}
+use mathlib.Core.Logic.{_⊎_}
+use mathlib.Core.List.{List, _∷_}
+use Prim.Native.Nat.{ℕ, zero, suc, _+_, _-_, _*_, _≤_, _<_}
+use lib.ListN.{length, take}
+use Rattle.meaning.specs.List.{at}
+use Rattle.meaning.specs.Field.{inverse}
+use Rattle.meaning.specs.Recurrence.{Steps, discrepancy, steps}
+use Rattle.laws.specs.Part.{part}
+use Rattle.recurrence.specs.declared.steps.Register.{Register}
+use Rattle.recurrence.specs.Recurrence.{Ready}
+
+-- ---- what is represented
+
+pub record FollowsSteps (p : ℕ) (s : List ℕ) (r δ : ℕ) (c : Steps) : Type 0 where
+  -- by the q and L that r found; before the first r there is none
+  pub d : 0 < r → δ ≡ discrepancy p s r (steps p s (r - 1))
+  -- polynomials: "absent coefficients being 0"
+  pub q : (i : ℕ) → at (c .q) i ≡ at (steps p s r .q) i
+  pub t : (i : ℕ) → at (c .t) i ≡ at (steps p s r .t) i
+  pub L : c .L ≡ steps p s r .L
+  pub e : c .e ≡ steps p s r .e
+
+-- ---- how
+
+unfoldable pub timesPower : ℕ → List ℕ → List ℕ
+timesPower zero f = f
+timesPower (suc k) f = 0 ∷ timesPower k f
+
+abbrev pub represented : ℕ → List ℕ → Register → Steps
+represented count W c =
+    record { q = part (count + 2) (count + 2) W; t = timesPower (c .shift) (part (c .t) (c .held) W); L = c .L; e = c .e }
+
+abbrev pub Places : ℕ → ℕ → ℕ → Type 0
+Places count t spare =
+    ((t ≡ 2 * (count + 2)) × (spare ≡ 3 * (count + 2))) ⊎ ((t ≡ 3 * (count + 2)) × (spare ≡ 2 * (count + 2)))
+
+pub record Laid (p count r : ℕ) (W W′ : List ℕ) (c : Register) : Type 0 where
+  pub same-length : length W′ ≡ length W
+  pub terms : take (count + 2) W′ ≡ take (count + 2) W
+  pub places : Places count (c .t) (c .spare)
+  pub inverted : c .inverse ≡ inverse p (c .e)
+  pub within : c .L ≤ r
+  -- t ends in its region, however often it is multiplied by z
+  pub short : c .shift + c .held + c .L ≤ r + 1
+
+pub record BeforeStep (p count r : ℕ) (W : List ℕ) (c : Register) : Type 0 where
+  pub first : Ready p r W
+  pub low : 0 < r
+  pub high : r ≤ count
+  pub few : count ≤ 8192
+  pub room : 4 * count + 8 ≤ length W
+  pub follows : FollowsSteps p (take (r - 1) W) (r - 1) (c .d) (represented count W c)
+  pub laid : Laid p count (r - 1) W W c
