@@ -173,9 +173,11 @@ void compare(std::vector<Library> &libraries) {
         for (uint32_t p : {251u, 2147483647u}) {
             Random random(n * 1000 + k + p);
             System s = some_system(random, n, k, p, true);
+            Vector terms = first_terms(s);
             s.words.clear();
-            Case c(s, s.b, s.b);
+            Case c(s, s.b, terms);
             libraries[0].places[0]->write(c);
+            row(libraries, "small, recurrence" + size(n, k, p), &Calls::recurrence, c);
             row(libraries, "small, number call" + size(n, k, p), &Calls::solve, c);
             row(libraries, "small, text call" + size(n, k, p), &Calls::text, c);
         }
@@ -191,6 +193,9 @@ void compare(std::vector<Library> &libraries) {
             row(libraries, "g(A)v, 64 products" + size(rows, k, p), &Calls::apply, c);
             row(libraries, "recurrence" + size(rows, k, p), &Calls::recurrence, c);
             row(libraries, "solve" + size(rows, k, p), &Calls::solve, c);
+            // L becomes n at once and stays; every later term changes one coefficient of q.
+            std::fill_n(terms.begin(), rows - 1, 0);
+            row(libraries, "recurrence, zeros first" + size(rows, k, p), &Calls::recurrence, c);
         }
     printf("\nlargest ratio %.3f: %s\n", largest, largest_row.c_str());
 }

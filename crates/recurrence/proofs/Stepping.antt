@@ -1,16 +1,15 @@
 -- What the code's step makes of a slice that holds the steps before r: document 01's step for r, of the first r terms.
 --     front, written-front       what happens further up leaves the front
---     fresh, after-start         the register of q = 1, t = 0, L = 0 and e = 1, and the start
---     before-step                after r − 1 steps the slice is ready for r
+--     fresh, shifted, lengthened       a register of q = 1, t = 0, L = 0 and e = 1; after t = z·t; after t = q, L = r − L, e = d
+--     start-laid, start-follows  the start
+--     first-terms, before-step   what a start asks, and a step after r − 1 others
 --     crossing                   what the discrepancy's products ask
---     shifted, lengthened        a register after t = z·t, and after t = q, L = r − L, e = d
---     Kept, kept-same, kept-copied     the slice where the update begins: as it was, but for a copy of q where the length is to change
+--     Kept, kept-same, kept-copied     the slice where the update begins: as it was, but for a copy of q in the spare region
 --     copying, subtracting       what the copy and the update ask
 --     discrepancy-is             the sum of the products is the discrepancy
 --     after-zero, after-stay, after-grow      the three cases
 use mathlib.Core.Path.{_≡_, refl, sym, ap, ap₂, _∙_, subst}
 use mathlib.Core.Logic.{_≢_, _⊎_, inl, inr, ⊎-elim}
-use mathlib.Core.Bool.{Bool, true, false}
 use mathlib.Core.List.{List, [], _∷_}
 use Prim.Native.Nat.{ℕ, zero, suc, _+_, _-_, _*_, _%_, _≤_, _<_}
 use native.Mathlib.Nat.{zero-add, mod-eq-of-lt}
@@ -31,8 +30,8 @@ use Rattle.modular.specs.Sums.{Summed, sumFrom-zero}
 use Rattle.recurrence.specs.declared.steps.Register.{Register}
 use Rattle.recurrence.specs.Convolution.{cross, Crossing, nothing}
 use Rattle.recurrence.specs.Recurrence.{Ready}
-use Rattle.recurrence.specs.Steps.{FollowsSteps, timesPower, represented, Laid, BeforeStep}
-use Rattle.recurrence.proofs.Represented.{lt-or-ge, power-none, power-low, power-at, power-next, z-same, part-past, t-within, spare-within, exchanged, terms-same, follows-after, laid-own}
+use Rattle.recurrence.specs.Steps.{FollowsSteps, timesPower, represented, Laid, FirstTerms, BeforeStep}
+use Rattle.recurrence.proofs.Represented.{lt-or-ge, power-none, power-low, power-at, power-next, z-same, part-past, t-within, spare-within, exchanged, follows-after, laid-own}
 
 -- ---- the front
 
@@ -75,7 +74,9 @@ q-whole p count r s W two few room held i =
 
 -- ---- the start
 
-module _ (p count : ℕ) (W W₁ : List ℕ) (ready : Ready p count W) (w : Written W (count + 2) (count + 2) (λ i. 0) W₁) where
+module _ (p count : ℕ) (W W₁ : List ℕ) (first : FirstTerms p count 0 W) (w : Written W (count + 2) (count + 2) (λ i. 0) W₁) where
+  open FirstTerms first using (ready, room)
+
   abbrev W₀ : List ℕ
   W₀ = set W₁ (count + 2) 1
 
@@ -85,7 +86,7 @@ module _ (p count : ℕ) (W W₁ : List ℕ) (ready : Ready p count W) (w : Writ
   one : (i : ℕ) → i < count + 2 → at W₀ (count + 2 + i) ≡ at (1 ∷ []) i
   one zero l =
       let e : count + 2 + 0 ≡ count + 2 = omega arith in
-      ap (at W₀) e ∙ getD-set-same W₁ (count + 2) 1 0 (omega (arith, w .same-length, ready .room))
+      ap (at W₀) e ∙ getD-set-same W₁ (count + 2) 1 0 (omega (arith, w .same-length, room))
   one (suc i) l = getD-set-other W₁ (count + 2) (count + 2 + suc i) 1 0 (omega arith) ∙ w .inside (suc i) l
 
   pub start-laid : Laid p count 0 W W₀ (fresh count)
@@ -93,7 +94,7 @@ module _ (p count : ℕ) (W W₁ : List ℕ) (ready : Ready p count W) (w : Writ
       record {
         same-length = same-length;
         terms =
-            take-set-le (count + 2) W₁ (count + 2) 1 (omega arith) ∙ written-front (count + 2) w (omega (arith, ready .room)) (omega arith);
+            take-set-le (count + 2) W₁ (count + 2) 1 (omega arith) ∙ written-front (count + 2) w (omega (arith, room)) (omega arith);
         places = inl (refl, refl);
         inverted = sym (inverse-is p 1 1 (ready .two) (mod-eq-of-lt (ready .two)));
         within = omega arith;
@@ -105,7 +106,7 @@ module _ (p count : ℕ) (W W₁ : List ℕ) (ready : Ready p count W) (w : Writ
   start-follows =
       record {
         d = λ l. absurd (omega arith);
-        q = q-whole p count 0 (take 0 W) W₀ (ready .two) (omega arith) (omega (arith, same-length, ready .room))
+        q = q-whole p count 0 (take 0 W) W₀ (ready .two) (omega arith) (omega (arith, same-length, room))
             (λ i l. one i l ∙ sym (ap (λ x. at (x .q) i) (steps-zero p (take 0 W))));
         t = λ i. sym (ap (λ x. at (x .t) i) (steps-zero p (take 0 W)));
         L = sym (ap (λ x. x .L) (steps-zero p (take 0 W)));
@@ -114,58 +115,73 @@ module _ (p count : ℕ) (W W₁ : List ℕ) (ready : Ready p count W) (w : Writ
 
 -- ---- from one r to the next
 
-pub before-step : {p count r : ℕ} {W W′ : List ℕ} {c : Register} → Ready p count W → r < count
-    → FollowsSteps p (take r W) r (c .d) (represented count W′ c) → Laid p count r W W′ c → BeforeStep p count (r + 1) W′ c
-before-step {p} {count} {r} {W} {W′} {c} ready l follows laid =
+pub first-terms : {p count : ℕ} {W : List ℕ} (r : ℕ) → r ≤ count → Ready p count W → FirstTerms p count r W
+first-terms r l ready =
     record {
-      first =
+      ready =
           record {
             two = ready .two;
             small = ready .small;
-            few = omega (arith, ready .few, l);
-            room = omega (arith, laid .same-length, ready .room, l);
-            elements = λ i b. subst (λ x. x < p) (sym (same i (omega (arith, b, l)))) (ready .elements i (omega (arith, b, l)));
+            few = omega (arith, ready .few);
+            room = omega (arith, ready .room);
+            elements = λ i b. ready .elements i (omega arith);
           };
-      low = omega arith;
-      high = omega arith;
+      high = l;
+      few = ready .few;
+      room = ready .room;
+    }
+
+-- the terms are still there
+still : {p count r : ℕ} {W W′ : List ℕ} {c : Register} → Laid p count r W W′ c → Ready p count W → Ready p count W′
+still {p} {count} {W} {W′} laid ready =
+    record {
+      two = ready .two;
+      small = ready .small;
       few = ready .few;
       room = omega (arith, laid .same-length, ready .room);
-      follows =
-          let e : r ≡ r + 1 - 1 = omega arith in
-          subst (λ n. FollowsSteps p (take n W′) n (c .d) (represented count W′ c)) e (follows-after laid r (omega arith) follows);
-      laid =
-          let e : r ≡ r + 1 - 1 = omega arith in
-          subst (λ n. Laid p count n W′ W′ c) e (laid-own laid);
+      elements = λ i l. subst (λ x. x < p) (sym (same i l)) (ready .elements i l);
     }
   where
     same : (i : ℕ) → i < count → at W′ i ≡ at W i
     same i b =
         sym (getD-take (count + 2) W′ i 0 (omega arith)) ∙ ap (λ l. at l i) (laid .terms) ∙ getD-take (count + 2) W i 0 (omega arith)
 
--- W₁ is W, but for the first `size` coefficients of q in the spare region: all of them where the length is to change
-pub record Kept (count : ℕ) (W W₁ : List ℕ) (c : Register) (longer : Bool) : Type 0 where
-  pub size : ℕ
-  pub few : size ≤ c .L + 1
-  pub all : longer ≡ true → size ≡ c .L + 1
-  pub copied : Written W (c .spare) size (λ i. at W (count + 2 + i)) W₁
-
-pub kept-same : {count : ℕ} {W : List ℕ} {c : Register} → Kept count W W c false
-kept-same {count} {W} {c} =
+pub before-step : {p count r : ℕ} {W W′ : List ℕ} {c : Register} → Ready p count W → r < count
+    → FollowsSteps p (take r W) r (c .d) (represented count W′ c) → Laid p count r W W′ c → BeforeStep p count (r + 1) W′ c
+before-step {p} {count} {r} {W} {W′} {c} ready l follows laid =
+    let e : r ≡ r + 1 - 1 = omega arith in
     record {
-      size = 0;
-      few = omega arith;
-      all = λ e. absurd (let z : _≡_ {A = ℕ} 0 1 = cc in omega arith);
-      copied = written-none W (c .spare) (λ i. at W (count + 2 + i));
+      low = omega arith;
+      first = first-terms (r + 1) (omega arith) (still laid ready);
+      follows = subst (λ n. FollowsSteps p (take n W′) n (c .d) (represented count W′ c)) e (follows-after laid r (omega arith) follows);
+      laid = subst (λ n. Laid p count n W′ W′ c) e (laid-own laid);
     }
 
-pub kept-copied : {count : ℕ} {W W₁ : List ℕ} {c : Register} {longer : Bool} → Written W (c .spare) (c .L + 1) (λ i. at W (count + 2 + i)) W₁
-    → Kept count W W₁ c longer
-kept-copied {c} w = record { size = c .L + 1; few = omega arith; all = λ e. refl; copied = w }
+-- W₁ is W, but for the first `size` coefficients of q in the spare region
+pub record Kept (count : ℕ) (W W₁ : List ℕ) (c : Register) (size : ℕ) : Type 0 where
+  pub few : size ≤ c .L + 1
+  pub copied : Written W (c .spare) size (λ i. at W (count + 2 + i)) W₁
+
+pub kept-same : {count : ℕ} {W W₁ : List ℕ} {c : Register} → W₁ ≡ W → Kept count W W₁ c 0
+kept-same {count} {W} {c} e =
+    record {
+      few = omega arith;
+      copied = subst (λ W₁. Written W (c .spare) 0 (λ i. at W (count + 2 + i)) W₁) (sym e) (written-none W (c .spare) (λ i. at W (count + 2 + i)));
+    }
+
+pub kept-copied : {count : ℕ} {W W₁ W₂ : List ℕ} {c : Register} → W₁ ≡ W₂
+    → Written W (c .spare) (c .L + 1) (λ i. at W (count + 2 + i)) W₂ → Kept count W W₁ c (c .L + 1)
+kept-copied {count} {W} {c} e w =
+    record {
+      few = omega arith;
+      copied = subst (λ W₁. Written W (c .spare) (c .L + 1) (λ i. at W (count + 2 + i)) W₁) (sym e) w;
+    }
 
 -- ---- the step for r
 
 module _ {p count r : ℕ} {W : List ℕ} {c : Register} (ask : BeforeStep p count r W c) where
-  open BeforeStep ask using (first, low, high, few, room, follows, laid)
+  open BeforeStep ask using (low, first, follows, laid)
+  open FirstTerms first using (ready, high, few, room)
 
   abbrev s : List ℕ
   s = take r W
@@ -174,10 +190,10 @@ module _ {p count r : ℕ} {W : List ℕ} {c : Register} (ask : BeforeStep p cou
   st = steps p s (r - 1)
 
   regular : Regular p (r - 1) st
-  regular = steps-regular p (first .two) s (r - 1)
+  regular = steps-regular p (ready .two) s (r - 1)
 
   positive : 0 < p
-  positive = omega (arith, first .two)
+  positive = omega (arith, ready .two)
 
   -- the steps for 1 to r − 1 do not ask for the term that r adds
   same : steps p (take (r - 1) W) (r - 1) ≡ st
@@ -232,8 +248,8 @@ module _ {p count r : ℕ} {W : List ℕ} {c : Register} (ask : BeforeStep p cou
         front = omega (arith, laid .within, high, room);
         back = omega (arith, laid .within, low);
         room = omega (arith, high, room);
-        left = λ i a l. omega (arith, q-element i (omega (arith, l, laid .within, high)), first .small);
-        right = λ i a l. omega (arith, first .elements (r - 1 - i) (omega (arith, low)), first .small);
+        left = λ i a l. omega (arith, q-element i (omega (arith, l, laid .within, high)), ready .small);
+        right = λ i a l. omega (arith, ready .elements (r - 1 - i) (omega (arith, low)), ready .small);
       }
 
   discrepancy-is : (T : Total) (d : ℕ) → Summed nothing T 0 (c .L + 1) (cross W (count + 2) (r - 1)) → d ≡ number T % p
@@ -266,7 +282,7 @@ module _ {p count r : ℕ} {W : List ℕ} {c : Register} (ask : BeforeStep p cou
       (λ e. before (omega (arith, e .0, e .1, l, laid .within, high)))
       (laid .places)
 
-  module _ {W₁ : List ℕ} {longer : Bool} (kept : Kept count W W₁ c longer) where
+  module _ {W₁ : List ℕ} {size : ℕ} (kept : Kept count W W₁ c size) where
     room₁ : length W₁ ≡ length W
     room₁ = kept .copied .same-length
 
@@ -275,7 +291,7 @@ module _ {p count r : ℕ} {W : List ℕ} {c : Register} (ask : BeforeStep p cou
         kept .copied .before (count + 2 + i) (omega (arith, l, spare-within count (c .t) (c .spare) (laid .places) .0)) ∙ q-is i l
 
     t₁ : (i : ℕ) → i < c .held → at W₁ (c .t + i) ≡ at W (c .t + i)
-    t₁ i l = written-other-at (c .t) (c .held) i (apart (kept .size) (kept .few)) l (kept .copied)
+    t₁ i l = written-other-at (c .t) (c .held) i (apart size (kept .few)) l (kept .copied)
 
     module _ (d k : ℕ) (constant : k ≡ times p d (c .inverse)) where
       pub subtracting : (k < p) × (count + 2 + 1 + c .shift + c .held ≤ c .t) × (c .t + c .held ≤ length W₁)
@@ -339,10 +355,10 @@ module _ {p count r : ℕ} {W : List ℕ} {c : Register} (ask : BeforeStep p cou
             part-ext (c .t) (c .held) W′ W (omega (arith, t-room, same-length′)) t-room
             (λ i l. above (c .t) i (t-within count (c .t) (c .spare) (laid .places) .0) ∙ t₁ i l)
 
-        q-kept : longer ≡ true → (i : ℕ) → i < c .L + 1 → at W′ (c .spare + i) ≡ at (st .q) i
+        q-kept : size ≡ c .L + 1 → (i : ℕ) → i < c .L + 1 → at W′ (c .spare + i) ≡ at (st .q) i
         q-kept e i l =
             above (c .spare) i (spare-within count (c .t) (c .spare) (laid .places) .0)
-            ∙ kept .copied .inside i (subst (λ n. i < n) (sym (kept .all e)) l) ∙ q-is i (omega (arith, l, laid .within, high))
+            ∙ kept .copied .inside i (subst (λ n. i < n) (sym e) l) ∙ q-is i (omega (arith, l, laid .within, high))
 
   -- ---- the three cases
 
@@ -358,7 +374,7 @@ module _ {p count r : ℕ} {W : List ℕ} {c : Register} (ask : BeforeStep p cou
     ending W′ c′ st′ end same-length found q t L e =
         record {
           d = λ l. found ∙ d-is;
-          q = q-whole p count r s W′ (first .two) high (omega (arith, same-length, room)) (λ i l. q i l ∙ ap (λ x. at (x .q) i) (sym end));
+          q = q-whole p count r s W′ (ready .two) high (omega (arith, same-length, room)) (λ i l. q i l ∙ ap (λ x. at (x .q) i) (sym end));
           t = λ i. t i ∙ ap (λ x. at (x .t) i) (sym end);
           L = L ∙ ap (λ x. x .L) (sym end);
           e = e ∙ ap (λ x. x .e) (sym end);
@@ -390,7 +406,7 @@ module _ {p count r : ℕ} {W : List ℕ} {c : Register} (ask : BeforeStep p cou
       shifted-laid refl refl,
     )
 
-    module _ (nonzero : d ≢ 0) {W₁ : List ℕ} {longer : Bool} (kept : Kept count W W₁ c longer) (k : ℕ) (constant : k ≡ times p d (c .inverse)) {W′ : List ℕ}
+    module _ (nonzero : d ≢ 0) {W₁ : List ℕ} {size : ℕ} (kept : Kept count W W₁ c size) (k : ℕ) (constant : k ≡ times p d (c .inverse)) {W′ : List ℕ}
         (w : Written W₁ (count + 2 + 1 + c .shift) (c .held) (λ i. minus p (at W₁ (count + 2 + 1 + c .shift + i)) (times p k (at W₁ (c .t + i)))) W′) where
       pub after-stay : r ≤ 2 * c .L → FollowsSteps p s r d (represented count W′ (shifted d c)) × Laid p count r W W′ (shifted d c)
       after-stay long = (
@@ -401,9 +417,9 @@ module _ {p count r : ℕ} {W : List ℕ} {c : Register} (ask : BeforeStep p cou
         shifted-laid (same-length′ kept d k constant w) (same-front kept d k constant w),
       )
 
-      pub after-grow : longer ≡ true → 2 * c .L < r → (y : ℕ) → y ≡ inverse p d
+      pub after-grow : size ≡ c .L + 1 → 2 * c .L < r → (y : ℕ) → y ≡ inverse p d
           → FollowsSteps p s r d (represented count W′ (lengthened r d y c)) × Laid p count r W W′ (lengthened r d y c)
-      after-grow grows short y inverted = (
+      after-grow whole short y inverted = (
         ending W′ (lengthened r d y c) (record { q = update p d st; t = st .q; L = r - st .L; e = d })
             (steps-at p s r low ∙ step-grow p s r st (λ z. nonzero (d-is ∙ z)) (subst (λ x. 2 * x < r) L-is short)
             ∙ ap {B = Steps} (λ x. record { q = update p x st; t = st .q; L = r - st .L; e = x }) (sym d-is))
@@ -425,6 +441,6 @@ module _ {p count r : ℕ} {W : List ℕ} {c : Register} (ask : BeforeStep p cou
           t i =
               ap (λ x. at x i) (power-none (part (c .spare) (c .L + 1) W′))
               ∙ ⊎-elim
-              (λ l. at-part (c .spare) (c .L + 1) W′ i l ∙ q-kept kept d k constant w grows i l)
+              (λ l. at-part (c .spare) (c .L + 1) W′ i l ∙ q-kept kept d k constant w whole i l)
               (λ l. part-past (c .spare) (c .L + 1) W′ i fits l ∙ sym (past i (omega arith)))
               (lt-or-ge i (c .L + 1))

@@ -6,8 +6,8 @@
 --     represented      the q, t, L and e that regions and register stand for
 --     Places           where t stands and which region it leaves free: the third and the fourth, or the other way round
 --     Laid             a slice before and after: its terms stay, and the register fits its regions
---     BeforeStep       what is asked for r: p of 2 to 2³¹ − 1, prime or not; four regions; of the terms the first r, and of no later one anything; and all
---                      that the steps for 1 to r − 1 left
+--     FirstTerms       room for count terms and for the other regions, and the first r terms, all below p; of later ones nothing is asked
+--     BeforeStep       what is asked for r: the first r terms, and what the steps for 1 to r − 1 left
 use mathlib.Core.Path.{_≡_}
 use mathlib.Core.Logic.{_⊎_}
 use mathlib.Core.List.{List, _∷_}
@@ -54,11 +54,14 @@ pub record Laid (p count r : ℕ) (W W′ : List ℕ) (c : Register) : Type 0 wh
   -- t ends in its region, however often it is multiplied by z
   pub short : c .shift + c .held + c .L ≤ r + 1
 
-pub record BeforeStep (p count r : ℕ) (W : List ℕ) (c : Register) : Type 0 where
-  pub first : Ready p r W
-  pub low : 0 < r
+pub record FirstTerms (p count r : ℕ) (W : List ℕ) : Type 0 where
+  pub ready : Ready p r W
   pub high : r ≤ count
   pub few : count ≤ 8192
   pub room : 4 * count + 8 ≤ length W
+
+pub record BeforeStep (p count r : ℕ) (W : List ℕ) (c : Register) : Type 0 where
+  pub low : 0 < r
+  pub first : FirstTerms p count r W
   pub follows : FollowsSteps p (take (r - 1) W) (r - 1) (c .d) (represented count W c)
   pub laid : Laid p count (r - 1) W W c

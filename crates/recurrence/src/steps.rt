@@ -13,7 +13,6 @@ use modular::modulus::Modulus;
 use modular::multiplier::Multiplier;
 use slices::clear;
 use slices::copy_within;
-ghost use mathlib.Core.Path.{_≡_};
 ghost use Prim.Native.Nat.{ℕ, _+_, _≤_, _<_};
 ghost use lib.ListN.{length, take};
 ghost use Rattle.meaning.specs.List.{at};
@@ -21,7 +20,7 @@ ghost use Rattle.meaning.specs.Field.{minus, times};
 ghost use Rattle.modular.specs.Modulus.{Modular};
 ghost use Rattle.laws.specs.Written.{Written};
 ghost use Rattle.recurrence.specs.Recurrence.{Ready, HoldsGenerator, Reversed};
-ghost use Rattle.recurrence.specs.Steps.{FollowsSteps, represented, Laid, BeforeStep};
+ghost use Rattle.recurrence.specs.Steps.{FollowsSteps, represented, Laid, FirstTerms, BeforeStep};
 
 // What the steps keep beside the regions.
 pub(crate) struct Register {
@@ -77,7 +76,7 @@ fn reverse(work: &mut [u32], from: usize, length: usize)
 
 // Λ₀ ← 1; Σ₀ ← 0; l₀ ← 0; δ ← 1: q = 1, t = 0, L = 0, e = 1, whatever the regions held.
 pub(crate) fn start(p: u32, count: usize, work: &mut [u32]) -> Register
-    requires { ⌜ Ready p count (now work) ⌝ }
+    requires { ⌜ FirstTerms p count 0 (now work) ⌝ }
     ensures { λ c. ⌜ FollowsSteps p (take 0 (now (work .entry))) 0 (c .d) (represented count (now (work .exit)) c) ⌝ }
     ensures { λ c. ⌜ Laid p count 0 (now (work .entry)) (now (work .exit)) c ⌝ }
 {
@@ -97,7 +96,7 @@ pub(crate) fn start(p: u32, count: usize, work: &mut [u32]) -> Register
     }
 }
 
-// What is done for r: d, q, t, L and e of r − 1 become those of r. Of the terms the first r are read.
+// The body of the loop: what is done for r. d, q, t, L and e of r − 1 become those of r; of the terms the first r are read, and no later one.
 pub(crate) fn step(
     m: Modulus,
     count: usize,
@@ -111,41 +110,32 @@ pub(crate) fn step(
 {
     let q = count + 2;
     let mut c = before;
-    // Discrepancy. δ_r: d = the sum of q[i] × s[r − 1 − i] over i = 0 to L.
+    // Discrepancy, δ_r: d = the sum of q[i] × s[r − 1 − i] over i = 0 to L.
     let d = crossed(work, q, r - 1, 0, c.L + 1).residue(m);
     c.d = d;
     if d == 0 {
-        // If δ_r = 0: t = z·t.
-        c.shift += 1;
+        c.shift += 1; // Σ_r ← λ·Σ_{r−1}: t = z·t; q, L and e stay
         return c;
     }
-    // Update. Else Λ_r ← Λ_{r−1} − (δ_r/δ)·λ·Σ_{r−1}: q = q − (d/e)·z·t. Where t is to become the old q, that is copied first.
+    // Update, Λ_r ← Λ_{r−1} − (δ_r/δ)·λ·Σ_{r−1}: q = q − (d/e)·z·t, in q's place. Where t is to become q, q is copied before.
     let longer = 2 * c.L < r;
     if longer {
         copy_within(work, q, c.spare, c.L + 1);
     }
-    subtract(
-        m,
-        m.product(d, c.inverse),
-        work,
-        q + 1 + c.shift,
-        c.t,
-        c.held,
-    );
-    // Length.
+    let quotient = m.product(d, c.inverse);
+    subtract(m, quotient, work, q + 1 + c.shift, c.t, c.held);
+    // Length. If 2·l_{r−1} < r (document 002 prints l_r): t = q, L = r − L, e = d. Otherwise t = z·t.
     if longer {
-        // If 2·l < r: t = the old q, L = r − L, e = d.
         let t = c.t;
-        c.t = c.spare;
-        c.spare = t;
+        c.t = c.spare; // Σ_r ← Λ_{r−1}: t = q, the copy
         c.held = c.L + 1;
         c.shift = 0;
-        c.L = r - c.L;
-        c.e = d;
+        c.spare = t;
+        c.L = r - c.L; // l_r ← r − l_{r−1}: L = r − L
+        c.e = d; // δ ← δ_r: e = d
         c.inverse = field::inverse_modulo(m.p, d);
     } else {
-        // Else: t = z·t.
-        c.shift += 1;
+        c.shift += 1; // Σ_r ← λ·Σ_{r−1}: t = z·t; L and e stay
     }
     c
 }

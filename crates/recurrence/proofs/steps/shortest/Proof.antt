@@ -7,7 +7,7 @@ use borrow.Author.Needs.{needs}
 use lib.ListN.{take}
 use Rattle.recurrence.specs.Steps.{FollowsSteps, represented, Laid}
 use Rattle.recurrence.proofs.Represented.{follows-before, follows-after, laid-both, laid-own}
-use Rattle.recurrence.proofs.Stepping.{before-step}
+use Rattle.recurrence.proofs.Stepping.{first-terms, before-step}
 use Rattle.recurrence.proofs.HoldsGenerator.{holds-generator}
 use Rattle.recurrence.proofs.steps.shortest.Statement.{statement}
 use Rattle.recurrence.proofs.steps.shortest.Tie as tie
@@ -20,7 +20,7 @@ abbrev μ-loop : tie.MeasureT-loop
 μ-loop m count work₀ c₀ r₀ work c r = count - r
 
 start-requires : tie.Need-start-requires Inv-loop μ-loop
-start-requires c κs = c .before .before .pre .0
+start-requires c κs = first-terms 0 (omega arith) (c .before .before .pre .0)
 
 loop-holds : tie.Need-loop-holds Inv-loop μ-loop
 loop-holds c =

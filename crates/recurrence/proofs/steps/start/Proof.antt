@@ -51,15 +51,15 @@ same-length c = search needs
 returns : tie.Need-returns
 returns c =
     let a = c .before .before .before .before .before .args in
-    let ready = c .before .before .before .before .before .pre in
+    let first = c .before .before .before .before .before .pre in
     let W = now (a .work) in
     let q = a .count + 2 in
     let m = 2 * q - q in
     let size : m ≡ q = omega arith in
-    let fits : q + m ≤ length W = omega (arith, size, ready .room) in
+    let fits : q + m ≤ length W = omega (arith, size, first .room) in
     let cleared =
     written-all size (written-lent W q m (λ i. 0) (c .before .before .clear .last .0) fits (c .before .before .clear .ensures ∙ ap zeros (length-part q m W fits))) in
-    (start-follows (a .p) (a .count) W _ ready cleared, start-laid (a .p) (a .count) W _ ready cleared)
+    (start-follows (a .p) (a .count) W _ first cleared, start-laid (a .p) (a .count) W _ first cleared)
 
 pub start-spec : {M : Type 1} → statement M
 start-spec =

@@ -1,13 +1,12 @@
 -- `recurrence::steps::step` meets its contract: each way through it is a case of document 01's step.
-use mathlib.Core.Path.{_≡_, sym, _∙_, subst}
+use mathlib.Core.Path.{_≡_, refl, _∙_}
 use mathlib.Core.Logic.{⊎-elim}
-use mathlib.Core.List.{List}
+use mathlib.Core.Bool.{Bool, true, false}
 use Prim.Native.Nat.{ℕ, _*_, _%_}
 use native.Mathlib.Omega.{arith}
 use denote.Ref.{now}
 use borrow.Author.Needs.{needs}
 use borrow.Author.Tests.{ltb-true, ltb-false}
-use lib.Dec.{ltb}
 use Rattle.meaning.specs.Field.{times}
 use Rattle.modular.specs.Modulus.{product-of}
 use Rattle.modular.specs.Total.{number, residue-number}
@@ -18,18 +17,22 @@ use Rattle.recurrence.proofs.steps.step.Statement.{statement}
 use Rattle.recurrence.proofs.steps.step.Tie as tie
 
 -- where the update begins
-abbrev KeptAt : tie.Joined2 → List ℕ → Type 0
-KeptAt c W =
+abbrev KeptAt : tie.Joined2 → Type 0
+KeptAt c =
     let a = c .before .before .before .before .before .before .before .before .args in
-    Kept (a .count) (now (a .work)) W (a .before) (ltb (2 * a .before .L) (a .r))
+    (size : ℕ) × Kept (a .count) (now (a .work)) (c .if2 .work) (a .before) size
 
-kept : (c : tie.Joined2) → KeptAt c (c .if2 .work)
+kept : (c : tie.Joined2) → KeptAt c
 kept c =
     let start = c .before .before .before .before .before .before .before .before in
     ⊎-elim
-    (λ w. subst (KeptAt c) (sym (w .6)) (stepping.kept-copied (w .3 .ensures .copied (stepping.copying (start .pre .0)))))
-    (λ w. subst (KeptAt c) (sym (w .1)) (subst (λ b. Kept (start .args .count) (now (start .args .work)) (now (start .args .work)) (start .args .before) b) (sym (w .0 .left)) stepping.kept-same))
+    (λ w. (_, stepping.kept-copied (w .6) (w .3 .ensures .copied (stepping.copying (start .pre .0)))))
+    (λ w. (_, stepping.kept-same (w .1)))
     (c .if2 .came)
+
+-- a test comes out one way
+one-way : {b : Bool} {A : Type 0} → b ≡ true → b ≡ false → A
+one-way {b} {A} t f = absurd (let z : _≡_ {A = ℕ} 0 1 = cc in omega arith)
 
 -- the discrepancy
 found : (c : tie.After-residue) → c .residue .result ≡ number (c .before .crossed .result) % c .before .before .before .before .before .args .m .p
@@ -38,7 +41,7 @@ found c =
     let sum = c .before .crossed in
     c .residue .ensures
     ∙ residue-number (start .args .m) (sum .result) (start .pre .1) (sum .ensures .low)
-    (omega (arith, sum .ensures .carries, start .pre .0 .laid .within, start .pre .0 .high, start .pre .0 .few))
+    (omega (arith, sum .ensures .carries, start .pre .0 .laid .within, start .pre .0 .first .high, start .pre .0 .first .few))
 
 -- d / e
 factor : (c : tie.After-product)
@@ -68,7 +71,7 @@ residue-requires c κs = search needs
 add-c : tie.Need-add-c
 add-c c =
     let ask = c .before .before .before .before .before .before .before .pre .0 in
-    omega (arith, ask .laid .short, ask .high, ask .few)
+    omega (arith, ask .laid .short, ask .first .high, ask .first .few)
 
 same-length : tie.Need-same-length
 same-length c = search needs
@@ -83,12 +86,12 @@ returns c =
 mul-longer : tie.Need-mul-longer
 mul-longer c =
     let ask = c .before .before .before .before .before .before .before .pre .0 in
-    omega (arith, ask .laid .within, ask .high, ask .few)
+    omega (arith, ask .laid .within, ask .first .high, ask .first .few)
 
 add-copy-within : tie.Need-add-copy-within
 add-copy-within c =
     let ask = c .before .before .before .before .before .before .before .before .before .before .pre .0 in
-    omega (arith, ask .laid .within, ask .high, ask .few)
+    omega (arith, ask .laid .within, ask .first .high, ask .first .few)
 
 copy-within-requires : tie.Need-copy-within-requires
 copy-within-requires c κs = search needs
@@ -99,25 +102,25 @@ product-requires c κs = search needs
 add-subtract : tie.Need-add-subtract
 add-subtract c =
     let ask = c .before .before .before .before .before .before .before .before .before .before .pre .0 in
-    omega (arith, ask .few)
+    omega (arith, ask .first .few)
 
 add-subtract-2 : tie.Need-add-subtract-2
 add-subtract-2 c =
     let ask = c .before .before .before .before .before .before .before .before .before .before .before .pre .0 in
-    omega (arith, ask .laid .short, ask .high, ask .few)
+    omega (arith, ask .laid .short, ask .first .high, ask .first .few)
 
 subtract-requires : tie.Need-subtract-requires
 subtract-requires c κs =
     let made = c .before .before in
     let got = made .before .before .before .before in
     let start = got .before .before .before .before .before in
-    let s = stepping.subtracting (start .pre .0) (kept (made .before)) (got .residue .result) (made .product .result) (factor made) in
+    let s = stepping.subtracting (start .pre .0) (kept (made .before) .1) (got .residue .result) (made .product .result) (factor made) in
     ((s .0, start .pre .1, s .1, s .2), s .3)
 
 add-c-2 : tie.Need-add-c-2
 add-c-2 c =
     let ask = c .before .before .before .before .before .before .before .before .before .before .before .before .before .before .before .before .pre .0 in
-    omega (arith, ask .laid .within, ask .high, ask .few)
+    omega (arith, ask .laid .within, ask .first .high, ask .first .few)
 
 sub-c : tie.Need-sub-c
 sub-c c =
@@ -130,10 +133,10 @@ inverse-modulo-requires c κs = search needs
 add-c-3 : tie.Need-add-c-3
 add-c-3 c =
     let ask = c .before .before .before .before .before .before .before .before .before .before .before .before .before .before .before .before .pre .0 in
-    omega (arith, ask .laid .short, ask .high, ask .few)
+    omega (arith, ask .laid .short, ask .first .high, ask .first .few)
 
 same-length-2 : tie.Need-same-length-2
-same-length-2 c = c .before .before .before .before .before .before .subtract .ensures .same-length ∙ kept (c .before .before .before .before .before .before .before .before .before .before) .copied .same-length
+same-length-2 c = c .before .before .before .before .before .before .subtract .ensures .same-length ∙ kept (c .before .before .before .before .before .before .before .before .before .before) .1 .copied .same-length
 
 returns-2 : tie.Need-returns-2
 returns-2 c =
@@ -142,13 +145,17 @@ returns-2 c =
     let got = made .before .before .before .before in
     let summed = got .before in
     let start = summed .before .before .before .before in
-    stepping.after-grow (start .pre .0) (summed .crossed .result) (got .residue .result) (summed .crossed .ensures) (found got)
-    (made .before .before .before .if1 .left) (kept (made .before)) (made .product .result) (factor made) (updated .subtract .ensures)
-    (c .before .before .before .if3 .taken) (ltb-true (2 * start .args .before .L) (start .args .r) (c .before .before .before .if3 .taken))
-    (c .inverse-modulo .result) (c .inverse-modulo .ensures)
+    let longer = c .before .before .before .if3 .taken in
+    ⊎-elim
+    (λ w. stepping.after-grow (start .pre .0) (summed .crossed .result) (got .residue .result) (summed .crossed .ensures) (found got)
+    (made .before .before .before .if1 .left) (stepping.kept-copied (w .6) (w .3 .ensures .copied (stepping.copying (start .pre .0))))
+    (made .product .result) (factor made) (updated .subtract .ensures) refl (ltb-true (2 * start .args .before .L) (start .args .r) longer)
+    (c .inverse-modulo .result) (c .inverse-modulo .ensures))
+    (λ w. one-way longer (w .0 .left))
+    (made .before .if2 .came)
 
 same-length-3 : tie.Need-same-length-3
-same-length-3 c = c .before .before .before .before .subtract .ensures .same-length ∙ kept (c .before .before .before .before .before .before .before .before) .copied .same-length
+same-length-3 c = c .before .before .before .before .subtract .ensures .same-length ∙ kept (c .before .before .before .before .before .before .before .before) .1 .copied .same-length
 
 returns-3 : tie.Need-returns-3
 returns-3 c =
@@ -158,7 +165,7 @@ returns-3 c =
     let summed = got .before in
     let start = summed .before .before .before .before in
     stepping.after-stay (start .pre .0) (summed .crossed .result) (got .residue .result) (summed .crossed .ensures) (found got)
-    (made .before .before .before .if1 .left) (kept (made .before)) (made .product .result) (factor made) (updated .subtract .ensures)
+    (made .before .before .before .if1 .left) (kept (made .before) .1) (made .product .result) (factor made) (updated .subtract .ensures)
     (ltb-false (2 * start .args .before .L) (start .args .r) (c .before .if3 .left))
 
 pub step-spec : {M : Type 1} → statement M
