@@ -5,6 +5,7 @@
 --     first-terms, before-step   what a start asks, and a step after r − 1 others
 --     crossing                   what the discrepancy's products ask
 --     Kept, kept-same, kept-copied     the slice where the update begins: as it was, but for a copy of q in the spare region
+--     Updated                    q − k·z·t in q's place
 --     copying, subtracting       what the copy and the update ask
 --     discrepancy-is             the sum of the products is the discrepancy
 --     after-zero, after-stay, after-grow      the three cases
@@ -177,6 +178,11 @@ kept-copied {count} {W} {c} e w =
       copied = subst (λ W₁. Written W (c .spare) (c .L + 1) (λ i. at W (count + 2 + i)) W₁) (sym e) w;
     }
 
+-- q − k·z·t in q's place
+abbrev pub Updated : ℕ → ℕ → ℕ → Register → List ℕ → List ℕ → Type 0
+Updated p k count c W₁ W′ =
+    Written W₁ (count + 2 + 1 + c .shift) (c .held) (λ i. minus p (at W₁ (count + 2 + 1 + c .shift + i)) (times p k (at W₁ (c .t + i)))) W′
+
 -- ---- the step for r
 
 module _ {p count r : ℕ} {W : List ℕ} {c : Register} (ask : BeforeStep p count r W c) where
@@ -217,8 +223,14 @@ module _ {p count r : ℕ} {W : List ℕ} {c : Register} (ask : BeforeStep p cou
   q-element : (i : ℕ) → i < count + 2 → at W (count + 2 + i) < p
   q-element i l = subst (λ x. x < p) (sym (q-is i l)) (regular .element i)
 
+  t-in : (2 * (count + 2) ≤ c .t) × (c .t ≤ 3 * (count + 2))
+  t-in = t-within count (c .t) (c .spare) (laid .places)
+
+  spare-in : (2 * (count + 2) ≤ c .spare) × (c .spare ≤ 3 * (count + 2))
+  spare-in = spare-within count (c .t) (c .spare) (laid .places)
+
   t-room : c .t + c .held ≤ length W
-  t-room = omega (arith, t-within count (c .t) (c .spare) (laid .places) .1, laid .short, low, high, room)
+  t-room = omega (arith, t-in .1, laid .short, low, high, room)
 
   -- z·t: nothing, then the coefficients that are held, then nothing
   zt-low : (i : ℕ) → i < 1 + c .shift → at (0 ∷ st .t) i ≡ 0
@@ -267,12 +279,11 @@ module _ {p count r : ℕ} {W : List ℕ} {c : Register} (ask : BeforeStep p cou
   -- ---- the update
 
   pub copying : (count + 2 + (c .L + 1) ≤ length W) × (c .spare + (c .L + 1) ≤ length W) × ((c .spare ≤ count + 2) ⊎ (count + 2 + (c .L + 1) ≤ c .spare))
-  copying =
-      let b = spare-within count (c .t) (c .spare) (laid .places) in (
-        omega (arith, laid .within, high, room),
-        omega (arith, b .1, laid .within, high, room),
-        inr (omega (arith, b .0, laid .within, high)),
-      )
+  copying = (
+    omega (arith, laid .within, high, room),
+    omega (arith, spare-in .1, laid .within, high, room),
+    inr (omega (arith, spare-in .0, laid .within, high)),
+  )
 
   -- t's region and the spare one have no place in common
   apart : (n : ℕ) → n ≤ c .L + 1 → Apart (c .spare) n (c .t) (c .held)
@@ -288,7 +299,7 @@ module _ {p count r : ℕ} {W : List ℕ} {c : Register} (ask : BeforeStep p cou
 
     q₁ : (i : ℕ) → i < count + 2 → at W₁ (count + 2 + i) ≡ at (st .q) i
     q₁ i l =
-        kept .copied .before (count + 2 + i) (omega (arith, l, spare-within count (c .t) (c .spare) (laid .places) .0)) ∙ q-is i l
+        kept .copied .before (count + 2 + i) (omega (arith, l, spare-in .0)) ∙ q-is i l
 
     t₁ : (i : ℕ) → i < c .held → at W₁ (c .t + i) ≡ at W (c .t + i)
     t₁ i l = written-other-at (c .t) (c .held) i (apart size (kept .few)) l (kept .copied)
@@ -298,7 +309,7 @@ module _ {p count r : ℕ} {W : List ℕ} {c : Register} (ask : BeforeStep p cou
           × ((i : ℕ) → i < c .held → at W₁ (count + 2 + 1 + c .shift + i) < p)
       subtracting = (
         subst (λ x. x < p) (sym constant) (times-lt p d (c .inverse) positive),
-        omega (arith, t-within count (c .t) (c .spare) (laid .places) .0, laid .short, low, high),
+        omega (arith, t-in .0, laid .short, low, high),
         omega (arith, t-room, room₁),
         (λ i l.
             let e : count + 2 + (1 + c .shift + i) ≡ count + 2 + 1 + c .shift + i = omega arith in
@@ -306,8 +317,7 @@ module _ {p count r : ℕ} {W : List ℕ} {c : Register} (ask : BeforeStep p cou
             (subst (λ x. x < p) (sym (q₁ (1 + c .shift + i) (omega (arith, l, laid .short, low, high)))) (regular .element (1 + c .shift + i)))),
       )
 
-      module _ {W′ : List ℕ}
-          (w : Written W₁ (count + 2 + 1 + c .shift) (c .held) (λ i. minus p (at W₁ (count + 2 + 1 + c .shift + i)) (times p k (at W₁ (c .t + i)))) W′) where
+      module _ {W′ : List ℕ} (w : Updated p k count c W₁ W′) where
         -- d/e
         quotient : k ≡ times p d (inverse p (st .e))
         quotient = constant ∙ ap (times p d) (laid .inverted ∙ ap (inverse p) e-is)
@@ -344,7 +354,7 @@ module _ {p count r : ℕ} {W : List ℕ} {c : Register} (ask : BeforeStep p cou
         same-front : take (count + 2) W′ ≡ take (count + 2) W
         same-front =
             written-front (count + 2) w (omega (arith, room₁, room)) (omega arith)
-            ∙ written-front (count + 2) (kept .copied) (omega (arith, room)) (omega (arith, spare-within count (c .t) (c .spare) (laid .places) .0))
+            ∙ written-front (count + 2) (kept .copied) (omega (arith, room)) (omega (arith, spare-in .0))
 
         -- what stands above q's region stays
         above : (a i : ℕ) → 2 * (count + 2) ≤ a → at W′ (a + i) ≡ at W₁ (a + i)
@@ -353,11 +363,11 @@ module _ {p count r : ℕ} {W : List ℕ} {c : Register} (ask : BeforeStep p cou
         t-stays : part (c .t) (c .held) W′ ≡ part (c .t) (c .held) W
         t-stays =
             part-ext (c .t) (c .held) W′ W (omega (arith, t-room, same-length′)) t-room
-            (λ i l. above (c .t) i (t-within count (c .t) (c .spare) (laid .places) .0) ∙ t₁ i l)
+            (λ i l. above (c .t) i (t-in .0) ∙ t₁ i l)
 
         q-kept : size ≡ c .L + 1 → (i : ℕ) → i < c .L + 1 → at W′ (c .spare + i) ≡ at (st .q) i
         q-kept e i l =
-            above (c .spare) i (spare-within count (c .t) (c .spare) (laid .places) .0)
+            above (c .spare) i (spare-in .0)
             ∙ kept .copied .inside i (subst (λ n. i < n) (sym e) l) ∙ q-is i (omega (arith, l, laid .within, high))
 
   -- ---- the three cases
@@ -407,7 +417,7 @@ module _ {p count r : ℕ} {W : List ℕ} {c : Register} (ask : BeforeStep p cou
     )
 
     module _ (nonzero : d ≢ 0) {W₁ : List ℕ} {size : ℕ} (kept : Kept count W W₁ c size) (k : ℕ) (constant : k ≡ times p d (c .inverse)) {W′ : List ℕ}
-        (w : Written W₁ (count + 2 + 1 + c .shift) (c .held) (λ i. minus p (at W₁ (count + 2 + 1 + c .shift + i)) (times p k (at W₁ (c .t + i)))) W′) where
+        (w : Updated p k count c W₁ W′) where
       pub after-stay : r ≤ 2 * c .L → FollowsSteps p s r d (represented count W′ (shifted d c)) × Laid p count r W W′ (shifted d c)
       after-stay long = (
         ending W′ (shifted d c) (record { q = update p d st; t = 0 ∷ st .t; L = st .L; e = st .e })
