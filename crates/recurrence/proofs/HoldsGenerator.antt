@@ -17,8 +17,8 @@ use Rattle.laws.specs.Part.{length-part, at-part}
 use Rattle.laws.specs.Recurrence.{Regular, steps-regular}
 use Rattle.recurrence.specs.declared.steps.Register.{Register}
 use Rattle.recurrence.specs.Recurrence.{Ready, Reversed, HoldsGenerator}
-use Rattle.recurrence.specs.Steps.{FollowsSteps, represented, Laid}
-use Rattle.recurrence.proofs.Represented.{lt-or-ge}
+use Rattle.recurrence.specs.Steps.{FollowsSteps, represented, TermsStay}
+use Rattle.recurrence.proofs.Represented.{lt-or-ge, follows-within}
 use Rattle.recurrence.proofs.Stepping.{front}
 
 module _ (p : ℕ) (s : List ℕ) (n : ℕ) (e : length s ≡ n) where
@@ -37,17 +37,17 @@ module _ (p : ℕ) (s : List ℕ) (n : ℕ) (e : length s ≡ n) where
   at-generator-past i l =
       getD-table-past (degree p s + 1) (λ k. at (steps p s (length s) .q) (degree p s - k)) i 0 (omega (arith, degree-at))
 
-pub holds-generator : {p count r : ℕ} {W W₁ W′ : List ℕ} {c : Register} → Ready p count W → r ≡ count
-    → FollowsSteps p (take r W) r (c .d) (represented count W₁ c) → Laid p count r W W₁ c
+pub holds-generator : {p count r : ℕ} {W W₁ W′ : List ℕ} (c : Register) → Ready p count W → r ≡ count
+    → FollowsSteps p (take r W) r (c .d) (represented count W₁ c) → TermsStay count W W₁
     → Reversed W₁ (count + 2) (c .L) W′ → HoldsGenerator p count W W′ (c .L)
-holds-generator {p} {count} {r} {W} {W₁} {W′} {c} ready end followed laid turned =
+holds-generator {p} {count} {r} {W} {W₁} {W′} c ready end followed stay turned =
     record {
       answer = follows .L ∙ sym (degree-at p s count size);
       f = table-of 0 (take (count + 2) (drop (count + 2) W′)) (count + 2) (λ i. at (generator p s) i)
           (length-part (count + 2) (count + 2) W′ (omega (arith, room, ready .room)))
           (λ i l. at-part (count + 2) (count + 2) W′ i l ∙ place i l);
       terms =
-          front (count + 2) W₁ W′ (turned .same-length) (omega (arith, laid .same-length, ready .room)) (λ k l. turned .before k l) ∙ laid .terms;
+          front (count + 2) W₁ W′ (turned .same-length) (omega (arith, stay .same-length, ready .room)) (λ k l. turned .before k l) ∙ stay .same-front;
     }
   where
     follows : FollowsSteps p (take count W) count (c .d) (represented count W₁ c)
@@ -60,13 +60,13 @@ holds-generator {p} {count} {r} {W} {W₁} {W′} {c} ready end followed laid tu
     size = length-take-le count W (omega (arith, ready .room))
 
     room : length W′ ≡ length W
-    room = turned .same-length ∙ laid .same-length
+    room = turned .same-length ∙ stay .same-length
 
     regular : Regular p count (steps p s count)
     regular = steps-regular p (ready .two) s count
 
     within : c .L ≤ count
-    within = omega (arith, laid .within, end)
+    within = follows-within (ready .two) follows
 
     q : (i : ℕ) → i < count + 2 → at W₁ (count + 2 + i) ≡ at (steps p s count .q) i
     q i l = sym (at-part (count + 2) (count + 2) W₁ i l) ∙ follows .q i

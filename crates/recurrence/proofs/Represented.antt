@@ -5,9 +5,9 @@
 --     z-same                             z·f of equal polynomials
 --     part-past                          past its end a part has no coefficient
 --     t-within, spare-within, exchanged  the two regions after q's, and that they take turns
---     terms-same                         the same front, the same terms
---     follows-before, follows-after      the same steps of them
---     laid-both, laid-own                one step after the other, and from where it left off
+--     follows-within                     L is at most r
+--     follows-before, follows-after      where the terms stay, so do their steps
+--     stay-same, stay-both               nothing done, and one thing after the other
 use mathlib.Core.Path.{_≡_, refl, sym, ap, _∙_, subst}
 use mathlib.Core.Logic.{_⊎_, inl, inr}
 use mathlib.Core.List.{List, _∷_}
@@ -21,8 +21,8 @@ use lib.Seq.{take-take}
 use Rattle.meaning.specs.List.{at}
 use Rattle.meaning.specs.Recurrence.{Steps}
 use Rattle.laws.specs.Part.{part, length-part}
-use Rattle.recurrence.specs.declared.steps.Register.{Register}
-use Rattle.recurrence.specs.Steps.{FollowsSteps, timesPower, Places, Laid}
+use Rattle.laws.specs.Recurrence.{steps-regular}
+use Rattle.recurrence.specs.Steps.{FollowsSteps, timesPower, Places, TermsStay}
 
 pub lt-or-ge : (a b : ℕ) → (a < b) ⊎ (b ≤ a)
 lt-or-ge a b = go (decLt a b)
@@ -75,38 +75,29 @@ pub exchanged : (count t spare : ℕ) → Places count t spare → Places count 
 exchanged count t spare (inl e) = inr (e .1, e .0)
 exchanged count t spare (inr e) = inl (e .1, e .0)
 
+-- ---- what follows the steps
+
+pub follows-within : {p : ℕ} {s : List ℕ} {r d : ℕ} {st : Steps} → 1 < p → FollowsSteps p s r d st → st .L ≤ r
+follows-within {p} {s} {r} two follows = subst (λ x. x ≤ r) (sym (follows .L)) (steps-regular p two s r .within)
+
 -- ---- one slice after another
 
-module _ {p count r₀ : ℕ} {W W₁ : List ℕ} {c : Register} (laid : Laid p count r₀ W W₁ c) (r : ℕ) (l : r ≤ count) where
-  pub terms-same : take r W₁ ≡ take r W
-  terms-same =
-      sym (take-take r (count + 2) W₁ (omega arith)) ∙ ap (take r) (laid .terms) ∙ take-take r (count + 2) W (omega arith)
+module _ {count : ℕ} {W W₁ : List ℕ} (stay : TermsStay count W W₁) where
+  module _ (r : ℕ) (l : r ≤ count) where
+    terms-same : take r W₁ ≡ take r W
+    terms-same =
+        sym (take-take r (count + 2) W₁ (omega arith)) ∙ ap (take r) (stay .same-front) ∙ take-take r (count + 2) W (omega arith)
 
-  -- the steps of the terms after are those of the terms before
-  pub follows-before : {p′ δ : ℕ} {st : Steps} → FollowsSteps p′ (take r W₁) r δ st → FollowsSteps p′ (take r W) r δ st
-  follows-before {p′} {δ} {st} h = subst (λ s. FollowsSteps p′ s r δ st) terms-same h
+    -- the steps of the terms after are those of the terms before
+    pub follows-before : {p d : ℕ} {st : Steps} → FollowsSteps p (take r W₁) r d st → FollowsSteps p (take r W) r d st
+    follows-before {p} {d} {st} h = subst (λ s. FollowsSteps p s r d st) terms-same h
 
-  pub follows-after : {p′ δ : ℕ} {st : Steps} → FollowsSteps p′ (take r W) r δ st → FollowsSteps p′ (take r W₁) r δ st
-  follows-after {p′} {δ} {st} h = subst (λ s. FollowsSteps p′ s r δ st) (sym terms-same) h
+    pub follows-after : {p d : ℕ} {st : Steps} → FollowsSteps p (take r W) r d st → FollowsSteps p (take r W₁) r d st
+    follows-after {p} {d} {st} h = subst (λ s. FollowsSteps p s r d st) (sym terms-same) h
 
-pub laid-both : {p count r r′ : ℕ} {W W₁ W₂ : List ℕ} {c c′ : Register} → Laid p count r W W₁ c → Laid p count r′ W₁ W₂ c′ → Laid p count r′ W W₂ c′
-laid-both a b =
-    record {
-      same-length = b .same-length ∙ a .same-length;
-      terms = b .terms ∙ a .terms;
-      places = b .places;
-      inverted = b .inverted;
-      within = b .within;
-      short = b .short;
-    }
+  pub stay-both : {W₂ : List ℕ} → TermsStay count W₁ W₂ → TermsStay count W W₂
+  stay-both b =
+      record { same-length = b .same-length ∙ stay .same-length; same-front = b .same-front ∙ stay .same-front }
 
-pub laid-own : {p count r : ℕ} {W W′ : List ℕ} {c : Register} → Laid p count r W W′ c → Laid p count r W′ W′ c
-laid-own a =
-    record {
-      same-length = refl;
-      terms = refl;
-      places = a .places;
-      inverted = a .inverted;
-      within = a .within;
-      short = a .short;
-    }
+pub stay-same : {count : ℕ} {W : List ℕ} → TermsStay count W W
+stay-same = record { same-length = refl; same-front = refl }

@@ -31,8 +31,8 @@ use Rattle.modular.specs.Sums.{Summed, sumFrom-zero}
 use Rattle.recurrence.specs.declared.steps.Register.{Register}
 use Rattle.recurrence.specs.Convolution.{cross, Crossing, nothing}
 use Rattle.recurrence.specs.Recurrence.{Ready}
-use Rattle.recurrence.specs.Steps.{FollowsSteps, timesPower, represented, Laid, FirstTerms, BeforeStep}
-use Rattle.recurrence.proofs.Represented.{lt-or-ge, power-none, power-low, power-at, power-next, z-same, part-past, t-within, spare-within, exchanged, follows-after, laid-own}
+use Rattle.recurrence.specs.Steps.{FollowsSteps, timesPower, represented, Laid, TermsStay, FirstTerms, BeforeStep}
+use Rattle.recurrence.proofs.Represented.{lt-or-ge, power-none, power-low, power-at, power-next, z-same, part-past, t-within, spare-within, exchanged, follows-within, follows-after, stay-same}
 
 -- ---- the front
 
@@ -52,12 +52,12 @@ fresh count =
     record { d = 0; t = 2 * (count + 2); held = 0; shift = 0; L = 0; e = 1; inverse = 1; spare = 3 * (count + 2) }
 
 abbrev pub shifted : ℕ → Register → Register
-shifted δ c =
-    record { d = δ; t = c .t; held = c .held; shift = c .shift + 1; L = c .L; e = c .e; inverse = c .inverse; spare = c .spare }
+shifted d c =
+    record { d = d; t = c .t; held = c .held; shift = c .shift + 1; L = c .L; e = c .e; inverse = c .inverse; spare = c .spare }
 
 abbrev pub lengthened : ℕ → ℕ → ℕ → Register → Register
-lengthened r δ y c =
-    record { d = δ; t = c .spare; held = c .L + 1; shift = 0; L = r - c .L; e = δ; inverse = y; spare = c .t }
+lengthened r d y c =
+    record { d = d; t = c .spare; held = c .L + 1; shift = 0; L = r - c .L; e = d; inverse = y; spare = c .t }
 
 -- a whole region: what it holds, and nothing past its end
 q-whole : (p count r : ℕ) (s W : List ℕ) → 1 < p → r ≤ count → 4 * count + 8 ≤ length W
@@ -90,17 +90,19 @@ module _ (p count : ℕ) (W W₁ : List ℕ) (first : FirstTerms p count 0 W) (w
       ap (at W₀) e ∙ getD-set-same W₁ (count + 2) 1 0 (omega (arith, w .same-length, room))
   one (suc i) l = getD-set-other W₁ (count + 2) (count + 2 + suc i) 1 0 (omega arith) ∙ w .inside (suc i) l
 
-  pub start-laid : Laid p count 0 W W₀ (fresh count)
-  start-laid =
-      record {
-        same-length = same-length;
-        terms =
-            take-set-le (count + 2) W₁ (count + 2) 1 (omega arith) ∙ written-front (count + 2) w (omega (arith, room)) (omega arith);
-        places = inl (refl, refl);
-        inverted = sym (inverse-is p 1 1 (ready .two) (mod-eq-of-lt (ready .two)));
-        within = omega arith;
-        short = omega arith;
-      }
+  pub start-laid : Laid p count 0 (fresh count) × TermsStay count W W₀
+  start-laid = (
+    record {
+      places = inl (refl, refl);
+      short = omega arith;
+      inverted = sym (inverse-is p 1 1 (ready .two) (mod-eq-of-lt (ready .two)));
+    },
+    record {
+      same-length = same-length;
+      same-front =
+          take-set-le (count + 2) W₁ (count + 2) 1 (omega arith) ∙ written-front (count + 2) w (omega (arith, room)) (omega arith);
+    },
+  )
 
   pub start-follows : FollowsSteps p (take 0 W) 0 0 (represented count W₀ (fresh count))
   unfolding start timesPower
@@ -133,29 +135,29 @@ first-terms r l ready =
     }
 
 -- the terms are still there
-still : {p count r : ℕ} {W W′ : List ℕ} {c : Register} → Laid p count r W W′ c → Ready p count W → Ready p count W′
-still {p} {count} {W} {W′} laid ready =
+still : {p count : ℕ} {W W′ : List ℕ} → TermsStay count W W′ → Ready p count W → Ready p count W′
+still {p} {count} {W} {W′} stay ready =
     record {
       two = ready .two;
       small = ready .small;
       few = ready .few;
-      room = omega (arith, laid .same-length, ready .room);
+      room = omega (arith, stay .same-length, ready .room);
       elements = λ i l. subst (λ x. x < p) (sym (same i l)) (ready .elements i l);
     }
   where
     same : (i : ℕ) → i < count → at W′ i ≡ at W i
     same i b =
-        sym (getD-take (count + 2) W′ i 0 (omega arith)) ∙ ap (λ l. at l i) (laid .terms) ∙ getD-take (count + 2) W i 0 (omega arith)
+        sym (getD-take (count + 2) W′ i 0 (omega arith)) ∙ ap (λ l. at l i) (stay .same-front) ∙ getD-take (count + 2) W i 0 (omega arith)
 
-pub before-step : {p count r : ℕ} {W W′ : List ℕ} {c : Register} → Ready p count W → r < count
-    → FollowsSteps p (take r W) r (c .d) (represented count W′ c) → Laid p count r W W′ c → BeforeStep p count (r + 1) W′ c
-before-step {p} {count} {r} {W} {W′} {c} ready l follows laid =
+pub before-step : {p count r : ℕ} {W W′ : List ℕ} {c : Register} → Ready p count W → r < count → TermsStay count W W′
+    → FollowsSteps p (take r W) r (c .d) (represented count W′ c) → Laid p count r c → BeforeStep p count (r + 1) W′ c
+before-step {p} {count} {r} {W} {W′} {c} ready l stay follows laid =
     let e : r ≡ r + 1 - 1 = omega arith in
     record {
       low = omega arith;
-      first = first-terms (r + 1) (omega arith) (still laid ready);
-      follows = subst (λ n. FollowsSteps p (take n W′) n (c .d) (represented count W′ c)) e (follows-after laid r (omega arith) follows);
-      laid = subst (λ n. Laid p count n W′ W′ c) e (laid-own laid);
+      first = first-terms (r + 1) (omega arith) (still stay ready);
+      follows = subst (λ n. FollowsSteps p (take n W′) n (c .d) (represented count W′ c)) e (follows-after stay r (omega arith) follows);
+      laid = subst (λ n. Laid p count n c) e laid;
     }
 
 -- W₁ is W, but for the first `size` coefficients of q in the spare region
@@ -208,6 +210,9 @@ module _ {p count r : ℕ} {W : List ℕ} {c : Register} (ask : BeforeStep p cou
   L-is : c .L ≡ st .L
   L-is = follows .L ∙ ap (λ x. x .L) same
 
+  pub within : c .L ≤ r - 1
+  within = follows-within (ready .two) follows
+
   e-is : c .e ≡ st .e
   e-is = follows .e ∙ ap (λ x. x .e) same
 
@@ -256,11 +261,11 @@ module _ {p count r : ℕ} {W : List ℕ} {c : Register} (ask : BeforeStep p cou
   crossing =
       record {
         order = omega arith;
-        few = omega (arith, laid .within, high, few);
-        front = omega (arith, laid .within, high, room);
-        back = omega (arith, laid .within, low);
+        few = omega (arith, within, high, few);
+        front = omega (arith, within, high, room);
+        back = omega (arith, within, low);
         room = omega (arith, high, room);
-        left = λ i a l. omega (arith, q-element i (omega (arith, l, laid .within, high)), ready .small);
+        left = λ i a l. omega (arith, q-element i (omega (arith, l, within, high)), ready .small);
         right = λ i a l. omega (arith, ready .elements (r - 1 - i) (omega (arith, low)), ready .small);
       }
 
@@ -273,16 +278,16 @@ module _ {p count r : ℕ} {W : List ℕ} {c : Register} (ask : BeforeStep p cou
       (summed .sum ∙ zero-add (sumFrom 0 (c .L + 1) (cross W (count + 2) (r - 1)))
       ∙ sumFrom-zero (c .L + 1) (cross W (count + 2) (r - 1))
       ∙ sum-ext (c .L + 1) (cross W (count + 2) (r - 1)) (λ i. at (st .q) i * at s (r - 1 - i))
-      (λ i l. ap₂ _*_ (q-is i (omega (arith, l, laid .within, high))) (sym (getD-take r W (r - 1 - i) 0 (omega (arith, low)))))
+      (λ i l. ap₂ _*_ (q-is i (omega (arith, l, within, high))) (sym (getD-take r W (r - 1 - i) 0 (omega (arith, low)))))
       ∙ ap (λ n. sum (n + 1) (λ i. at (st .q) i * at s (r - 1 - i))) L-is)
 
   -- ---- the update
 
   pub copying : (count + 2 + (c .L + 1) ≤ length W) × (c .spare + (c .L + 1) ≤ length W) × ((c .spare ≤ count + 2) ⊎ (count + 2 + (c .L + 1) ≤ c .spare))
   copying = (
-    omega (arith, laid .within, high, room),
-    omega (arith, spare-in .1, laid .within, high, room),
-    inr (omega (arith, spare-in .0, laid .within, high)),
+    omega (arith, within, high, room),
+    omega (arith, spare-in .1, within, high, room),
+    inr (omega (arith, spare-in .0, within, high)),
   )
 
   -- t's region and the spare one have no place in common
@@ -290,7 +295,7 @@ module _ {p count r : ℕ} {W : List ℕ} {c : Register} (ask : BeforeStep p cou
   apart n l =
       ⊎-elim
       (λ e. after (omega (arith, e .0, e .1, laid .short, low, high)))
-      (λ e. before (omega (arith, e .0, e .1, l, laid .within, high)))
+      (λ e. before (omega (arith, e .0, e .1, l, within, high)))
       (laid .places)
 
   module _ {W₁ : List ℕ} {size : ℕ} (kept : Kept count W W₁ c size) where
@@ -348,13 +353,14 @@ module _ {p count r : ℕ} {W : List ℕ} {c : Register} (ask : BeforeStep p cou
             (lt-or-ge i (1 + c .shift + c .held)))
             (lt-or-ge i (1 + c .shift))
 
-        same-length′ : length W′ ≡ length W
-        same-length′ = w .same-length ∙ room₁
-
-        same-front : take (count + 2) W′ ≡ take (count + 2) W
-        same-front =
-            written-front (count + 2) w (omega (arith, room₁, room)) (omega arith)
-            ∙ written-front (count + 2) (kept .copied) (omega (arith, room)) (omega (arith, spare-in .0))
+        terms-stay : TermsStay count W W′
+        terms-stay =
+            record {
+              same-length = w .same-length ∙ room₁;
+              same-front =
+                  written-front (count + 2) w (omega (arith, room₁, room)) (omega arith)
+                  ∙ written-front (count + 2) (kept .copied) (omega (arith, room)) (omega (arith, spare-in .0));
+            }
 
         -- what stands above q's region stays
         above : (a i : ℕ) → 2 * (count + 2) ≤ a → at W′ (a + i) ≡ at W₁ (a + i)
@@ -362,13 +368,13 @@ module _ {p count r : ℕ} {W : List ℕ} {c : Register} (ask : BeforeStep p cou
 
         t-stays : part (c .t) (c .held) W′ ≡ part (c .t) (c .held) W
         t-stays =
-            part-ext (c .t) (c .held) W′ W (omega (arith, t-room, same-length′)) t-room
+            part-ext (c .t) (c .held) W′ W (omega (arith, t-room, terms-stay .same-length)) t-room
             (λ i l. above (c .t) i (t-in .0) ∙ t₁ i l)
 
         q-kept : size ≡ c .L + 1 → (i : ℕ) → i < c .L + 1 → at W′ (c .spare + i) ≡ at (st .q) i
         q-kept e i l =
             above (c .spare) i (spare-in .0)
-            ∙ kept .copied .inside i (subst (λ n. i < n) (sym e) l) ∙ q-is i (omega (arith, l, laid .within, high))
+            ∙ kept .copied .inside i (subst (λ n. i < n) (sym e) l) ∙ q-is i (omega (arith, l, within, high))
 
   -- ---- the three cases
 
@@ -390,16 +396,8 @@ module _ {p count r : ℕ} {W : List ℕ} {c : Register} (ask : BeforeStep p cou
           e = e ∙ ap (λ x. x .e) (sym end);
         }
 
-    shifted-laid : {W′ : List ℕ} → length W′ ≡ length W → take (count + 2) W′ ≡ take (count + 2) W → Laid p count r W W′ (shifted d c)
-    shifted-laid same-length terms =
-        record {
-          same-length = same-length;
-          terms = terms;
-          places = laid .places;
-          inverted = laid .inverted;
-          within = omega (arith, laid .within);
-          short = omega (arith, laid .short, low);
-        }
+    shifted-laid : Laid p count r (shifted d c)
+    shifted-laid = record { places = laid .places; short = omega (arith, laid .short, low); inverted = laid .inverted }
 
     -- t = z·t
     t-shifted : (W′ : List ℕ) → part (c .t) (c .held) W′ ≡ part (c .t) (c .held) W
@@ -409,43 +407,39 @@ module _ {p count r : ℕ} {W : List ℕ} {c : Register} (ask : BeforeStep p cou
         ∙ ap (λ x. at x i) (power-next (c .shift) (part (c .t) (c .held) W))
         ∙ z-same (timesPower (c .shift) (part (c .t) (c .held) W)) (st .t) t-is i
 
-    pub after-zero : d ≡ 0 → FollowsSteps p s r d (represented count W (shifted d c)) × Laid p count r W W (shifted d c)
+    pub after-zero : d ≡ 0 → FollowsSteps p s r d (represented count W (shifted d c)) × (Laid p count r (shifted d c) × TermsStay count W W)
     after-zero z = (
       ending W (shifted d c) (record { q = st .q; t = 0 ∷ st .t; L = st .L; e = st .e })
           (steps-at p s r low ∙ step-zero p s r st (sym d-is ∙ z)) refl refl q-is (t-shifted W refl) L-is e-is,
-      shifted-laid refl refl,
+      (shifted-laid, stay-same),
     )
 
     module _ (nonzero : d ≢ 0) {W₁ : List ℕ} {size : ℕ} (kept : Kept count W W₁ c size) (k : ℕ) (constant : k ≡ times p d (c .inverse)) {W′ : List ℕ}
         (w : Updated p k count c W₁ W′) where
-      pub after-stay : r ≤ 2 * c .L → FollowsSteps p s r d (represented count W′ (shifted d c)) × Laid p count r W W′ (shifted d c)
+      pub after-stay : r ≤ 2 * c .L → FollowsSteps p s r d (represented count W′ (shifted d c)) × (Laid p count r (shifted d c) × TermsStay count W W′)
       after-stay long = (
         ending W′ (shifted d c) (record { q = update p d st; t = 0 ∷ st .t; L = st .L; e = st .e })
             (steps-at p s r low ∙ step-stay p s r st (λ z. nonzero (d-is ∙ z)) (subst (λ x. r ≤ 2 * x) L-is long)
             ∙ ap {B = Steps} (λ x. record { q = update p x st; t = 0 ∷ st .t; L = st .L; e = st .e }) (sym d-is))
-            (same-length′ kept d k constant w) refl (updated kept d k constant w) (t-shifted W′ (t-stays kept d k constant w)) L-is e-is,
-        shifted-laid (same-length′ kept d k constant w) (same-front kept d k constant w),
+            (terms-stay kept d k constant w .same-length) refl (updated kept d k constant w) (t-shifted W′ (t-stays kept d k constant w)) L-is e-is,
+        (shifted-laid, terms-stay kept d k constant w),
       )
 
       pub after-grow : size ≡ c .L + 1 → 2 * c .L < r → (y : ℕ) → y ≡ inverse p d
-          → FollowsSteps p s r d (represented count W′ (lengthened r d y c)) × Laid p count r W W′ (lengthened r d y c)
+          → FollowsSteps p s r d (represented count W′ (lengthened r d y c)) × (Laid p count r (lengthened r d y c) × TermsStay count W W′)
       after-grow whole short y inverted = (
         ending W′ (lengthened r d y c) (record { q = update p d st; t = st .q; L = r - st .L; e = d })
             (steps-at p s r low ∙ step-grow p s r st (λ z. nonzero (d-is ∙ z)) (subst (λ x. 2 * x < r) L-is short)
             ∙ ap {B = Steps} (λ x. record { q = update p x st; t = st .q; L = r - st .L; e = x }) (sym d-is))
-            (same-length′ kept d k constant w) refl (updated kept d k constant w) t (ap (λ x. r - x) L-is) refl,
-        record {
-          same-length = same-length′ kept d k constant w;
-          terms = same-front kept d k constant w;
-          places = exchanged count (c .t) (c .spare) (laid .places);
-          inverted = inverted;
-          within = omega arith;
-          short = omega (arith, laid .within, low);
-        },
+            (terms-stay kept d k constant w .same-length) refl (updated kept d k constant w) t (ap (λ x. r - x) L-is) refl,
+        (
+          record { places = exchanged count (c .t) (c .spare) (laid .places); short = omega (arith, within, low); inverted = inverted },
+          terms-stay kept d k constant w,
+        ),
       )
         where
           fits : c .spare + (c .L + 1) ≤ length W′
-          fits = omega (arith, copying .1, same-length′ kept d k constant w)
+          fits = omega (arith, copying .1, terms-stay kept d k constant w .same-length)
 
           t : (i : ℕ) → at (timesPower 0 (part (c .spare) (c .L + 1) W′)) i ≡ at (st .q) i
           t i =

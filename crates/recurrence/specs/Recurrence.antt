@@ -1,4 +1,5 @@
--- What the contracts of the shortest recurrence say; what stands after each r is said in specs/Steps.antt.
+-- What the contracts of the shortest recurrence say. It runs in a slice of four regions of count + 2 places, of which the first holds the terms and the
+-- second q; what stands there after each r is said in specs/Steps.antt.
 --     Ready            what the steps ask: p of 2 to 2³¹ − 1, prime or not; `count` terms at the slice's front, all below p; room for four regions
 --     Reversed         a slice after L + 1 places of it, from a on, were put in reverse order
 --     HoldsGenerator   a slice before and after the core: L, and f with zeros after it in the second region

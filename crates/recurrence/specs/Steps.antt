@@ -5,7 +5,8 @@
 --     timesPower k f   z to the power k times f
 --     represented      the q, t, L and e that regions and register stand for
 --     Places           where t stands and which region it leaves free: the third and the fourth, or the other way round
---     Laid             a slice before and after: its terms stay, and the register fits its regions
+--     Laid             a register fits the regions
+--     TermsStay        a slice before and after: as long, and the same terms
 --     FirstTerms       room for count terms and for the other regions, and the first r terms, all below p; of later ones nothing is asked
 --     BeforeStep       what is asked for r: the first r terms, and what the steps for 1 to r − 1 left
 use mathlib.Core.Path.{_≡_}
@@ -22,14 +23,14 @@ use Rattle.recurrence.specs.Recurrence.{Ready}
 
 -- ---- what is represented
 
-pub record FollowsSteps (p : ℕ) (s : List ℕ) (r δ : ℕ) (c : Steps) : Type 0 where
-  -- by the q and L that r found; before the first r there is none
-  pub d : 0 < r → δ ≡ discrepancy p s r (steps p s (r - 1))
+pub record FollowsSteps (p : ℕ) (s : List ℕ) (r d′ : ℕ) (st : Steps) : Type 0 where
+  -- d of r, by the q and L of r − 1; before r = 1 there is none
+  pub d : 0 < r → d′ ≡ discrepancy p s r (steps p s (r - 1))
   -- polynomials: "absent coefficients being 0"
-  pub q : (i : ℕ) → at (c .q) i ≡ at (steps p s r .q) i
-  pub t : (i : ℕ) → at (c .t) i ≡ at (steps p s r .t) i
-  pub L : c .L ≡ steps p s r .L
-  pub e : c .e ≡ steps p s r .e
+  pub q : (i : ℕ) → at (st .q) i ≡ at (steps p s r .q) i
+  pub t : (i : ℕ) → at (st .t) i ≡ at (steps p s r .t) i
+  pub L : st .L ≡ steps p s r .L
+  pub e : st .e ≡ steps p s r .e
 
 -- ---- how
 
@@ -45,14 +46,15 @@ abbrev pub Places : ℕ → ℕ → ℕ → Type 0
 Places count t spare =
     ((t ≡ 2 * (count + 2)) × (spare ≡ 3 * (count + 2))) ⊎ ((t ≡ 3 * (count + 2)) × (spare ≡ 2 * (count + 2)))
 
-pub record Laid (p count r : ℕ) (W W′ : List ℕ) (c : Register) : Type 0 where
-  pub same-length : length W′ ≡ length W
-  pub terms : take (count + 2) W′ ≡ take (count + 2) W
+pub record Laid (p count r : ℕ) (c : Register) : Type 0 where
   pub places : Places count (c .t) (c .spare)
+  -- z·t ends in q's region, and t in its own
+  pub short : c .shift + c .held ≤ r
   pub inverted : c .inverse ≡ inverse p (c .e)
-  pub within : c .L ≤ r
-  -- t ends in its region, however often it is multiplied by z
-  pub short : c .shift + c .held + c .L ≤ r + 1
+
+pub record TermsStay (count : ℕ) (W W′ : List ℕ) : Type 0 where
+  pub same-length : length W′ ≡ length W
+  pub same-front : take (count + 2) W′ ≡ take (count + 2) W
 
 pub record FirstTerms (p count r : ℕ) (W : List ℕ) : Type 0 where
   pub ready : Ready p r W
@@ -64,4 +66,4 @@ pub record BeforeStep (p count r : ℕ) (W : List ℕ) (c : Register) : Type 0 w
   pub low : 0 < r
   pub first : FirstTerms p count r W
   pub follows : FollowsSteps p (take (r - 1) W) (r - 1) (c .d) (represented count W c)
-  pub laid : Laid p count (r - 1) W W c
+  pub laid : Laid p count (r - 1) c

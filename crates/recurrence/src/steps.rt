@@ -1,13 +1,13 @@
 // The shortest recurrence of a list, by document 01's steps: document 002, algorithm Minimum Polynomial, Step 2. Its letters are
 //
-//     document 002    a    Λ    Σ    l    δ_r    δ
-//     here            s    q    t    L    d      e
+//     document 002    a    2d       Λ    λ    Σ    l    δ_r    δ
+//     here            s    count    q    z    t    L    d      e
 //
 // The steps run in one slice of four regions of count + 2 places each: the terms s, q, and two in which t and the q that is to become t take
 // turns. t is never moved: `shift` says how often it was multiplied by z.
 //
 // The contracts cite the crate meaning (Recurrence: the steps) and specs/Steps.antt: FollowsSteps, that d, q, t, L and e are those of document
-// 01's steps, and apart from it how regions and register stand for them (represented, Laid).
+// 01's steps, and apart from it how regions and register stand for them (represented, Laid); of the whole, specs/Recurrence.antt.
 use crate::convolution::crossed;
 use modular::modulus::Modulus;
 use modular::multiplier::Multiplier;
@@ -20,11 +20,11 @@ ghost use Rattle.meaning.specs.Field.{minus, times};
 ghost use Rattle.modular.specs.Modulus.{Modular};
 ghost use Rattle.laws.specs.Written.{Written};
 ghost use Rattle.recurrence.specs.Recurrence.{Ready, HoldsGenerator, Reversed};
-ghost use Rattle.recurrence.specs.Steps.{FollowsSteps, represented, Laid, FirstTerms, BeforeStep};
+ghost use Rattle.recurrence.specs.Steps.{FollowsSteps, represented, Laid, TermsStay, FirstTerms, BeforeStep};
 
 // What the steps keep beside the regions.
 pub(crate) struct Register {
-    // d, the discrepancy of r
+    // d, the discrepancy of r; before the first r it says nothing
     pub(crate) d: u32,
     // t: `held` coefficients, which stand from `t` on, times z to the power `shift`
     pub(crate) t: usize,
@@ -74,11 +74,11 @@ fn reverse(work: &mut [u32], from: usize, length: usize)
 
 // ---- the steps
 
-// Λ₀ ← 1; Σ₀ ← 0; l₀ ← 0; δ ← 1: q = 1, t = 0, L = 0, e = 1, whatever the regions held.
+// Λ₀ ← 1, Σ₀ ← 0, l₀ ← 0, δ ← 1: q = 1, t = 0, L = 0, e = 1, whatever the regions held.
 pub(crate) fn start(p: u32, count: usize, work: &mut [u32]) -> Register
     requires { ⌜ FirstTerms p count 0 (now work) ⌝ }
     ensures { λ c. ⌜ FollowsSteps p (take 0 (now (work .entry))) 0 (c .d) (represented count (now (work .exit)) c) ⌝ }
-    ensures { λ c. ⌜ Laid p count 0 (now (work .entry)) (now (work .exit)) c ⌝ }
+    ensures { λ c. ⌜ Laid p count 0 c × TermsStay count (now (work .entry)) (now (work .exit)) ⌝ }
 {
     let q = count + 2;
     let end = 2 * q;
@@ -96,7 +96,7 @@ pub(crate) fn start(p: u32, count: usize, work: &mut [u32]) -> Register
     }
 }
 
-// The body of the loop: what is done for r. d, q, t, L and e of r − 1 become those of r; of the terms the first r are read, and no later one.
+// The body of the loop: d, q, t, L and e of r − 1 become those of r. Of the terms the first r are read, and no later one.
 pub(crate) fn step(
     m: Modulus,
     count: usize,
@@ -105,39 +105,47 @@ pub(crate) fn step(
     before: Register,
 ) -> Register
     requires { ⌜ BeforeStep (m .p) count r (now work) before × Modular m ⌝ }
-    ensures { λ c. ⌜ FollowsSteps (m .p) (take r (now (work .entry))) r (c .d) (represented count (now (work .exit)) c) ⌝ }
-    ensures { λ c. ⌜ Laid (m .p) count r (now (work .entry)) (now (work .exit)) c ⌝ }
+    ensures { λ after. ⌜ FollowsSteps (m .p) (take r (now (work .entry))) r (after .d) (represented count (now (work .exit)) after) ⌝ }
+    ensures { λ after. ⌜ Laid (m .p) count r after × TermsStay count (now (work .entry)) (now (work .exit)) ⌝ }
 {
     let q = count + 2;
-    let mut c = before;
-    // Discrepancy, δ_r: d = the sum of q[i] × s[r − 1 − i] over i = 0 to L.
-    let d = crossed(work, q, r - 1, 0, c.L + 1).residue(m);
-    c.d = d;
+    let mut after = before;
+    // Discrepancy. δ_r ← c_n·a_{r−1} + c_{n−1}·a_{r−2} + .. + c_0·a_{r−n−1}, where c_{n−i} is q[i] of r − 1 (document 002 prints Λ_r): d = the sum
+    // of q[i] × s[r − 1 − i] over i = 0 to L.
+    let d = crossed(work, q, r - 1, 0, before.L + 1).residue(m);
+    after.d = d;
     if d == 0 {
-        c.shift += 1; // Σ_r ← λ·Σ_{r−1}: t = z·t; q, L and e stay
-        return c;
+        after.shift += 1; // Σ_r ← λ·Σ_{r−1}: t = z·t; q, L and e stay
+        return after;
     }
-    // Update, Λ_r ← Λ_{r−1} − (δ_r/δ)·λ·Σ_{r−1}: q = q − (d/e)·z·t, in q's place. Where t is to become q, q is copied before.
-    let longer = 2 * c.L < r;
+    // Update. Λ_r ← Λ_{r−1} − (δ_r/δ)·λ·Σ_{r−1}: q = q − (d/e)·z·t, from q[shift + 1] on, in q's place. Where the length is to change, by
+    // 2·l_{r−1} < r (document 002 prints l_r), t will be the old q, which is copied before.
+    let longer = 2 * before.L < r;
     if longer {
-        copy_within(work, q, c.spare, c.L + 1);
+        copy_within(work, q, before.spare, before.L + 1);
     }
-    let quotient = m.product(d, c.inverse);
-    subtract(m, quotient, work, q + 1 + c.shift, c.t, c.held);
-    // Length. If 2·l_{r−1} < r (document 002 prints l_r): t = q, L = r − L, e = d. Otherwise t = z·t.
+    let quotient = m.product(d, before.inverse);
+    subtract(
+        m,
+        quotient,
+        work,
+        q + 1 + before.shift,
+        before.t,
+        before.held,
+    );
+    // Length.
     if longer {
-        let t = c.t;
-        c.t = c.spare; // Σ_r ← Λ_{r−1}: t = q, the copy
-        c.held = c.L + 1;
-        c.shift = 0;
-        c.spare = t;
-        c.L = r - c.L; // l_r ← r − l_{r−1}: L = r − L
-        c.e = d; // δ ← δ_r: e = d
-        c.inverse = field::inverse_modulo(m.p, d);
+        after.t = before.spare; // Σ_r ← Λ_{r−1}: t = q, the copy, L + 1 coefficients; the old t's region is free
+        after.held = before.L + 1;
+        after.shift = 0;
+        after.spare = before.t;
+        after.L = r - before.L; // l_r ← r − l_{r−1}: L = r − L
+        after.e = d; // δ ← δ_r: e = d
+        after.inverse = field::inverse_modulo(m.p, d);
     } else {
-        c.shift += 1; // Σ_r ← λ·Σ_{r−1}: t = z·t; L and e stay
+        after.shift += 1; // Σ_r ← λ·Σ_{r−1}: t = z·t; L and e stay
     }
-    c
+    after
 }
 
 // For r = 1, 2, ..: the shortest recurrence of the `count` terms at the front of `work`, its degree L, and f in the second region, zeros

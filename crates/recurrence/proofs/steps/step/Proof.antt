@@ -41,7 +41,7 @@ found c =
     let sum = c .before .crossed in
     c .residue .ensures
     ∙ residue-number (start .args .m) (sum .result) (start .pre .1) (sum .ensures .low)
-    (omega (arith, sum .ensures .carries, start .pre .0 .laid .within, start .pre .0 .first .high, start .pre .0 .first .few))
+    (omega (arith, sum .ensures .carries, stepping.within (start .pre .0), start .pre .0 .first .high, start .pre .0 .first .few))
 
 -- d / e
 factor : (c : tie.After-product)
@@ -60,7 +60,9 @@ sub-crossed : tie.Need-sub-crossed
 sub-crossed c = search needs
 
 add-crossed : tie.Need-add-crossed
-add-crossed c = search needs
+add-crossed c =
+    let ask = c .before .before .before .pre .0 in
+    omega (arith, stepping.within ask, ask .first .high, ask .first .few)
 
 crossed-requires : tie.Need-crossed-requires
 crossed-requires c κs = crossing-within 0 _ (stepping.crossing (c .before .before .before .pre .0)) (omega arith) (omega arith) (omega arith)
@@ -68,8 +70,8 @@ crossed-requires c κs = crossing-within 0 _ (stepping.crossing (c .before .befo
 residue-requires : tie.Need-residue-requires
 residue-requires c κs = search needs
 
-add-c : tie.Need-add-c
-add-c c =
+add-after : tie.Need-add-after
+add-after c =
     let ask = c .before .before .before .before .before .before .before .pre .0 in
     omega (arith, ask .laid .short, ask .first .high, ask .first .few)
 
@@ -86,12 +88,12 @@ returns c =
 mul-longer : tie.Need-mul-longer
 mul-longer c =
     let ask = c .before .before .before .before .before .before .before .pre .0 in
-    omega (arith, ask .laid .within, ask .first .high, ask .first .few)
+    omega (arith, stepping.within ask, ask .first .high, ask .first .few)
 
 add-copy-within : tie.Need-add-copy-within
 add-copy-within c =
     let ask = c .before .before .before .before .before .before .before .before .before .before .pre .0 in
-    omega (arith, ask .laid .within, ask .first .high, ask .first .few)
+    omega (arith, stepping.within ask, ask .first .high, ask .first .few)
 
 copy-within-requires : tie.Need-copy-within-requires
 copy-within-requires c κs = search needs
@@ -117,21 +119,21 @@ subtract-requires c κs =
     let s = stepping.subtracting (start .pre .0) (kept (made .before) .1) (got .residue .result) (made .product .result) (factor made) in
     ((s .0, start .pre .1, s .1, s .2), s .3)
 
-add-c-2 : tie.Need-add-c-2
-add-c-2 c =
+add-after-2 : tie.Need-add-after-2
+add-after-2 c =
     let ask = c .before .before .before .before .before .before .before .before .before .before .before .before .before .before .before .before .pre .0 in
-    omega (arith, ask .laid .within, ask .first .high, ask .first .few)
+    omega (arith, stepping.within ask, ask .first .high, ask .first .few)
 
-sub-c : tie.Need-sub-c
-sub-c c =
+sub-after : tie.Need-sub-after
+sub-after c =
     let ask = c .before .before .before .before .before .before .before .before .before .before .before .before .before .before .before .before .before .pre .0 in
-    omega (arith, ask .laid .within)
+    omega (arith, stepping.within ask)
 
 inverse-modulo-requires : tie.Need-inverse-modulo-requires
 inverse-modulo-requires c κs = search needs
 
-add-c-3 : tie.Need-add-c-3
-add-c-3 c =
+add-after-3 : tie.Need-add-after-3
+add-after-3 c =
     let ask = c .before .before .before .before .before .before .before .before .before .before .before .before .before .before .before .before .pre .0 in
     omega (arith, ask .laid .short, ask .first .high, ask .first .few)
 
@@ -177,7 +179,7 @@ step-spec =
     add-crossed
     crossed-requires
     residue-requires
-    add-c
+    add-after
     same-length
     returns
     mul-longer
@@ -187,10 +189,10 @@ step-spec =
     add-subtract
     add-subtract-2
     subtract-requires
-    add-c-2
-    sub-c
+    add-after-2
+    sub-after
     inverse-modulo-requires
-    add-c-3
+    add-after-3
     same-length-2
     returns-2
     same-length-3
