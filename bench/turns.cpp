@@ -193,7 +193,7 @@ void compare(std::vector<Library> &libraries) {
             row(libraries, "g(A)v, 64 products" + size(rows, k, p), &Calls::apply, c);
             row(libraries, "recurrence" + size(rows, k, p), &Calls::recurrence, c);
             row(libraries, "solve" + size(rows, k, p), &Calls::solve, c);
-            // L becomes n at once and stays; every later term changes one coefficient of q.
+            // L becomes n at term n, if that is not 0, and stays; a later term changes at most one coefficient of q.
             std::fill_n(terms.begin(), rows - 1, 0);
             row(libraries, "recurrence, zeros first" + size(rows, k, p), &Calls::recurrence, c);
         }

@@ -3,6 +3,8 @@
 //     document 002    a    2d       Λ    λ    Σ    l    δ_r    δ
 //     here            s    count    q    z    t    L    d      e
 //
+// (So our d is not its d, which is half of count; its c_i are the coefficients of Λ.)
+//
 // The steps run in one slice of four regions of count + 2 places each: the terms s, q, and two in which t and the q that is to become t take
 // turns. t is never moved: `shift` says how often it was multiplied by z.
 //
@@ -110,32 +112,26 @@ pub(crate) fn step(
 {
     let q = count + 2;
     let mut after = before;
-    // Discrepancy. δ_r ← c_n·a_{r−1} + c_{n−1}·a_{r−2} + .. + c_0·a_{r−n−1}, where c_{n−i} is q[i] of r − 1 (document 002 prints Λ_r): d = the sum
-    // of q[i] × s[r − 1 − i] over i = 0 to L.
+    // Discrepancy. δ_r ← c_n·a_{r−1} + c_{n−1}·a_{r−2} + .. + c_0·a_{r−n−1}, c_{n−i} being q[i] of r − 1 (document 002 prints Λ_r): d = the sum of
+    // q[i] × s[r − 1 − i] over i = 0 to L.
     let d = crossed(work, q, r - 1, 0, before.L + 1).residue(m);
     after.d = d;
     if d == 0 {
         after.shift += 1; // Σ_r ← λ·Σ_{r−1}: t = z·t; q, L and e stay
         return after;
     }
-    // Update. Λ_r ← Λ_{r−1} − (δ_r/δ)·λ·Σ_{r−1}: q = q − (d/e)·z·t, from q[shift + 1] on, in q's place. Where the length is to change, by
-    // 2·l_{r−1} < r (document 002 prints l_r), t will be the old q, which is copied before.
+    // Update. Λ_r ← Λ_{r−1} − (δ_r/δ)·λ·Σ_{r−1}: q = q − (d/e)·z·t, in q's place. If 2·l_{r−1} < r (document 002 prints l_r), t will be the old q,
+    // which is copied before it is gone.
     let longer = 2 * before.L < r;
     if longer {
         copy_within(work, q, before.spare, before.L + 1);
     }
     let quotient = m.product(d, before.inverse);
-    subtract(
-        m,
-        quotient,
-        work,
-        q + 1 + before.shift,
-        before.t,
-        before.held,
-    );
-    // Length.
+    let from = q + 1 + before.shift; // z·t begins with z to the power 1 + shift
+    subtract(m, quotient, work, from, before.t, before.held);
+    // Length. If 2·l_{r−1} < r:
     if longer {
-        after.t = before.spare; // Σ_r ← Λ_{r−1}: t = q, the copy, L + 1 coefficients; the old t's region is free
+        after.t = before.spare; // Σ_r ← Λ_{r−1}: t = q, the L + 1 coefficients that were copied
         after.held = before.L + 1;
         after.shift = 0;
         after.spare = before.t;

@@ -101,14 +101,14 @@ copy-within-requires c κs = search needs
 product-requires : tie.Need-product-requires
 product-requires c κs = search needs
 
-add-subtract : tie.Need-add-subtract
-add-subtract c =
-    let ask = c .before .before .before .before .before .before .before .before .before .before .pre .0 in
+add-from : tie.Need-add-from
+add-from c =
+    let ask = c .before .before .before .before .before .before .before .before .before .pre .0 in
     omega (arith, ask .first .few)
 
-add-subtract-2 : tie.Need-add-subtract-2
-add-subtract-2 c =
-    let ask = c .before .before .before .before .before .before .before .before .before .before .before .pre .0 in
+add-from-2 : tie.Need-add-from-2
+add-from-2 c =
+    let ask = c .before .before .before .before .before .before .before .before .before .before .pre .0 in
     omega (arith, ask .laid .short, ask .first .high, ask .first .few)
 
 subtract-requires : tie.Need-subtract-requires
@@ -186,8 +186,8 @@ step-spec =
     add-copy-within
     copy-within-requires
     product-requires
-    add-subtract
-    add-subtract-2
+    add-from
+    add-from-2
     subtract-requires
     add-after-2
     sub-after
