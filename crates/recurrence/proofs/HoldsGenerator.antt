@@ -14,12 +14,12 @@ use Rattle.meaning.specs.List.{at}
 use Rattle.meaning.specs.Recurrence.{steps, reversed, degree, generator}
 use Rattle.laws.specs.List.{table-of, getD-table, getD-table-past}
 use Rattle.laws.specs.Part.{length-part, at-part}
+use Rattle.laws.specs.Lent.{take-ext}
 use Rattle.laws.specs.Recurrence.{Regular, steps-regular}
 use Rattle.recurrence.specs.declared.steps.Register.{Register}
 use Rattle.recurrence.specs.Recurrence.{Ready, Reversed, HoldsGenerator}
 use Rattle.recurrence.specs.Steps.{FollowsSteps, represented, TermsStay}
 use Rattle.recurrence.proofs.Represented.{lt-or-ge, follows-within}
-use Rattle.recurrence.proofs.Stepping.{front}
 
 module _ (p : ℕ) (s : List ℕ) (n : ℕ) (e : length s ≡ n) where
   pub degree-at : degree p s ≡ steps p s n .L
@@ -47,7 +47,7 @@ holds-generator {p} {count} {r} {W} {W₁} {W′} c ready end followed stay turn
           (length-part (count + 2) (count + 2) W′ (omega (arith, room, ready .room)))
           (λ i l. at-part (count + 2) (count + 2) W′ i l ∙ place i l);
       terms =
-          front (count + 2) W₁ W′ (turned .same-length) (omega (arith, stay .same-length, ready .room)) (λ k l. turned .before k l) ∙ stay .same-front;
+          take-ext (count + 2) W₁ W′ (omega (arith, stay .same-length, ready .room)) (turned .same-length) (λ k l. turned .before k l) ∙ stay .same-front;
     }
   where
     follows : FollowsSteps p (take count W) count (c .d) (represented count W₁ c)

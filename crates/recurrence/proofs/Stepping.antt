@@ -1,5 +1,4 @@
 -- What the code's step makes of a slice that holds the steps before r: document 01's step for r, of the first r terms.
---     front, written-front       what happens further up leaves the front
 --     fresh, shifted, lengthened       a register of q = 1, t = 0, L = 0 and e = 1; after t = z·t; after t = q, L = r − L, e = d
 --     start-laid, start-follows  the start
 --     first-terms, before-step   what a start asks, and a step after r − 1 others
@@ -16,7 +15,7 @@ use Prim.Native.Nat.{ℕ, zero, suc, _+_, _-_, _*_, _%_, _≤_, _<_}
 use native.Mathlib.Nat.{zero-add, mod-eq-of-lt}
 use native.Mathlib.Omega.{arith}
 use lib.ListN.{length, take, set, length-set}
-use lib.Seq.{ext-getD, getD-take, length-take-le, take-take, take-set-le, getD-set-same, getD-set-other}
+use lib.Seq.{getD-take, take-take, take-set-le, getD-set-same, getD-set-other}
 use Rattle.meaning.specs.List.{at, sum, sumFrom}
 use Rattle.meaning.specs.Field.{minus, times, inverse}
 use Rattle.meaning.specs.Recurrence.{Steps, start, discrepancy, update, steps}
@@ -24,6 +23,7 @@ use Rattle.laws.specs.List.{sum-ext}
 use Rattle.laws.specs.Recurrence.{times-lt, times-zero, minus-zero, at-update, step-zero, step-stay, step-grow, steps-zero, steps-at, steps-first, Regular, steps-regular}
 use Rattle.laws.specs.Part.{part, Apart, before, after, at-part, part-ext, written-other-at}
 use Rattle.laws.specs.Written.{Written, written-none}
+use Rattle.laws.specs.Lent.{written-take}
 use Rattle.residue.specs.Inverse.{inverse-is}
 use Rattle.modular.specs.declared.sums.Total.{Total}
 use Rattle.modular.specs.Total.{number}
@@ -33,17 +33,6 @@ use Rattle.recurrence.specs.Convolution.{cross, Crossing, nothing}
 use Rattle.recurrence.specs.Recurrence.{Ready}
 use Rattle.recurrence.specs.Steps.{FollowsSteps, timesPower, represented, Laid, TermsStay, FirstTerms, BeforeStep}
 use Rattle.recurrence.proofs.Represented.{lt-or-ge, power-none, power-low, power-at, power-next, z-same, part-past, t-within, spare-within, exchanged, follows-within, follows-after, stay-same}
-
--- ---- the front
-
-pub front : (m : ℕ) (W W′ : List ℕ) → length W′ ≡ length W → m ≤ length W → ((k : ℕ) → k < m → at W′ k ≡ at W k) → take m W′ ≡ take m W
-front m W W′ e fits same =
-    ext-getD 0 (take m W′) (take m W) (length-take-le m W′ (omega arith) ∙ sym (length-take-le m W fits))
-    (λ i l. let b : i < m = omega (arith, length-take-le m W′ (omega arith)) in
-    getD-take m W′ i 0 b ∙ same i b ∙ sym (getD-take m W i 0 b))
-
-pub written-front : {W W′ : List ℕ} {a n : ℕ} {f : ℕ → ℕ} (m : ℕ) → Written W a n f W′ → m ≤ length W → m ≤ a → take m W′ ≡ take m W
-written-front {W} {W′} m w fits l = front m W W′ (w .same-length) fits (λ k h. w .before k (omega arith))
 
 -- ---- registers
 
@@ -100,7 +89,7 @@ module _ (p count : ℕ) (W W₁ : List ℕ) (first : FirstTerms p count 0 W) (w
     record {
       same-length = same-length;
       same-front =
-          take-set-le (count + 2) W₁ (count + 2) 1 (omega arith) ∙ written-front (count + 2) w (omega (arith, room)) (omega arith);
+          take-set-le (count + 2) W₁ (count + 2) 1 (omega arith) ∙ written-take (count + 2) (omega arith) (omega (arith, room)) w;
     },
   )
 
@@ -358,8 +347,8 @@ module _ {p count r : ℕ} {W : List ℕ} {c : Register} (ask : BeforeStep p cou
             record {
               same-length = w .same-length ∙ room₁;
               same-front =
-                  written-front (count + 2) w (omega (arith, room₁, room)) (omega arith)
-                  ∙ written-front (count + 2) (kept .copied) (omega (arith, room)) (omega (arith, spare-in .0));
+                  written-take (count + 2) (omega arith) (omega (arith, room₁, room)) w
+                  ∙ written-take (count + 2) (omega (arith, spare-in .0)) (omega (arith, room)) (kept .copied);
             }
 
         -- what stands above q's region stays
