@@ -1,8 +1,9 @@
 // An example host: reads a system text of any accepted size, solves it with random words, multiplies the answer out.
 //
-//     example [-r R] [FILE]
+//     example [-r R] [-w W] [FILE]
 //
-// R vectors of random words are drawn, 0 to 64, 1 if not said; the text comes from FILE or from standard input.
+// R vectors of random words are drawn, 0 to 64, 1 if not said; the window is W, 0 to 64, 0 if not said; the text comes
+// from FILE or from standard input.
 // Standard output gets the answer's text in the form of the text call, or `refused` and the number; standard error a
 // summary. Exit status: 0 answered, 1 refused, 2 bad usage, or input or output that failed, 3 the answer does not
 // multiply out.
@@ -38,12 +39,12 @@ std::string read_all(std::istream &in) {
     return text;
 }
 
-std::optional<std::size_t> vectors_of(const char *word) {
+std::optional<std::uint32_t> number_of(const char *word, unsigned long most) {
     char *end = nullptr;
-    unsigned long count = std::strtoul(word, &end, 10);
-    if (*word < '0' || *word > '9' || *end != '\0' || count > FILZEUR_MAX_VECTORS)
+    unsigned long number = std::strtoul(word, &end, 10);
+    if (*word < '0' || *word > '9' || *end != '\0' || number > most)
         return std::nullopt;
-    return count;
+    return static_cast<std::uint32_t>(number);
 }
 
 std::vector<std::uint32_t> draw(std::size_t count) {
@@ -99,12 +100,12 @@ int refused(filzeur::Refusal refusal) {
     return 1;
 }
 
-int answer(std::string_view text, std::size_t vectors) {
+int answer(std::string_view text, std::uint32_t vectors, std::uint32_t window) {
     auto system = filzeur::read_system(text);
     if (!system.ok())
         return refused(system.refusal());
 
-    auto run = filzeur::solve(system.value(), draw(vectors * system.value().matrix.size()));
+    auto run = filzeur::solve_with(system.value(), {draw(vectors * system.value().matrix.size()), window});
     if (!run.ok())
         return refused(run.refusal());
     const auto &found = run.value();
@@ -125,17 +126,17 @@ int answer(std::string_view text, std::size_t vectors) {
 } // namespace
 
 int main(int argc, char **argv) {
-    std::size_t vectors = 1;
+    std::uint32_t vectors = 1, window = 0;
     int next = 1;
-    if (next + 1 < argc && std::strcmp(argv[next], "-r") == 0) {
-        auto count = vectors_of(argv[next + 1]);
-        if (!count)
-            return failed("-r", " takes a number from 0 to 64");
-        vectors = *count;
-        next += 2;
+    for (; next + 1 < argc && (std::strcmp(argv[next], "-r") == 0 || std::strcmp(argv[next], "-w") == 0); next += 2) {
+        bool words = argv[next][1] == 'r';
+        auto number = number_of(argv[next + 1], words ? FILZEUR_MAX_VECTORS : FILZEUR_MAX_WINDOW);
+        if (!number)
+            return failed(argv[next], " takes a number from 0 to 64");
+        (words ? vectors : window) = *number;
     }
     if (argc - next > 1 || (next < argc && argv[next][0] == '-'))
-        return failed("usage:", " example [-r R] [FILE]");
+        return failed("usage:", " example [-r R] [-w W] [FILE]");
 
     std::string text;
     if (next < argc) {
@@ -151,7 +152,7 @@ int main(int argc, char **argv) {
             return failed("standard input", " cannot be read");
     }
 
-    int status = answer(text, vectors);
+    int status = answer(text, vectors, window);
     // A full disk must not look like an answer.
     if (std::fflush(stdout) != 0 || std::ferror(stdout) != 0)
         return failed("the answer", " cannot be written");

@@ -5,10 +5,10 @@
  * 65,536. Row i holds the entries from starts[i] up to but not including starts[i + 1]. Size 0, a system with nothing
  * left, is one start, which is 0, and no entries. Polynomials are coefficients, lowest power first.
  *
- * Refusals. Each call makes its checks in the order of their numbers and answers the number of the first that turns its
- * input down, 0 if none does. A refusal leaves every other field of the answer 0 and every lent slice as it was. So any
- * numbers may stand in the slices, and they may have any length; a call ends and does nothing undefined. The comment of
- * a call lists its checks.
+ * Refusals. Each call makes its checks in the order of their numbers, except that 13 comes after 10 and before 11, and
+ * answers the number of the first that turns its input down, 0 if none does. A refusal leaves every other field of the
+ * answer 0 and every lent slice as it was. So any numbers may stand in the slices, and they may have any length; a call
+ * ends and does nothing undefined. The comment of a call lists its checks, in their order.
  *
  * Entries multiplied. A product with A multiplies each of its entries once, also with an element that is 0, and every
  * call that makes products with A answers in `multiplied` how many entries they multiplied together: entries for each.
@@ -25,8 +25,8 @@
 #include <stdint.h>
 
 /* Raised whenever a signature, a struct or the meaning of one changes. A header without it is version 1; the bill came
- * with 2, size 0 with 3, the entries multiplied with 4. */
-#define FILZEUR_VERSION 4
+ * with 2, size 0 with 3, the entries multiplied with 4, the window with 5. */
+#define FILZEUR_VERSION 5
 
 #ifdef __cplusplus
 extern "C" {
@@ -38,6 +38,7 @@ enum {
     FILZEUR_MAX_ENTRIES = 65536, /* of a matrix */
     FILZEUR_MAX_LIST = 8192,     /* elements of a recurrence's list */
     FILZEUR_MAX_VECTORS = 64,    /* R, the vectors of random words */
+    FILZEUR_MAX_WINDOW = 64,
     FILZEUR_MAX_TEXT = 2097152,  /* bytes of a system text */
     FILZEUR_CALL_TEXT = 24576,   /* bytes of a system text that filzeur_text takes */
     FILZEUR_CALL_ANSWER = 7168   /* bytes that filzeur_text wants for its answer */
@@ -58,6 +59,7 @@ enum {
  * 11  a slice to be written is not as long as stated (the writer: shorter than its text; the text call: also n over 128
  *     or over 1,024 entries)
  * 12  the inverse of 0 is wanted
+ * 13  the window is above 64 (after 10, before 11)
  */
 
 struct filzeur_element {
@@ -149,20 +151,26 @@ struct filzeur_degree filzeur_recurrence(uint32_t p, const uint32_t *s, size_t s
 /* ---- The solver ---- */
 
 /* Solves Ax = b, or shows that A is singular. words: R vectors of n random words each, R from 0 to 64, any 32-bit
- * numbers; they sway passes, applications and multiplied only. polynomial = the monic f of least degree with
- * f(A)b = 0, then zeros. Solved: b is a combination of Ab, A(Ab), .., and vector = x with Ax = b. Singular: vector = w,
- * not zero, with Aw = 0; Ax = b may have solutions all the same. b = 0, as that of size 0, is solved by x = 0 with
- * f = 1 and no pass.
+ * numbers; they and the window sway passes, applications and multiplied only. polynomial = the monic f of least degree
+ * with f(A)b = 0, then zeros. Solved: b is a combination of Ab, A(Ab), .., and vector = x with Ax = b. Singular:
+ * vector = w, not zero, with Aw = 0; Ax = b may have solutions all the same. b = 0, as that of size 0, is solved by
+ * x = 0 with f = 1 and no pass.
  * bill: three numbers for each pass, in their order: left (n less the degree found before the pass), the pass's degree t
- * and its applications, 2 * left - 1 + t. The verdict's applications are the sum of the passes' and degree - 1 for the
- * close (0 for degree 0). The bill takes as many whole passes as it has room for, and its other places stay as they
- * were: an empty one wants none, 3 * (R + n) places hold every pass of a run. No length of it is refused.
- * Refusals: 3 to 7; 8 (b: n elements); 9 (b); 10 (words); 11 (vector: exactly n places; polynomial: exactly n + 1;
- * work: at least 16 * n + 16). */
+ * and its applications, 2 * left - 1 + t where the window (below) does not change them. The verdict's applications are
+ * the sum of the passes' and degree - 1 for the close (0 for degree 0). The bill takes as many whole passes as it has
+ * room for, and its other places stay as they were: an empty one wants none, 3 * (R + n) places hold every pass of a
+ * run. No length of it is refused.
+ * window: 0 to 64; 0 is no window. Otherwise a pass tests, once, whether it can end before its 2 * left terms: after
+ * the first term i below 2 * left where its recurrence g, of the terms so far, has a degree L of at least 1 and the
+ * last `window` discrepancies were all 0, that is, each of these terms was as the recurrence before it foretold.
+ * If g(A) takes what the passes before have left of b to zero, the pass ends with g, at i - 1 + L applications. If not,
+ * it goes on to all of its terms and costs L more, 2 * left - 1 + t + L.
+ * Refusals: 3 to 7; 8 (b: n elements); 9 (b); 10 (words); 13 (window); 11 (vector: exactly n places; polynomial:
+ * exactly n + 1; work: at least 16 * n + 16). */
 struct filzeur_verdict filzeur_solve(uint32_t p, const uint32_t *starts, size_t starts_length, const uint32_t *columns,
                                      size_t columns_length, const uint32_t *values, size_t values_length,
                                      const uint32_t *b, size_t b_length, const uint32_t *words, size_t words_length,
-                                     uint32_t *vector, size_t vector_length, uint32_t *polynomial,
+                                     uint32_t window, uint32_t *vector, size_t vector_length, uint32_t *polynomial,
                                      size_t polynomial_length, uint32_t *bill, size_t bill_length, uint32_t *work,
                                      size_t work_length);
 
@@ -195,9 +203,9 @@ struct filzeur_length filzeur_write(uint32_t p, const uint32_t *starts, size_t s
                                     size_t columns_length, const uint32_t *values, size_t values_length,
                                     const uint32_t *b, size_t b_length, uint8_t *text, size_t text_length);
 
-/* The text call: a system text in, the answer's text out, without random words. The answer's first line is `answer`,
- * kind, D, passes, applications and entries multiplied. Answers the length of the answer's text, always above 18, or
- * the refusal's number; the bytes after the answer stay.
+/* The text call: a system text in, the answer's text out, without random words or a window. The answer's first line is
+ * `answer`, kind, D, passes, applications and entries multiplied. Answers the length of the answer's text, always above
+ * 18, or the refusal's number; the bytes after the answer stay.
  * Refusals: 1 to 7; 11 (n over 128, or over 1,024 entries; answer: at least 7,168 bytes). */
 uint64_t filzeur_text(const uint8_t *text, size_t text_length, uint8_t *answer, size_t answer_length);
 

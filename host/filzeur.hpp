@@ -1,11 +1,12 @@
 // filzeur.hpp: Filzeur for C++17 and later, header only, over the C calls of filzeur.h.
 //
-//   Refusal              why a call turned its input down: a number, 1 to 12, and its meaning in words
+//   Refusal              why a call turned its input down: a number, 1 to 13, and its meaning in words
 //   Result<T>            a T or a Refusal, and how many entries of the matrix were multiplied
 //   Field                the field of p elements: sum, difference, product, inverse
 //   Matrix, System       a sparse square matrix; a field, a matrix and a right side
+//   Options              what a run of the solver may be given beside its system: random words, a window
 //   Answer, Pass         what a run of the solver found; one line of its bill
-//   product, transposed, apply, recurrence, solve, takes, is_null
+//   product, transposed, apply, recurrence, solve, solve_with, takes, is_null
 //   read_system, write_system, answer_text
 //
 // A call here sizes the slices that the C call writes, so 11 never comes back (but from answer_text, for a system that
@@ -54,6 +55,7 @@ struct Refusal {
             "the words are not a multiple of n, or more than 64 n, or there are words and no rows",
             "a slice to be written is not as long as stated, or the text call got n over 128 or over 1,024 entries",
             "the inverse of 0 is wanted",
+            "the window is above 64",
         };
         return number < std::size(meanings) ? meanings[number] : "no refusal has this number";
     }
@@ -157,6 +159,12 @@ struct System {
     }
 };
 
+// What a run is given beside its system; neither changes its verdict.
+struct Options {
+    std::vector<std::uint32_t> words = {}; // R vectors of n random words each, one after the other, R from 0 to 64
+    std::uint32_t window = 0;              // 0 to 64, as filzeur.h has it: above 0, a pass may end early
+};
+
 enum class Kind : std::uint32_t { solved = FILZEUR_SOLVED, singular = FILZEUR_SINGULAR };
 
 // One projection's part of a run: n less the degree found before it, the degree that it finds, its products with A.
@@ -247,21 +255,34 @@ inline Result<Polynomial> recurrence(const Field &field, const Vector &list) {
     return detail::result(refusal, std::move(polynomial).leading(std::size_t(degree) + 1));
 }
 
-// words: R vectors of n random words each, one after the other, R from 0 to 64. The verdict does not depend on them.
-inline Result<Answer> solve(const System &system, const std::vector<std::uint32_t> &words = {}) {
+namespace detail {
+
+inline Result<Answer> run(const System &system, const std::vector<std::uint32_t> &words, std::uint32_t window) {
     const auto &[field, a, b] = system;
     // R, which is 0 for size 0; more than 64 vectors are refused, so the bill needs no room for them.
     std::size_t vectors = a.size() == 0 ? 0 : words.size() / a.size();
     std::size_t passes = std::min<std::size_t>(FILZEUR_MAX_VECTORS, vectors) + a.size();
-    detail::Lent<Element> vector(a.size()), polynomial(a.size() + 1), bill(3 * passes), work(16 * a.size() + 16);
-    auto verdict = detail::with(filzeur_solve, field, a, detail::place(b), b.size(), detail::place(words), words.size(),
-                                vector.data(), vector.size(), polynomial.data(), polynomial.size(), bill.data(),
-                                bill.size(), work.data(), work.size());
-    return detail::result(verdict.refusal,
-                          Answer{Kind{verdict.kind}, verdict.degree, verdict.passes, verdict.applications,
-                                 std::move(vector).leading(a.size()), std::move(polynomial).leading(verdict.degree + 1),
-                                 detail::passes(bill.data(), verdict.passes), verdict.multiplied},
-                          verdict.multiplied);
+    Lent<Element> vector(a.size()), polynomial(a.size() + 1), bill(3 * passes), work(16 * a.size() + 16);
+    auto verdict =
+        with(filzeur_solve, field, a, place(b), b.size(), place(words), words.size(), window, vector.data(),
+             vector.size(), polynomial.data(), polynomial.size(), bill.data(), bill.size(), work.data(), work.size());
+    return result(verdict.refusal,
+                  Answer{Kind{verdict.kind}, verdict.degree, verdict.passes, verdict.applications,
+                         std::move(vector).leading(a.size()), std::move(polynomial).leading(verdict.degree + 1),
+                         detail::passes(bill.data(), verdict.passes), verdict.multiplied},
+                  verdict.multiplied);
+}
+
+} // namespace detail
+
+// words: R vectors of n random words each, one after the other, R from 0 to 64. The verdict does not depend on them.
+inline Result<Answer> solve(const System &system, const std::vector<std::uint32_t> &words = {}) {
+    return detail::run(system, words, 0);
+}
+
+// A name of its own: a second `solve` would leave code that hands the first one on, as to std::async, in doubt which.
+inline Result<Answer> solve_with(const System &system, const Options &options) {
+    return detail::run(system, options.words, options.window);
 }
 
 // Whether Ax = b

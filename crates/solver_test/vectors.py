@@ -15,6 +15,8 @@ from generator import FREE, listed, printed, run, shown  # noqa: E402
 dice = random.Random(20261115)
 bill_dice = random.Random(20261117)
 calls, answers = [], []
+# passes that ended early, and that went on after a test that failed
+early = failed = 0
 
 
 def rank(p, rows):
@@ -43,33 +45,46 @@ def dense(starts, columns, values):
     return rows
 
 
-def billed(bill, n, degree, passes, applications):
+def possible(window, left, t, made):
+    """Whether a pass can make so many products. A test with an f of degree L comes after term i = L + window at the earliest, and before the last: the pass
+    ends there, or costs L more."""
+    global early, failed
+    full = 2 * left - 1 + t
+    early, failed = early + (made < full), failed + (made > full)
+    if made < full:
+        return window > 0 and t > 0 and t + window <= made + 1 - t
+    return made == full or window > 0 and made - full <= t and made - full + window < 2 * left
+
+
+def billed(bill, n, degree, passes, applications, window):
     """Whether whole passes stand on the bill, left falling from n, with the applications of all of them where there is room."""
     left, total = n, max(degree - 1, 0)
     for k in range(min(passes, len(bill) // 3)):
         left_before, t, made = bill[3 * k:3 * k + 3]
-        if left_before != left or made != 2 * left - 1 + t:
+        if left_before != left or not possible(window, left, t, made):
             return False
         left, total = left - t, total + made
     return len(bill) < 3 * passes or (left == n - degree and total == applications and set(bill[3 * passes:]) <= {FREE})
 
 
-def add(p, starts, columns, values, b, words, vector=None, polynomial=None, work=None, bill=None):
+def add(p, starts, columns, values, b, words, vector=None, polynomial=None, work=None, bill=None, window=0):
     n = max(len(starts) - 1, 0)
     vector = n if vector is None else vector
     polynomial = n + 1 if polynomial is None else polynomial
     work = 16 * n + 16 if work is None else work
     every_pass = 3 * (n + reference.vectors_of(n, words))
     bill = bill_dice.choice((0, 1, 2, 3, 4, 5, 8, every_pass, every_pass, every_pass)) if bill is None else bill
-    calls.append([[p, vector, polynomial, bill, work], starts, columns, values, b, words])
+    calls.append([[p, window, vector, polynomial, bill, work], starts, columns, values, b, words])
     lent = [[FREE] * places for places in (vector, polynomial, bill)]
-    answer = reference.solve(p, starts, columns, values, b, words, *lent, [0] * work)
+    answer = reference.solve(p, starts, columns, values, b, words, window, *lent, [0] * work)
     if answer[0] == 'refused':
         answers.append(printed(answer[1]) + ''.join(map(shown, lent)) + shown([FREE] * work))
         return
     _, kind, D, passes, applications, multiplied, x, F, lines = answer
     answers.append(printed(0, kind == 'solved', D, passes, applications, multiplied) + shown(x) + shown(F) + shown(lines) + shown([]))
-    assert billed(lines, n, D, passes, applications) and multiplied == applications * len(values)
+    assert billed(lines, n, D, passes, applications, window) and multiplied == applications * len(values)
+    if window:  # kind, vector and f are those without it
+        assert (kind, x, F) == tuple(reference.solve(p, starts, columns, values, b, words, 0, *lent, [0] * work)[k] for k in (1, 6, 7))
     if n <= 24:
         A = dense(starts, columns, values)
         image = [sum(c * y for c, y in zip(row, x)) % p for row in A]
@@ -187,10 +202,46 @@ for p, count, most in ((2, 110, 24), (3, 90, 24), (7, 60, 24), (65537, 40, 20), 
 for p, n in ((2, 60), (3, 60), (7, 57), (65537, 60), (2147483647, 60), (2, 211), (65537, 256), (2147483647, 300)):
     A, b, words = system(p, n, 4.0 / n), vector(p, n), words_for(p, n) if n < 100 else []
     add(p, *A, b, words, bill=3 * (n + len(words) // n))
+# windows: every length of one where a pass ends early, where the test fails and a second one would be due, where it would be due after the last term, and
+# where f is of degree 2 and of the steps; and 13, after 10 and before 11
+diag3, swap, shift = ([0, 1, 2, 3], [0, 1, 2], [2, 3, 4]), ([0, 1, 2, 2], [1, 0], [1, 1]), ([0, 1, 2, 3], [1, 2, 0], [1, 1, 1])
+for window in (*range(8), 63, 64, 65, 66, 256, 65536, 4294967295):
+    add(7, *diag3, [1, 0, 0], [], bill=9, window=window)
+    add(7, *diag3, [1, 1, 0], [], bill=9, window=window)
+    add(7, *diag3, [1, 1, 1], [1, 1, 1], bill=12, window=window)
+    add(2, *swap, [1, 0, 0], [], bill=9, window=window)
+    add(2, *shift, [0, 0, 1], [], bill=9, window=window)
+    add(7, *upper, [0, 1], [], bill=6, window=window)
+    add(7, *diag, [1, 1], [], bill=6, window=window)
+    add(7, *diag, [1, 1], [0, 0], bill=9, window=window)
+    add(7, *diag, [0, 0], [], bill=6, window=window)
+    add(2, [0, 1], [0], [1], [1], [], bill=3, window=window)
+    add(7, *empty, [], [], bill=3, window=window)
+    add(7, *empty, [], [1], bill=3, window=window)
+    add(7, *diag, [1, 7], [], bill=6, window=window)
+    add(7, *diag, [1, 1], [1], 1, bill=6, window=window)
+    add(7, *diag, [1, 1], [], 1, bill=6, window=window)
+    add(7, *diag, [1, 1], [], 2, 2, bill=6, window=window)
+    add(7, *diag, [1, 1], [], 2, 3, 47, 6, window)
+# random systems with windows: over small fields tests often fail; a diagonal of few elements has a short f, so passes end early
+for p, count, most in ((2, 120, 16), (3, 80, 16), (5, 60, 16), (7, 60, 16), (65537, 30, 16), (2147483647, 30, 16)):
+    for _ in range(count):
+        n = dice.randrange(1, most + 1)
+        A = system(p, n, min(1.0, dice.choice((1.0, 2.0, 4.0)) / n), dice.choice((0, 0, 1)))
+        if dice.random() < 0.3:
+            few = [dice.randrange(1, p) for _ in range(3)]
+            A = (list(range(n + 1)), list(range(n)), [dice.choice(few) for _ in range(n)])
+        words, b = words_for(p, n), vector(p, n, dice.choice((0.0, 0.5, 0.9)))
+        add(p, *A, b, words, bill=3 * (n + len(words) // n), window=dice.choice((0, 1, 1, 1, 2, 2, 2, 5, 5, 64, 65)))
+for p, n, window in ((2, 60, 1), (2, 60, 5), (3, 60, 2), (7, 57, 1), (65537, 60, 5), (2147483647, 60, 64)):
+    for A in (system(p, n, 4.0 / n), (list(range(n + 1)), list(range(n)), [dice.randrange(1, min(p, 12)) for _ in range(n)])):
+        b, words = vector(p, n), words_for(p, n)
+        add(p, *A, b, words, bill=3 * (n + len(words) // n), window=window)
 
 
 def make():
-    return listed(calls), ''.join(a + '\n' for a in answers).encode(), '%d calls' % len(calls)
+    remark = '%d calls; %d passes ended early, %d went on after a test that failed' % (len(calls), early, failed)
+    return listed(calls), ''.join(a + '\n' for a in answers).encode(), remark
 
 
 run(__file__, make)

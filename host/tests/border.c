@@ -40,9 +40,9 @@ WRAP(struct filzeur_degree, filzeur_recurrence,
      (p, LENT(s), LENT(polynomial), LENT(work)))
 
 WRAP(struct filzeur_verdict, filzeur_solve,
-     (uint32_t p, READS_MATRIX, READS(uint32_t, b), READS(uint32_t, words), WRITES(uint32_t, vector),
+     (uint32_t p, READS_MATRIX, READS(uint32_t, b), READS(uint32_t, words), uint32_t window, WRITES(uint32_t, vector),
       WRITES(uint32_t, polynomial), WRITES(uint32_t, bill), WRITES(uint32_t, work)),
-     (p, LENT_MATRIX, LENT(b), LENT(words), LENT(vector), LENT(polynomial), LENT(bill), LENT(work)))
+     (p, LENT_MATRIX, LENT(b), LENT(words), window, LENT(vector), LENT(polynomial), LENT(bill), LENT(work)))
 
 WRAP(struct filzeur_yes, filzeur_takes, (uint32_t p, READS_MATRIX, READS(uint32_t, x), READS(uint32_t, b)),
      (p, LENT_MATRIX, LENT(x), LENT(b)))

@@ -1,27 +1,47 @@
-/* filzeur.h from plain C99: document 01's diag(2,3) through the number call, with a bill and without, its first case
- * through the text call, the entries multiplied by every call that makes products, and a system with nothing left
- * through every call. */
+/* filzeur.h from plain C99: document 01's diag(2,3) through the number call, with a bill and without, a run with every
+ * window, its first case through the text call, the entries multiplied by every call that makes products, and a system
+ * with nothing left through every call. */
 #include "../filzeur.h"
 
 #include <stdio.h>
 #include <string.h>
 
-#if FILZEUR_VERSION < 4
-#error "the bill came with version 2, size 0 with version 3, the entries multiplied with version 4"
+#if FILZEUR_VERSION < 5
+#error "the bill came with version 2, size 0 with 3, the entries multiplied with 4, the window with 5"
 #endif
 
 static int solves(void) {
     const uint32_t starts[] = {0, 1, 2}, columns[] = {0, 1}, values[] = {2, 3}, b[] = {1, 1}, words[] = {1, 1};
     uint32_t x[2], f[3], bill[9] = {0}, work[48];
     struct filzeur_verdict verdict =
-        filzeur_solve(7, starts, 3, columns, 2, values, 2, b, 2, words, 2, x, 2, f, 3, bill, 9, work, 48);
+        filzeur_solve(7, starts, 3, columns, 2, values, 2, b, 2, words, 2, 0, x, 2, f, 3, bill, 9, work, 48);
     struct filzeur_verdict unbilled =
-        filzeur_solve(7, starts, 3, columns, 2, values, 2, b, 2, words, 2, x, 2, f, 3, bill, 0, work, 48);
+        filzeur_solve(7, starts, 3, columns, 2, values, 2, b, 2, words, 2, 0, x, 2, f, 3, bill, 0, work, 48);
     return verdict.refusal == 0 && verdict.kind == FILZEUR_SOLVED && verdict.degree == 2 && verdict.passes == 1 &&
            verdict.applications == 6 && verdict.multiplied == 12 && x[0] == 4 && x[1] == 5 && f[0] == 6 && f[1] == 2 &&
            f[2] == 1 && bill[0] == 2 && bill[1] == 2 && bill[2] == 5 && bill[3] == 0 && unbilled.refusal == 0 &&
            unbilled.applications == 6 && unbilled.multiplied == 12 &&
            filzeur_takes(7, starts, 3, columns, 2, values, 2, x, 2, b, 2).yes == 1;
+}
+
+/* diag(2,3,4) with b = (1,0,0): its terms are foretold from the third on, so a window of up to 3 ends its pass. */
+static int ends_early(void) {
+    const uint32_t starts[] = {0, 1, 2, 3}, columns[] = {0, 1, 2}, values[] = {2, 3, 4}, b[] = {1, 0, 0}, words[] = {0};
+    uint32_t x[3], f[4], bill[3], work[64], window;
+    for (window = 0; window <= FILZEUR_MAX_WINDOW + 1; window++) {
+        const uint64_t applications = window >= 1 && window <= 3 ? 2 + window : 6;
+        struct filzeur_verdict verdict;
+        x[0] = bill[2] = 9;
+        verdict =
+            filzeur_solve(7, starts, 4, columns, 3, values, 3, b, 3, words, 0, window, x, 3, f, 4, bill, 3, work, 64);
+        if (window > FILZEUR_MAX_WINDOW)
+            return verdict.refusal == 13 && verdict.applications == 0 && x[0] == 9 && bill[2] == 9;
+        if (verdict.refusal != 0 || verdict.kind != FILZEUR_SOLVED || verdict.applications != applications ||
+            verdict.multiplied != 3 * applications || x[0] != 4 || x[1] != 0 || f[0] != 5 || f[1] != 1 || f[2] != 0 ||
+            bill[0] != 3 || bill[1] != 1 || bill[2] != applications)
+            return 0;
+    }
+    return 0;
 }
 
 static int answers(void) {
@@ -63,8 +83,9 @@ static int multiplies(void) {
            said(filzeur_takes(A, v, 3, zero, 3), 0, 0, 4) && said(filzeur_takes(A, zero, 3, zero, 3), 0, 1, 4) &&
            said(filzeur_is_null(A, w, 3), 0, 1, 4) && said(filzeur_is_null(A, v, 3), 0, 0, 4) &&
            said(filzeur_is_null(A, zero, 3), 0, 0, 4) &&
-           ran(filzeur_solve(A, image, 3, v, 0, OUT, f, 4, bill, 9, WORK), 0, 6, 24) &&
-           ran(filzeur_solve(A, zero, 3, v, 3, OUT, f, 4, bill, 9, WORK), 0, 0, 0) &&
+           ran(filzeur_solve(A, image, 3, v, 0, 0, OUT, f, 4, bill, 9, WORK), 0, 6, 24) &&
+           ran(filzeur_solve(A, image, 3, v, 0, 2, OUT, f, 4, bill, 9, WORK), 0, 4, 16) &&
+           ran(filzeur_solve(A, zero, 3, v, 3, 2, OUT, f, 4, bill, 9, WORK), 0, 0, 0) &&
 
            wrote(filzeur_product(A, v, 2, OUT), 8, 0) && wrote(filzeur_transposed(A, large, 3, OUT), 9, 0) &&
            wrote(filzeur_product(A, v, 3, out, 2), 11, 0) && wrote(filzeur_transposed(A, v, 3, out, 2), 11, 0) &&
@@ -72,8 +93,9 @@ static int multiplies(void) {
            wrote(filzeur_apply(A, g, 4, v, 3, OUT, work, 5), 11, 0) &&
            said(filzeur_takes(A, v, 3, image, 2), 8, 0, 0) && said(filzeur_takes(A, v, 3, large, 3), 9, 0, 0) &&
            said(filzeur_is_null(A, w, 2), 8, 0, 0) && said(filzeur_is_null(A, large, 3), 9, 0, 0) &&
-           ran(filzeur_solve(A, image, 3, v, 2, OUT, f, 4, bill, 9, WORK), 10, 0, 0) &&
-           ran(filzeur_solve(A, image, 3, v, 3, OUT, f, 4, bill, 9, work, 63), 11, 0, 0);
+           ran(filzeur_solve(A, image, 3, v, 2, 65, OUT, f, 4, bill, 9, work, 63), 10, 0, 0) &&
+           ran(filzeur_solve(A, image, 3, v, 3, 65, OUT, f, 4, bill, 9, work, 63), 13, 0, 0) &&
+           ran(filzeur_solve(A, image, 3, v, 3, 64, OUT, f, 4, bill, 9, work, 63), 11, 0, 0);
 }
 
 /* Size 0. An empty slice has a pointer all the same, here to a place that stays as it was. */
@@ -102,10 +124,10 @@ static int nothing_left(void) {
         !said(filzeur_is_null(NOTHING, NO(none)), 0, 0, 0) || out[0] != 9 || work[0] != 9)
         return 0;
 
-    refused = filzeur_solve(NOTHING, NO(none), words, 1, NO(out), f, 1, bill, 3, work, 16);
+    refused = filzeur_solve(NOTHING, NO(none), words, 1, 0, NO(out), f, 1, bill, 3, work, 16);
     if (refused.refusal != 10 || f[0] != 9 || work[0] != 9)
         return 0;
-    verdict = filzeur_solve(NOTHING, NO(none), NO(words), NO(out), f, 1, bill, 3, work, 16);
+    verdict = filzeur_solve(NOTHING, NO(none), NO(words), 1, NO(out), f, 1, bill, 3, work, 16);
     if (verdict.refusal != 0 || verdict.kind != FILZEUR_SOLVED || verdict.degree != 0 || verdict.passes != 0 ||
         verdict.applications != 0 || verdict.multiplied != 0 || out[0] != 9 || f[0] != 1 || f[1] != 9 || bill[0] != 9 ||
         bill[1] != 9 || bill[2] != 9 || work[16] != 9)
@@ -123,8 +145,8 @@ static int nothing_left(void) {
 }
 
 int main(void) {
-    int passed = solves() && answers() && multiplies() && nothing_left() && filzeur_field(2147483647) == 0 &&
-                 filzeur_field(2147483646) == 3;
+    int passed = solves() && ends_early() && answers() && multiplies() && nothing_left() &&
+                 filzeur_field(2147483647) == 0 && filzeur_field(2147483646) == 3;
     printf("c99: %s\n", passed ? "passed" : "FAILED");
     return passed ? 0 : 1;
 }

@@ -118,15 +118,17 @@ struct Run {
     std::uint32_t p;
     Matrix a;
     Numbers b, words;
+    std::uint32_t window;
     std::uint32_t vector, polynomial, bill, work; // lengths
 };
 
 void solver_case(const std::string &what, const Run &run, const std::string &expected) {
     Lent vector(run.vector), polynomial(run.polynomial), bill(run.bill), work(run.work);
-    auto verdict =
-        on(filzeur_solve, run.p, run.a, place(run.b), run.b.size(), place(run.words), run.words.size(), vector.data(),
-           vector.size(), polynomial.data(), polynomial.size(), bill.data(), bill.size(), work.data(), work.size());
-    auto answer = filzeur::solve({{run.p}, run.a, run.b}, run.words);
+    auto verdict = on(filzeur_solve, run.p, run.a, place(run.b), run.b.size(), place(run.words), run.words.size(),
+                      run.window, vector.data(), vector.size(), polynomial.data(), polynomial.size(), bill.data(),
+                      bill.size(), work.data(), work.size());
+    auto answer = run.window == 0 ? filzeur::solve({{run.p}, run.a, run.b}, run.words)
+                                  : filzeur::solve_with({{run.p}, run.a, run.b}, {run.words, run.window});
     std::uint32_t refusal = refusal_of(expected);
     check(verdict.refusal == refusal, what + ", refusal " + std::to_string(verdict.refusal));
     check(work.margins_untouched(), what + ", around the work slice");
@@ -169,15 +171,16 @@ void system_case(const std::vector<std::string> &lines) {
     auto n = static_cast<std::uint32_t>(a.size());
     auto words = numbers(lines[2], "words = ");
     auto passes = (n == 0 ? 0 : static_cast<std::uint32_t>(words.size()) / n) + n; // at most
-    Run run{number(lines[1], "p = "), a, numbers(lines[2], " b = "), words, n, n + 1, 3 * passes, 16 * n + 16};
+    auto window = number(lines[2], "; window = ");
+    Run run{number(lines[1], "p = "), a, numbers(lines[2], " b = "), words, window, n, n + 1, 3 * passes, 16 * n + 16};
     solver_case(lines[0], run, lines[3]);
 }
 
 void refusal_case(const std::vector<std::string> &lines) {
     const auto &line = lines[0];
-    Run run{number(line, "p = "),       matrix_of(line),           numbers(line, "; b "),
-            words_of(line, "; words "), number(line, "; vector "), number(line, ", polynomial "),
-            number(line, ", bill "),    number(line, ", work ")};
+    Run run{number(line, "p = "),          matrix_of(line),           numbers(line, "; b "),
+            words_of(line, "; words "),    number(line, "; window "), number(line, "; vector "),
+            number(line, ", polynomial "), number(line, ", bill "),   number(line, ", work ")};
     solver_case(line, run, lines[1]);
 }
 
@@ -360,8 +363,8 @@ struct Section {
 };
 
 const std::map<char, Section> sections = {
-    {'1', {system_case, 19}}, {'2', {recurrence_case, 15}}, {'3', {product_case, 47}}, {'4', {reader_case, 39}},
-    {'5', {text_case, 20}},   {'6', {writer_case, 9}},      {'7', {refusal_case, 53}}, {'8', {field_case, 14}},
+    {'1', {system_case, 35}}, {'2', {recurrence_case, 15}}, {'3', {product_case, 47}}, {'4', {reader_case, 39}},
+    {'5', {text_case, 20}},   {'6', {writer_case, 9}},      {'7', {refusal_case, 68}}, {'8', {field_case, 14}},
 };
 
 } // namespace

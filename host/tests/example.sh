@@ -2,9 +2,9 @@
 #
 #     sh example.sh PROGRAM FOLDER
 #
-# Without words it gives, byte for byte, the answers that evidence/reference.py gave (*.answer); with words the same but
-# for the passes and the counts, whatever they are, and the bill adds up, as do the entries multiplied. What is no
-# system is refused, by number and exit status.
+# Without words it gives, byte for byte, the answers that evidence/reference.py gave (*.answer); with words or a window
+# the same but for the passes and the counts, whatever they are, and the bill adds up, as do the entries multiplied. What
+# is no system is refused, by number and exit status.
 set -eu
 program=$1 examples=$2
 
@@ -49,8 +49,16 @@ for system in "$examples"/*.system; do
         [ "$(verdict -r "$vectors" "$system")" = "$without" ] || fail "$system with $vectors vectors of words"
         adds_up "$system" -r "$vectors" "$system" || fail "the bill of $system with $vectors vectors of words"
     done
+    for window in 0 1 2 64; do
+        [ "$(verdict -w "$window" -r 1 "$system")" = "$without" ] || fail "$system with a window of $window"
+        adds_up "$system" -r 0 -w "$window" "$system" || fail "the bill of $system with a window of $window"
+    done
     [ "$(verdict -r 1 <"$system")" = "$without" ] || fail "$system from standard input"
 done
+set +e
+"$program" -w 65 "$examples/first.system" >/dev/null 2>&1
+[ $? -eq 2 ] || fail "a window of 65 is bad usage"
+set -e
 refused 2 ''
 refused 3 'system\t2147483646\t1\t0\nend\n'
 refused 4 'system\t7\t4097\t0\nend\n'

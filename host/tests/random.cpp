@@ -6,6 +6,7 @@
 #include "../filzeur.hpp"
 
 #include <cstdlib>
+#include <functional>
 #include <random>
 #include <set>
 #include <sstream>
@@ -165,6 +166,11 @@ std::vector<std::uint32_t> draw_words(std::uint32_t p, std::size_t size, std::si
     return words;
 }
 
+std::uint32_t draw_window() {
+    static const std::uint32_t windows[] = {0, 0, 1, 1, 2, 2, 3, 5, 64};
+    return windows[below(std::size(windows))];
+}
+
 // ---- What is tested ----
 
 // The entries of the dense matrix
@@ -226,13 +232,25 @@ void text(const System &system) {
     }
 }
 
+// Whether a pass can cost so much: all of its terms and f(A)r; or, with a window, less by the terms after a test that
+// ended it, which comes after as many terms as its degree and the window together, or more by the degree of one that
+// failed.
+bool costs(const filzeur::Pass &pass, std::uint32_t window) {
+    std::uint64_t all = 2 * pass.left - 1 + pass.degree;
+    if (pass.applications == all)
+        return true;
+    if (pass.applications > all)
+        return window >= 1 && pass.applications <= all + pass.degree && window < 2 * pass.left;
+    return window >= 1 && pass.degree >= 1 && pass.applications >= 2 * pass.degree + window - 1;
+}
+
 // A pass for each projection that was used, left falling from n by their degrees; with the close they make up the
 // applications.
-void bill(std::size_t n, const filzeur::Answer &answer) {
+void bill(std::size_t n, const filzeur::Answer &answer, std::uint32_t window = 0) {
     std::uint64_t left = n, sum = answer.degree == 0 ? 0 : answer.degree - 1;
     check(answer.bill.size() == answer.passes, "the bill has every pass");
     for (const auto &pass : answer.bill) {
-        check(pass.left == left && pass.applications == 2 * left - 1 + pass.degree, "a pass on the bill");
+        check(pass.left == left && costs(pass, window), "a pass on the bill");
         left -= pass.degree;
         sum += pass.applications;
     }
@@ -240,9 +258,9 @@ void bill(std::size_t n, const filzeur::Answer &answer) {
 }
 
 // A bill of any length, by the C call: whole passes only, and what stands behind them stays; all of it where refused.
-void bill_lengths(const System &system, const std::vector<std::uint32_t> &words) {
+void bill_lengths(const System &system, const std::vector<std::uint32_t> &words, std::uint32_t window) {
     auto n = system.matrix.size();
-    auto run = filzeur::solve(system, words).value();
+    auto run = filzeur::solve_with(system, {words, window}).value();
     Vector all;
     for (const auto &[left, degree, applications] : run.bill)
         for (auto number : {left, degree, applications})
@@ -254,7 +272,7 @@ void bill_lengths(const System &system, const std::vector<std::uint32_t> &words)
         auto solve = [&](std::size_t work_length) {
             return filzeur::detail::with(filzeur_solve, system.field, system.matrix,
                                          filzeur::detail::place(system.right), n, filzeur::detail::place(words),
-                                         words.size(), vector.data(), n, f.data(), n + 1, bill.data(), places,
+                                         words.size(), window, vector.data(), n, f.data(), n + 1, bill.data(), places,
                                          work.data(), work_length);
         };
         auto refused = solve(work.size() - 1);
@@ -308,7 +326,42 @@ void earlier_code() {
           "results of a value alone, or of a refusal");
 }
 
-// The third condition: the verdict by dense elimination, and the same verdict for all words.
+// What turns into a vector of words
+struct Generator {
+    operator std::vector<std::uint32_t>() const { return {1, 1}; }
+};
+
+// Code from before the window: every way to give words, or none; the number of passes tells which arrived. Then options.
+void words_and_options() {
+    using filzeur::solve, filzeur::solve_with, filzeur::Options;
+    const filzeur::Matrix diagonal{{0, 1, 2}, {0, 1}, {2, 3}};
+    const System two{{7}, diagonal, {1, 1}};
+    const std::vector<std::uint32_t> words{1, 1};
+    check(solve(two).value().passes == 2 && solve(two, {}).value().passes == 2 &&
+              solve({{7}, diagonal, {1, 1}}, {}).value().passes == 2,
+          "no words, as before");
+    check(solve(two, {0, 0}).value().passes == 3 && solve(two, {1, 1}).value().passes == 1 &&
+              solve(two, words).value().passes == 1 && solve(two, Vector(2)).value().passes == 3 &&
+              solve(two, {words.begin(), words.end()}).value().passes == 1 &&
+              solve(two, Generator{}).value().passes == 1 && solve(two, {1}).refusal().number == 10,
+          "words, as they were given before");
+    auto handed = &filzeur::solve;
+    const std::function<filzeur::Result<filzeur::Answer>(const System &, const Vector &)> held = filzeur::solve;
+    check(handed(two, words).value().passes == 1 && held(two, {}).value().passes == 2, "solve, handed on");
+    Options options;
+    check(options.words.empty() && options.window == 0 && solve_with(two, options).value().applications == 7 &&
+              solve_with(two, Options{words}).value().applications == 6,
+          "options without a window");
+    options.window = 1;
+    check(solve_with(two, options).value().applications == 8 &&
+              solve_with(two, Options{{}, 64}).value().applications == 7 &&
+              solve_with({{7}, diagonal, {1, 1}}, Options{words, 1}).value().applications == 6 &&
+              solve_with(two, Options{{}, 65}).refusal().number == 13 &&
+              solve_with(two, Options{{1}, 65}).refusal().number == 10,
+          "options with a window");
+}
+
+// The third condition: the verdict by dense elimination, and the same verdict for all words and windows.
 void solver(const System &system) {
     auto p = system.field.p;
     auto rows = dense(system);
@@ -326,15 +379,16 @@ void solver(const System &system) {
     check(in_the_span ? image == system.right : image == zero && first.vector != zero, "the answer multiplies out");
 
     for (std::size_t vectors : {std::size_t{0}, std::size_t{1}, std::size_t{1 + below(6)}, std::size_t{64}}) {
-        auto again = filzeur::solve(system, draw_words(p, n, vectors)).value();
+        std::uint32_t window = draw_window();
+        auto again = filzeur::solve_with(system, {draw_words(p, n, vectors), window}).value();
         check(again.kind == first.kind && again.vector == first.vector && again.polynomial == first.polynomial,
-              "the same verdict for other words");
+              "the same verdict for other words and windows");
         check(again.passes <= vectors + n, "passes at most R + n");
-        bill(n, again);
+        bill(n, again, window);
         check(again.multiplied == again.applications * entries_of(rows), "a run's entries");
         if (system.right == zero)
             check(again.passes == 0 && again.applications == 0, "nothing counted for b = 0");
-        if (again.passes == 1)
+        if (again.passes == 1 && window == 0)
             check(again.applications == 2 * n - 1 + 2 * degree - 1, "applications of one pass");
     }
 }
@@ -388,6 +442,9 @@ void largest() {
     check(answer.degree <= per_row + 1, "the degree of a matrix of rank 16");
     bill(n, answer);
     check(answer.multiplied == answer.applications * FILZEUR_MAX_ENTRIES, "the entries of the largest run");
+    auto early = filzeur::solve_with(system, {draw_words(p, n, 1), FILZEUR_MAX_WINDOW}).value();
+    check(early.vector == answer.vector && early.polynomial == answer.polynomial, "the largest run with a window");
+    bill(n, early, FILZEUR_MAX_WINDOW);
     auto yes = answer.kind == Kind::solved ? filzeur::takes(system.field, system.matrix, answer.vector, system.right)
                                            : filzeur::is_null(system.field, system.matrix, answer.vector);
     check(yes.value() && yes.multiplied() == FILZEUR_MAX_ENTRIES, "the largest answer multiplies out");
@@ -404,9 +461,10 @@ void largest() {
 
 void refusals() {
     std::set<std::string> meanings;
-    for (std::uint32_t number = 0; number <= 13; ++number)
+    for (std::uint32_t number = 0; number <= 14; ++number)
         meanings.insert(filzeur::Refusal{number}.meaning());
-    check(meanings.size() == 14, "each refusal has a meaning of its own");
+    check(meanings.size() == 15, "each refusal has a meaning of its own");
+    check(filzeur::Refusal{13}.meaning() == std::string("the window is above 64"), "the meaning of 13");
     // Two faults: the lower number, whichever argument has it
     const filzeur::Matrix u{{0, 1, 1}, {1}, {1}};
     check(filzeur::product({7}, u, {7, 0, 0}).refusal().number == 8, "v too long, and an element 7");
@@ -509,11 +567,12 @@ int main(int argc, char **argv) {
         products(system);
         text(system);
         solver(system);
-        bill_lengths(system, draw_words(system.field.p, system.matrix.size(), below(4)));
+        bill_lengths(system, draw_words(system.field.p, system.matrix.size(), below(4)), draw_window());
         text_call(system);
         recurrences();
     }
     earlier_code();
+    words_and_options();
     refusals();
     nothing_multiplied();
     nothing_left();

@@ -3,10 +3,11 @@
 --     termCost-nil, termCost-cons, termCost-snoc      the terms' cost, by the first and by the last pass
 --     shortest-ext         a shortest recurrence reads the first N terms alone
 --     Stands us c          where the run c stands after passes with the projections us: r has n elements and F has D + 1, all below p; they are
---                          what the theory has reached; the passes are as many as the projections; D is the sum of the degrees; the
---                          applications are those of the terms and D more
---     pass-shortest        a pass's generator is the theory's shortest recurrence of u·r, u·Ar, ..
---     stands-begin, stands-pass      kept from the beginning on
+--                          what the theory has reached; the passes are as many as the projections; D is the sum of the degrees
+--     Costs c              its applications are those of the terms and D more: so it is for w = 0
+--     terms-shortest       the generator of the first terms is the theory's shortest recurrence of as many of u·r, u·Ar, ..
+--     taken-shortest       .. and so is a pass's of all 2 × left, also where the pass ended early (krylov's pass-early)
+--     stands-begin, stands-pass, costs-pass      kept from the beginning on, with any window; for w = 0
 --     run-nil, run-stop, run-pass, run-rest      the clauses of the run; where r is zero nothing is done
 --     Ended vs us c        where a run that stood at vs ends with the projections us: r is zero, or all of vs and us are used
 --     AllUsed vs us used   the latter
@@ -22,29 +23,30 @@ use mathlib.Core.List.{List, [], _∷_, _++_, List·Memᴰ, List·Memᴰ·head, 
 use Prim.Native.Nat.{ℕ, zero, suc, _+_, _-_, _*_, _≤_, _<_}
 use native.Mathlib.Numerals.{add-one}
 use native.Mathlib.Omega.{arith}
-use lib.ListN.{length, getD, length-append}
-use lib.Seq.{getD-append-add}
+use lib.ListN.{length, take, getD, length-append}
+use lib.Seq.{getD-append-add, getD-take, take-all, length-take-le}
 use Rattle.meaning.specs.List.{isZero}
 use Rattle.meaning.specs.Matrix.{Matrix, size, apply}
 use Rattle.meaning.specs.Recurrence.{degree, generator}
-use Rattle.meaning.specs.Solver.{units, multiply, Pass, Run, begin, passTerms, pass, run, spent}
+use Rattle.meaning.specs.Solver.{units, multiply, Pass, Run, begin, passTerms, endPass, pass, run, spent}
 use Rattle.meaning.specs.ThirdCondition.{termCost}
 use Rattle.laws.specs.Recurrence.{length-generator}
 use Rattle.laws.specs.Bool.{test-cases}
-use Rattle.laws.specs.Solver.{length-units, getD-units, spent-nil, spent-snoc}
+use Rattle.laws.specs.Solver.{length-units, getD-units, spent-nil, spent-snoc, length-passTerms, Ends, pass-ends}
 use Rattle.algebra.specs.Ring.{Ring, Field}
 use Rattle.algebra.specs.Sum.{sum-ext}
 use Rattle.algebra.specs.Polynomial.{Shortest, Recurs, const}
 use Rattle.residue.specs.Prime.{Prime}
-use Rattle.residue.specs.Residue.{residues, mk-one}
+use Rattle.residue.specs.Residue.{residues, mk, mk-one}
 use Rattle.residue.specs.Lists.{Reduced, coef, coef-below}
 use Rattle.krylov.specs.Operator.{seq, unit}
 use Rattle.krylov.specs.Operator as theory
+use Rattle.krylov.specs.Pass.{pass-early}
 use Rattle.krylov.specs.Run.{Reached, Kept, kept, kept-units}
 use Rattle.krylov.specs.Run as reach
 use Rattle.bridge.specs.Lists.{coef-one}
 use Rattle.bridge.specs.Recurrence.{generator-shortest}
-use Rattle.bridge.specs.Operator.{operator, operator-linear, coef-apply, length-apply, reduced-apply, coef-terms, length-terms, coef-multiply, length-multiply, reduced-multiply, unitVector, coef-unit, null-isZero}
+use Rattle.bridge.specs.Operator.{operator, operator-linear, coef-apply, length-apply, reduced-apply, coef-terms, coef-multiply, length-multiply, reduced-multiply, unitVector, coef-unit, null-isZero, isZero-null}
 
 -- ---- the terms' cost
 
@@ -112,7 +114,9 @@ module _ (p : ℕ) (h : Prime p) (A : Matrix) (b : List ℕ) where
     pub reached : Reached R (size A) (operator p h A) (coef p h b) us (coef p h (c .residual)) (c .found) (coef p h (c .factor))
     pub passes : length (c .passes) ≡ length us
     pub degrees : c .found ≡ total (c .passes)
-    pub cost : spent (c .passes) ≡ termCost (size A) (c .passes) + c .found
+
+  abbrev Costs : Run → Type 0
+  Costs c = spent (c .passes) ≡ termCost (size A) (c .passes) + c .found
 
   pub stands-begin : length b ≡ size A → Reduced p b → Stands [] (begin b)
   unfolding begin
@@ -125,12 +129,15 @@ module _ (p : ℕ) (h : Prime p) (A : Matrix) (b : List ℕ) where
         reached = subst (Reached R (size A) (operator p h A) (coef p h b) [] (coef p h b) 0) (sym (coef-one p h 1 ∙ ap (const R) (mk-one p h))) reach.start;
         passes = refl;
         degrees = sym total-nil;
-        cost = omega (arith, spent-nil, termCost-nil (size A));
       }
     where
       one : Reduced p (1 ∷ [])
       one zero k = h .two-le
       one (suc i) k = absurd (omega arith)
+
+  costs-begin : Costs (begin b)
+  unfolding begin
+  costs-begin = omega (arith, spent-nil, termCost-nil (size A))
 
   module _ (u : List ℕ) {us : List (ℕ → C)} (c : Run) (I : Stands us c) where
     left : ℕ
@@ -139,75 +146,99 @@ module _ (p : ℕ) (h : Prime p) (A : Matrix) (b : List ℕ) where
     s : List ℕ
     s = passTerms p A u c
 
-    length-passTerms : length s ≡ left + left
-    unfolding s left passTerms
-    length-passTerms = length-terms p h A (size A - c .found) u (c .residual) ∙ omega arith
+    -- the sequence u·r, u·Ar, ..
+    S : ℕ → C
+    S = seq R (size A) (operator p h A) (coef p h u) (coef p h (c .residual))
 
-    coef-passTerms : (i : ℕ) → i < left + left → coef p h s i ≡ seq R (size A) (operator p h A) (coef p h u) (coef p h (c .residual)) i
-    unfolding s left passTerms
+    size-s : length s ≡ left + left
+    unfolding s left
+    size-s = length-passTerms p A u c ∙ omega arith
+
+    coef-passTerms : (i : ℕ) → i < left + left → coef p h s i ≡ S i
+    unfolding s left S passTerms
     coef-passTerms i l = coef-terms p h A (size A - c .found) u (c .residual) (I .size-residual) i (omega arith)
 
-    pub pass-shortest : Shortest R (size A - c .found + (size A - c .found)) (seq R (size A) (operator p h A) (coef p h u) (coef p h (c .residual))) (degree p (passTerms p A u c)) (coef p h (generator p (passTerms p A u c)))
-    unfolding s left
-    pass-shortest =
-        shortest-ext R (left + left) (coef p h s) (seq R (size A) (operator p h A) (coef p h u) (coef p h (c .residual))) coef-passTerms
-        (subst (λ N. Shortest R N (coef p h s) (degree p s) (coef p h (generator p s))) length-passTerms (generator-shortest p h s))
+    pub terms-shortest : (i : ℕ) → i ≤ length (passTerms p A u c) → Shortest R i (seq R (size A) (operator p h A) (coef p h u) (coef p h (c .residual))) (degree p (take i (passTerms p A u c))) (coef p h (generator p (take i (passTerms p A u c))))
+    unfolding s left S
+    terms-shortest i l =
+        shortest-ext R i (coef p h (take i s)) S
+        (λ k a. ap (mk p h) (getD-take i s k 0 a) ∙ coef-passTerms k (omega (arith, a, l, size-s)))
+        (subst (λ N. Shortest R N (coef p h (take i s)) (degree p (take i s)) (coef p h (generator p (take i s)))) (length-take-le i s l) (generator-shortest p h (take i s)))
 
-    pub stands-pass : Stands (coef p h u ∷ us) (pass p A u c)
-    unfolding pass s left
-    stands-pass =
-        record {
-          size-residual = length-apply p h A f (c .residual);
-          reduced-residual = reduced-apply p h A f (c .residual);
-          size-factor = length-multiply p h (c .factor) f ∙ omega (arith, I .size-factor, size-f);
-          reduced-factor = reduced-multiply p h (c .factor) f;
-          reached =
-              subst (λ r. Reached R (size A) (operator p h A) (coef p h b) (coef p h u ∷ us) r (c .found + t) (coef p h (multiply p (c .factor) f))) (sym applied)
-              (subst (Reached R (size A) (operator p h A) (coef p h b) (coef p h u ∷ us) (theory.apply R (operator p h A) (suc t) (coef p h f) (coef p h (c .residual))) (c .found + t)) (sym (coef-multiply p h (c .factor) f (omega (arith, size-f))))
-              (reach.pass (I .reached) pass-shortest));
-          passes = length-append (c .passes) (q ∷ []) ∙ omega (arith, I .passes);
-          degrees = ap (λ d. d + t) (I .degrees) ∙ sym (total-snoc (c .passes) q);
-          cost = cost;
-        }
-      where
-        f : List ℕ
-        f = generator p s
+    -- f(A)r, in the theory
+    applied : (f : List ℕ) (t : ℕ) → length f ≡ t + 1 → coef p h (apply p A f (c .residual)) ≡ theory.apply R (operator p h A) (suc t) (coef p h f) (coef p h (c .residual))
+    applied f t size-f =
+        coef-apply p h A f (c .residual) (I .size-residual)
+        ∙ ap (λ m. theory.apply R (operator p h A) m (coef p h f) (coef p h (c .residual))) (size-f ∙ add-one t)
 
-        t : ℕ
-        t = degree p s
+    pub taken-shortest : (x : List ℕ) → (x ≡ passTerms p A u c) ⊎ ((i : ℕ) × (i ≤ length (passTerms p A u c)) × (x ≡ take i (passTerms p A u c)) × (isZero (apply p A (generator p x) (c .residual)) ≡ true))
+        → length x ≤ 2 * (size A - c .found) → Shortest R (size A - c .found + (size A - c .found)) (seq R (size A) (operator p h A) (coef p h u) (coef p h (c .residual))) (degree p x) (coef p h (generator p x))
+    unfolding s left S
+    taken-shortest x (inl e) few =
+        let all : take (length s) s ≡ x = take-all (length s) s (omega arith) ∙ sym e in
+        subst (λ N. Shortest R N S (degree p x) (coef p h (generator p x))) size-s
+        (subst (λ y. Shortest R (length s) S (degree p y) (coef p h (generator p y))) all (terms-shortest (length s) (omega arith)))
+    taken-shortest x (inr (i, l, e, z)) few =
+        let S′ = subst (λ y. Shortest R i S (degree p y) (coef p h (generator p y))) (sym e) (terms-shortest i l) in
+        pass-early (residues p h) (size A) (operator p h A) (operator-linear p h A) (coef p h u) (omega (arith, l, size-s)) S′
+        (record { monic = S′ .monic; vanishes = sym (applied (generator p x) (degree p x) (length-generator p x)) ∙ isZero-null p h (apply p A (generator p x) (c .residual)) z })
 
-        q : Pass
-        q = record { left = left; degree = t; applications = 2 * left - 1 + t }
+    module _ (w : ℕ) where
+      -- what the pass took and found
+      e : Ends p A w u c
+      e = pass-ends p A (h .two-le) w u c
 
-        size-f : length f ≡ t + 1
-        size-f = length-generator p s
+      f : List ℕ
+      f = generator p (e .taken)
 
-        applied : coef p h (apply p A f (c .residual)) ≡ theory.apply R (operator p h A) (suc t) (coef p h f) (coef p h (c .residual))
-        applied =
-            coef-apply p h A f (c .residual) (I .size-residual)
-            ∙ ap (λ m. theory.apply R (operator p h A) m (coef p h f) (coef p h (c .residual))) (size-f ∙ add-one t)
+      t : ℕ
+      t = degree p (e .taken)
 
-        cost : spent (c .passes ++ (q ∷ [])) ≡ termCost (size A) (c .passes ++ (q ∷ [])) + (c .found + t)
-        cost =
-            omega (arith, I .cost, I .degrees, spent-snoc (c .passes) q, termCost-snoc (size A) (c .passes) q, ap (λ d. 2 * (size A - d) - 1) (I .degrees))
+      q : Pass
+      q = record { left = left; degree = t; applications = e .made + t }
+
+      size-f : length f ≡ t + 1
+      unfolding f t e
+      size-f = length-generator p (e .taken)
+
+      pub stands-pass : Stands (coef p h u ∷ us) (pass p A w u c)
+      unfolding endPass s left e f t q
+      stands-pass = rw (e .is) (
+          record {
+            size-residual = length-apply p h A f (c .residual);
+            reduced-residual = reduced-apply p h A f (c .residual);
+            size-factor = length-multiply p h (c .factor) f ∙ omega (arith, I .size-factor, size-f);
+            reduced-factor = reduced-multiply p h (c .factor) f;
+            reached =
+                subst (λ r. Reached R (size A) (operator p h A) (coef p h b) (coef p h u ∷ us) r (c .found + t) (coef p h (multiply p (c .factor) f))) (sym (applied f t size-f))
+                (subst (Reached R (size A) (operator p h A) (coef p h b) (coef p h u ∷ us) (theory.apply R (operator p h A) (suc t) (coef p h f) (coef p h (c .residual))) (c .found + t)) (sym (coef-multiply p h (c .factor) f (omega (arith, size-f))))
+                (reach.pass (I .reached) (taken-shortest (e .taken) (e .shortest) (e .few))));
+            passes = length-append (c .passes) (q ∷ []) ∙ omega (arith, I .passes);
+            degrees = ap (λ d. d + t) (I .degrees) ∙ sym (total-snoc (c .passes) q);
+          })
+
+      costs-pass : w ≡ 0 → Costs c → Costs (pass p A w u c)
+      unfolding endPass left e f t q
+      costs-pass z k = rw (e .is) (
+          omega (arith, k, e .present z .1, I .degrees, spent-snoc (c .passes) q, termCost-snoc (size A) (c .passes) q, ap (λ d. 2 * (size A - d) - 1) (I .degrees)))
 
   -- ---- the run
 
-  pub run-nil : (c : Run) → run p A [] c ≡ c
+  pub run-nil : (w : ℕ) (c : Run) → run p A w [] c ≡ c
   unfolding run
-  run-nil c = refl
+  run-nil w c = refl
 
-  pub run-stop : (u : List ℕ) (us : List (List ℕ)) (c : Run) → isZero (c .residual) ≡ true → run p A (u ∷ us) c ≡ c
+  pub run-stop : (w : ℕ) (u : List ℕ) (us : List (List ℕ)) (c : Run) → isZero (c .residual) ≡ true → run p A w (u ∷ us) c ≡ c
   unfolding run
-  run-stop u us c e = ap (λ t. cond t c (run p A us (pass p A u c))) e
+  run-stop w u us c e = ap (λ t. cond t c (run p A w us (pass p A w u c))) e
 
-  pub run-pass : (u : List ℕ) (us : List (List ℕ)) (c : Run) → isZero (c .residual) ≡ false → run p A (u ∷ us) c ≡ run p A us (pass p A u c)
+  pub run-pass : (w : ℕ) (u : List ℕ) (us : List (List ℕ)) (c : Run) → isZero (c .residual) ≡ false → run p A w (u ∷ us) c ≡ run p A w us (pass p A w u c)
   unfolding run
-  run-pass u us c e = ap (λ t. cond t c (run p A us (pass p A u c))) e
+  run-pass w u us c e = ap (λ t. cond t c (run p A w us (pass p A w u c))) e
 
-  pub run-rest : (us : List (List ℕ)) (c : Run) → isZero (c .residual) ≡ true → run p A us c ≡ c
-  run-rest [] c e = run-nil c
-  run-rest (u ∷ us) c e = run-stop u us c e
+  pub run-rest : (w : ℕ) (us : List (List ℕ)) (c : Run) → isZero (c .residual) ≡ true → run p A w us c ≡ c
+  run-rest w [] c e = run-nil w c
+  run-rest w (u ∷ us) c e = run-stop w u us c e
 
   -- every vector of vs, and every projection of us, is among the used ones
   pub record AllUsed (vs : List (ℕ → C)) (us : List (List ℕ)) (used : List (ℕ → C)) : Type 0 where
@@ -227,20 +258,28 @@ module _ (p : ℕ) (h : Prime p) (A : Matrix) (b : List ℕ) where
       after zero l = a .before (coef p h u) (List·Memᴰ·head refl)
       after (suc i) l = a .after i (omega arith)
 
-  pub run-ended : (us : List (List ℕ)) {vs : List (ℕ → C)} (c : Run) → Stands vs c → Ended vs us (run p A us c)
-  run-ended [] {vs} c I =
-      rw (run-nil c) (record { used = vs; stands = I; few = omega arith; over = inr (record { before = λ v m. m; after = λ i l. absurd (omega arith) }) })
-  run-ended (u ∷ us) {vs} c I = go (test-cases (isZero (c .residual))) (run-ended us (pass p A u c) (stands-pass u c I))
+  pub run-ended : (w : ℕ) (us : List (List ℕ)) {vs : List (ℕ → C)} (c : Run) → Stands vs c → Ended vs us (run p A w us c)
+  run-ended w [] {vs} c I =
+      rw (run-nil w c) (record { used = vs; stands = I; few = omega arith; over = inr (record { before = λ v m. m; after = λ i l. absurd (omega arith) }) })
+  run-ended w (u ∷ us) {vs} c I = go (test-cases (isZero (c .residual))) (run-ended w us (pass p A w u c) (stands-pass u c I w))
     where
-      go : (isZero (c .residual) ≡ true) ⊎ (isZero (c .residual) ≡ false) → Ended (coef p h u ∷ vs) us (run p A us (pass p A u c)) → Ended vs (u ∷ us) (run p A (u ∷ us) c)
-      go (inl e) ih = rw (run-stop u us c e) (record { used = vs; stands = I; few = omega arith; over = inl e })
+      go : (isZero (c .residual) ≡ true) ⊎ (isZero (c .residual) ≡ false) → Ended (coef p h u ∷ vs) us (run p A w us (pass p A w u c)) → Ended vs (u ∷ us) (run p A w (u ∷ us) c)
+      go (inl e) ih = rw (run-stop w u us c e) (record { used = vs; stands = I; few = omega arith; over = inl e })
       go (inr e) ih =
-          rw (run-pass u us c e)
+          rw (run-pass w u us c e)
           (record { used = ih .used; stands = ih .stands; few = omega (arith, ih .few); over = over (ih .over) })
         where
-          over : (isZero (run p A us (pass p A u c) .residual) ≡ true) ⊎ AllUsed (coef p h u ∷ vs) us (ih .used) → (isZero (run p A us (pass p A u c) .residual) ≡ true) ⊎ AllUsed vs (u ∷ us) (ih .used)
+          over : (isZero (run p A w us (pass p A w u c) .residual) ≡ true) ⊎ AllUsed (coef p h u ∷ vs) us (ih .used) → (isZero (run p A w us (pass p A w u c) .residual) ≡ true) ⊎ AllUsed vs (u ∷ us) (ih .used)
           over (inl z) = inl z
           over (inr a) = inr (all-used-cons vs u us (ih .used) a)
+
+  run-costs : (us : List (List ℕ)) {vs : List (ℕ → C)} (c : Run) → Stands vs c → Costs c → Costs (run p A 0 us c)
+  run-costs [] c I k = rw (run-nil 0 c) k
+  run-costs (u ∷ us) c I k = go (test-cases (isZero (c .residual))) (run-costs us (pass p A 0 u c) (stands-pass u c I 0) (costs-pass u c I 0 refl k))
+    where
+      go : (isZero (c .residual) ≡ true) ⊎ (isZero (c .residual) ≡ false) → Costs (run p A 0 us (pass p A 0 u c)) → Costs (run p A 0 (u ∷ us) c)
+      go (inl e) ih = rw (run-stop 0 u us c e) k
+      go (inr e) ih = rw (run-pass 0 u us c e) ih
 
   -- some place of us holds unit vector j
   pub record Occurs (us : List (List ℕ)) (j : ℕ) : Type 0 where
@@ -248,30 +287,31 @@ module _ (p : ℕ) (h : Prime p) (A : Matrix) (b : List ℕ) where
     pub within : place < length us
     pub found : getD us place [] ≡ unitVector (size A) j
 
-  module _ (size-b : length b ≡ size A) (reduced-b : Reduced p b) (us : List (List ℕ)) where
-    pub run-begun : Ended [] us (run p A us (begin b))
-    run-begun = run-ended us (begin b) (stands-begin size-b reduced-b)
+  module _ (size-b : length b ≡ size A) (reduced-b : Reduced p b) (w : ℕ) (us : List (List ℕ)) where
+    pub run-begun : Ended [] us (run p A w us (begin b))
+    run-begun = run-ended w us (begin b) (stands-begin size-b reduced-b)
 
-    run-kept : Kept R (size A) (operator p h A) (coef p h b) (run-begun .used) (coef p h (run p A us (begin b) .residual)) (run p A us (begin b) .found) (coef p h (run p A us (begin b) .factor))
+    run-kept : Kept R (size A) (operator p h A) (coef p h b) (run-begun .used) (coef p h (run p A w us (begin b) .residual)) (run p A w us (begin b) .found) (coef p h (run p A w us (begin b) .factor))
     run-kept =
         kept (residues p h) (size A) (operator p h A) (coef p h b) (operator-linear p h A) (λ i l. coef-below p h b i (omega arith)) (run-begun .stands .reached)
 
-    pub run-found : run p A us (begin b) .found ≤ size A
+    pub run-found : run p A w us (begin b) .found ≤ size A
     run-found = run-kept .degree-le
 
-    pub run-few : length (run p A us (begin b) .passes) ≤ length us
+    pub run-few : length (run p A w us (begin b) .passes) ≤ length us
     run-few = omega (arith, run-begun .stands .passes, run-begun .few)
 
-    pub run-cost : spent (run p A us (begin b) .passes) ≡ termCost (size A) (run p A us (begin b) .passes) + run p A us (begin b) .found
-    run-cost = run-begun .stands .cost
+    pub run-cost : w ≡ 0 → spent (run p A w us (begin b) .passes) ≡ termCost (size A) (run p A w us (begin b) .passes) + run p A w us (begin b) .found
+    run-cost z =
+        subst (λ v. Costs (run p A v us (begin b))) (sym z) (run-costs us (begin b) (stands-begin size-b reduced-b) costs-begin)
 
-    pub run-zero : ((j : ℕ) → j < size A → Occurs us j) → isZero (run p A us (begin b) .residual) ≡ true
+    pub run-zero : ((j : ℕ) → j < size A → Occurs us j) → isZero (run p A w us (begin b) .residual) ≡ true
     run-zero a = go (run-begun .over)
       where
-        go : (isZero (run p A us (begin b) .residual) ≡ true) ⊎ AllUsed [] us (run-begun .used) → isZero (run p A us (begin b) .residual) ≡ true
+        go : (isZero (run p A w us (begin b) .residual) ≡ true) ⊎ AllUsed [] us (run-begun .used) → isZero (run p A w us (begin b) .residual) ≡ true
         go (inl z) = z
         go (inr q) =
-            null-isZero p h (run p A us (begin b) .residual) (run-begun .stands .reduced-residual)
+            null-isZero p h (run p A w us (begin b) .residual) (run-begun .stands .reduced-residual)
             (kept-units (residues p h) (size A) (operator p h A) (coef p h b) (operator-linear p h A) (λ i l. coef-below p h b i (omega arith)) run-kept unit-used)
           where
             unit-used : (j : ℕ) → j < size A → List·Memᴰ (unit R j) (run-begun .used)
@@ -286,5 +326,5 @@ module _ (p : ℕ) (h : Prime p) (A : Matrix) (b : List ℕ) where
         found = getD-append-add us (units (size A)) j [] ∙ getD-units (size A) j l;
       }
 
-  pub units-end : length b ≡ size A → Reduced p b → (us : List (List ℕ)) → isZero (run p A (us ++ units (size A)) (begin b) .residual) ≡ true
-  units-end e r us = run-zero e r (us ++ units (size A)) (units-occur us)
+  pub units-end : length b ≡ size A → Reduced p b → (w : ℕ) (us : List (List ℕ)) → isZero (run p A w (us ++ units (size A)) (begin b) .residual) ≡ true
+  units-end e r w us = run-zero e r w (us ++ units (size A)) (units-occur us)

@@ -308,26 +308,26 @@ module _ (p : ℕ) (h : Prime p) (A : Matrix) (b : List ℕ) (size-b : length b 
 
   -- ---- runs from the beginning, with any list of projections
 
-  pub run-counted : (us : List (List ℕ)) → isZero (run p A us (begin b) .residual) ≡ true
-      → applications (close p A b (run p A us (begin b))) ≡ cond (isZero b) 0 (termCost (size A) (run p A us (begin b) .passes) + (2 * run p A us (begin b) .found - 1))
+  pub run-counted : (w : ℕ) (us : List (List ℕ)) → isZero (run p A w us (begin b) .residual) ≡ true → w ≡ 0
+      → applications (close p A b (run p A w us (begin b))) ≡ cond (isZero b) 0 (termCost (size A) (run p A w us (begin b) .passes) + (2 * run p A w us (begin b) .found - 1))
   unfolding close begin
-  run-counted us z = go (test-cases (isZero b))
+  run-counted w us z none = go (test-cases (isZero b))
     where
       c : Run
-      c = run p A us (begin b)
+      c = run p A w us (begin b)
 
       go : (isZero b ≡ true) ⊎ (isZero b ≡ false) → spent (c .passes) + (c .found - 1) ≡ cond (isZero b) 0 (termCost (size A) (c .passes) + (2 * c .found - 1))
       go (inl e) =
-          ap (λ (r : Run). spent (r .passes) + (r .found - 1)) (run-rest p h A b us (begin b) e) ∙ omega (arith, spent-nil)
+          ap (λ (r : Run). spent (r .passes) + (r .found - 1)) (run-rest p h A b w us (begin b) e) ∙ omega (arith, spent-nil)
           ∙ ap (λ t. cond t 0 (termCost (size A) (c .passes) + (2 * c .found - 1))) (sym e)
       go (inr e) =
-          omega (arith, run-cost p h A b size-b reduced-b us, end-found c (run-begun p h A b size-b reduced-b us .stands) z e)
+          omega (arith, run-cost p h A b size-b reduced-b w us none, end-found c (run-begun p h A b size-b reduced-b w us .stands) z e)
           ∙ ap (λ t. cond t 0 (termCost (size A) (c .passes) + (2 * c .found - 1))) (sym e)
 
-  pub thirdCondition : (us : List (List ℕ)) (words : List ℕ) → isZero (run p A us (begin b) .residual) ≡ true → length us ≡ vectorCount (size A) words + size A
-      → ThirdCondition p A b words (close p A b (run p A us (begin b)))
+  pub thirdCondition : (w : ℕ) (us : List (List ℕ)) (words : List ℕ) → isZero (run p A w us (begin b) .residual) ≡ true → length us ≡ vectorCount (size A) words + size A
+      → ThirdCondition p A b words w (close p A b (run p A w us (begin b)))
   unfolding close
-  thirdCondition us words z l =
+  thirdCondition w us words z l =
       record {
         monic = end-monic c I z;
         annihilates = end-annihilates c I z;
@@ -336,24 +336,25 @@ module _ (p : ℕ) (h : Prime p) (A : Matrix) (b : List ℕ) (size-b : length b 
         solves = end-solves c I z;
         not-zero = end-not-zero c I z;
         to-zero = end-to-zero c I z;
-        few = omega (arith, run-few p h A b size-b reduced-b us);
-        counted = run-counted us z;
+        few = omega (arith, run-few p h A b size-b reduced-b w us);
+        summed = refl;
+        counted = run-counted w us z;
       }
     where
       c : Run
-      c = run p A us (begin b)
+      c = run p A w us (begin b)
 
-      I : Stands p h A b (run-begun p h A b size-b reduced-b us .used) c
-      I = run-begun p h A b size-b reduced-b us .stands
+      I : Stands p h A b (run-begun p h A b size-b reduced-b w us .used) c
+      I = run-begun p h A b size-b reduced-b w us .stands
 
-  pub sameAnswer : (us us′ : List (List ℕ)) → isZero (run p A us (begin b) .residual) ≡ true → isZero (run p A us′ (begin b) .residual) ≡ true
-      → SameAnswer (close p A b (run p A us (begin b))) (close p A b (run p A us′ (begin b)))
-  sameAnswer us us′ z z′ =
-      same-ends (run p A us (begin b)) (run p A us′ (begin b)) (run-begun p h A b size-b reduced-b us .stands) (run-begun p h A b size-b reduced-b us′ .stands) z z′
+  pub sameAnswer : (w w′ : ℕ) (us us′ : List (List ℕ)) → isZero (run p A w us (begin b) .residual) ≡ true → isZero (run p A w′ us′ (begin b) .residual) ≡ true
+      → SameAnswer (close p A b (run p A w us (begin b))) (close p A b (run p A w′ us′ (begin b)))
+  sameAnswer w w′ us us′ z z′ =
+      same-ends (run p A w us (begin b)) (run p A w′ us′ (begin b)) (run-begun p h A b size-b reduced-b w us .stands) (run-begun p h A b size-b reduced-b w′ us′ .stands) z z′
 
-  pub projections-zero : (words : List ℕ) → isZero (run p A (projections p (size A) words) (begin b) .residual) ≡ true
+  pub projections-zero : (w : ℕ) (words : List ℕ) → isZero (run p A w (projections p (size A) words) (begin b) .residual) ≡ true
   unfolding projections
-  projections-zero words = units-end p h A b size-b reduced-b (vectors p (size A) words)
+  projections-zero w words = units-end p h A b size-b reduced-b w (vectors p (size A) words)
 
 -- ---- every run
 
@@ -370,25 +371,25 @@ accepted-of {p} {A} {b} a =
       reduced-b = every-reduced p b (a .right-below);
     }
 
-pub accepted : (p : ℕ) (A : Matrix) (b words : List ℕ) → first (runChecks p A b words) ≡ 0 → Accepted p A b
-accepted p A b words e = accepted-of (run-accepted p A b words e .system)
+pub accepted : (p : ℕ) (A : Matrix) (b words : List ℕ) (w : ℕ) → first (runChecks p A b words w) ≡ 0 → Accepted p A b
+accepted p A b words w e = accepted-of (run-accepted p A b words w e .system)
 
 pub everyRun : EveryRun
 unfolding solve
-everyRun p A b words e =
-    thirdCondition p (a .prime) A b (a .size-b) (a .reduced-b) (projections p (size A) words) words (projections-zero p (a .prime) A b (a .size-b) (a .reduced-b) words) (length-projections p (size A) words)
+everyRun p A b words w e =
+    thirdCondition p (a .prime) A b (a .size-b) (a .reduced-b) w (projections p (size A) words) words (projections-zero p (a .prime) A b (a .size-b) (a .reduced-b) w words) (length-projections p (size A) words)
   where
     a : Accepted p A b
-    a = accepted p A b words e
+    a = accepted p A b words w e
 
 pub everyTwoRuns : EveryTwoRuns
 unfolding solve
-everyTwoRuns p A b words words′ e e′ =
-    sameAnswer p (a .prime) A b (a .size-b) (a .reduced-b) (projections p (size A) words) (projections p (size A) words′)
-    (projections-zero p (a .prime) A b (a .size-b) (a .reduced-b) words) (projections-zero p (a .prime) A b (a .size-b) (a .reduced-b) words′)
+everyTwoRuns p A b words words′ w w′ e e′ =
+    sameAnswer p (a .prime) A b (a .size-b) (a .reduced-b) w w′ (projections p (size A) words) (projections p (size A) words′)
+    (projections-zero p (a .prime) A b (a .size-b) (a .reduced-b) w words) (projections-zero p (a .prime) A b (a .size-b) (a .reduced-b) w′ words′)
   where
     a : Accepted p A b
-    a = accepted p A b words e
+    a = accepted p A b words w e
 
 empty-close : (p : ℕ) (A : Matrix) → size A ≡ 0 → close p A [] (begin []) ≡ nothingLeft
 unfolding close begin verdict table multiplied spent sumℕ
@@ -396,8 +397,8 @@ empty-close p A none = rw none refl
 
 pub everyEmptyRun : EveryEmptyRun
 unfolding solve begin every
-everyEmptyRun p A b words e none =
-    let a = accepted p A b words e in
+everyEmptyRun p A b words w e none =
+    let a = accepted p A b words w e in
     let us = projections p (size A) words in
-    ap (λ v. close p A v (run p A us (begin v))) (length-none b (a .size-b ∙ none))
-    ∙ ap (close p A []) (run-rest p (a .prime) A [] us (begin []) refl) ∙ empty-close p A none
+    ap (λ v. close p A v (run p A w us (begin v))) (length-none b (a .size-b ∙ none))
+    ∙ ap (close p A []) (run-rest p (a .prime) A [] w us (begin []) refl) ∙ empty-close p A none

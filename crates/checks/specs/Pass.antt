@@ -24,7 +24,7 @@ use Rattle.laws.specs.Refusal.{first-nil, first-past, first-stops, first-passed
 use Rattle.checks.specs.Valid.{Vector, vector-of}
 
 abbrev pub residualAt : ℕ → ℕ
-residualAt n = 2 * n + 1
+residualAt n = 5 * n + 1
 
 abbrev pub heldElements : ℕ → ℕ → ℕ → List ℕ → Bool
 heldElements p n D work = elements p (part 0 (D + 1) work) && elements p (part (residualAt n) n work)

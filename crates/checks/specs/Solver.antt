@@ -1,6 +1,6 @@
 -- The solver's checks in their order (meaning's Calls).
 --     slicesTaken            11: the slices are as long as stated
---     solver-refused, solver-passed      they are the system's, and then 10 and 11
+--     solver-refused, solver-passed      they are the system's, and then 10, 13 and 11
 --     words-none                         10 without rows
 --     words-multiple, words-broken       10 with some, by a quotient
 use mathlib.Core.Path.{_≡_, sym, ap, _∙_}
@@ -16,25 +16,29 @@ use borrow.Author.Tests.{eq-eqb, ne-eqb, le-leb, leb-true}
 use Rattle.laws.specs.Bool.{and-both, and-false-left, same-test}
 use Rattle.laws.specs.Solver.{vectorCount-div, words-empty, words-some, vectorCount-few}
 use Rattle.meaning.specs.Matrix.{Matrix, size}
-use Rattle.meaning.specs.Refusal.{Check, check, first, wordsTaken}
+use Rattle.meaning.specs.Refusal.{Check, check, first, wordsTaken, windowTaken}
 use Rattle.meaning.specs.Calls.{systemChecks, runChecks, solverRefusal}
 use Rattle.laws.specs.Refusal.{numbered-system, leading-refused, leading-passed}
 pub use Rattle.laws.specs.Accepted.{slicesTaken}
 
-module _ (p : ℕ) (A : Matrix) (b words v f w : List ℕ) where
+module _ (p : ℕ) (A : Matrix) (b words : List ℕ) (w : ℕ) (v f work : List ℕ) where
   later : List Check
-  later = check 10 (not (wordsTaken (size A) words)) ∷ check 11 (not (slicesTaken (size A) v f w)) ∷ []
+  later =
+      check 10 (not (wordsTaken (size A) words)) ∷ check 13 (not (windowTaken w)) ∷ check 11 (not (slicesTaken (size A) v f work)) ∷ []
 
-  solverRefusal-system : solverRefusal p A b words v f w ≡ first (systemChecks p A b ++ later)
+  solverRefusal-system : solverRefusal p A b words w v f work ≡ first (systemChecks p A b ++ later)
   unfolding solverRefusal runChecks later
   solverRefusal-system =
-      ap first (append-assoc (systemChecks p A b) (check 10 (not (wordsTaken (size A) words)) ∷ []) (check 11 (not (slicesTaken (size A) v f w)) ∷ []))
+      ap first
+      (append-assoc (systemChecks p A b) (check 10 (not (wordsTaken (size A) words)) ∷ check 13 (not (windowTaken w)) ∷ [])
+      (check 11 (not (slicesTaken (size A) v f work)) ∷ []))
 
-  pub solver-refused : {number : ℕ} → number ≡ first (systemChecks p A b) → number ≢ 0 → number ≡ solverRefusal p A b words v f w
+  pub solver-refused : {number : ℕ} → number ≡ first (systemChecks p A b) → number ≢ 0 → number ≡ solverRefusal p A b words w v f work
   solver-refused e q = leading-refused (systemChecks p A b) later (numbered-system p A b) e q ∙ sym solverRefusal-system
 
   pub solver-passed : {number k : ℕ} → number ≡ first (systemChecks p A b) → number ≡ 0
-      → first (check 10 (not (wordsTaken (size A) words)) ∷ check 11 (not (slicesTaken (size A) v f w)) ∷ []) ≡ k → k ≡ solverRefusal p A b words v f w
+      → first (check 10 (not (wordsTaken (size A) words)) ∷ check 13 (not (windowTaken w)) ∷ check 11 (not (slicesTaken (size A) v f work)) ∷ []) ≡ k
+      → k ≡ solverRefusal p A b words w v f work
   unfolding later
   solver-passed e z h = leading-passed (systemChecks p A b) later (numbered-system p A b) e z h ∙ sym solverRefusal-system
 

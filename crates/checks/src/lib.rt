@@ -290,12 +290,13 @@ pub fn solver_refusal(
     values: &[u32],
     b: &[u32],
     words: &[u32],
+    window: u32,
     vector: &[u32],
     polynomial: &[u32],
     work: &[u32],
 ) -> u32
     ensures { λ r. ⌜ r ≡ solverRefusal p (matrix (now (starts .entry)) (now (columns .entry)) (now (values .entry)))
-        (now (b .entry)) (now (words .entry)) (now (vector .entry)) (now (polynomial .entry)) (now (work .entry)) ⌝ }
+        (now (b .entry)) (now (words .entry)) window (now (vector .entry)) (now (polynomial .entry)) (now (work .entry)) ⌝ }
 {
     let number = system_refusal(p, starts, columns, values, b);
     if number != 0 {
@@ -305,17 +306,20 @@ pub fn solver_refusal(
     if !words_taken(n, words) {
         return 10;
     }
+    if window > 64 {
+        return 13;
+    }
     if !((vector.len() == n) & (polynomial.len() == n + 1) & (work.len() >= 16 * n + 16)) {
         return 11;
     }
     0
 }
 
-// Where r begins in a run's work slice: behind the places that F may take.
+// Where r begins in a run's work slice: behind the places that F may take and those of a pass's test (wiedemann::pass).
 pub fn residual_at(n: u32) -> usize
     ensures { λ r. ⌜ r ≡ residualAt n ⌝ }
 {
-    2 * (n as usize) + 1
+    5 * (n as usize) + 1
 }
 
 // 8, 10, 11 and 9 of a run's state: D is below n, the words, the work slice, and F and r, which can be read then.

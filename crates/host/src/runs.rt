@@ -52,7 +52,7 @@ fn numbers_of(verdict: solver::Verdict) -> Verdict
     }
 }
 
-// Two calls on one system answer the same kind and leave the same vector and polynomial, whatever their words (specs/Runs.antt, same-numbers).
+// Two calls on one system answer the same kind and leave the same vector and polynomial, whatever their words and windows (specs/Runs.antt, same-numbers).
 #[no_mangle]
 pub extern "C" fn filzeur_solve(
     p: u32,
@@ -61,13 +61,14 @@ pub extern "C" fn filzeur_solve(
     values: &[u32],
     b: &[u32],
     words: &[u32],
+    window: u32,
     vector: &mut [u32],
     polynomial: &mut [u32],
     bill: &mut [u32],
     work: &mut [u32],
 ) -> Verdict
     ensures { λ r. ⌜ Answered p (matrix (now (starts .entry)) (now (columns .entry)) (now (values .entry))) (now (b .entry))
-        (now (words .entry)) (now (vector .entry)) (now (polynomial .entry)) (now (bill .entry)) (now (work .entry)) r
+        (now (words .entry)) window (now (vector .entry)) (now (polynomial .entry)) (now (bill .entry)) (now (work .entry)) r
         (now (vector .exit)) (now (polynomial .exit)) (now (bill .exit)) (now (work .exit)) ⌝ }
 {
     numbers_of(solve(
@@ -77,6 +78,7 @@ pub extern "C" fn filzeur_solve(
         values,
         b,
         words,
+        window,
         vector,
         polynomial,
         bill,

@@ -7,7 +7,7 @@
 --     AcceptedMatrix p A, matrix-accepted   p and A pass the checks of a matrix: so does the system with the right side 0
 --     starts-rise, start-within      starts that rise; none is above the number of entries
 --     column-within, value-below, right-at      every entry's column, every entry's value, every element of b
---     AcceptedRun, run-accepted      a system and words pass the checks of a run
+--     AcceptedRun, run-accepted      a system, words and a window pass the checks of a run
 --     slicesTaken                    11 for the solver: the slices are as long as stated
 --     AcceptedCall, call-accepted    solverRefusal is 0: a run, and slices as long as stated
 use mathlib.Core.Path.{_≡_, refl, ap, _∙_, subst}
@@ -25,7 +25,7 @@ use borrow.Author.Tests.{ltb-true, leb-true, leb-false, eqb-true, eqb-false, lt-
 use Rattle.meaning.specs.List.{at, all, every, zeros}
 use Rattle.meaning.specs.Field.{isPrime, isModulus}
 use Rattle.meaning.specs.Matrix.{Matrix, size}
-use Rattle.meaning.specs.Refusal.{check, first, elements, rowsTaken, sizeTaken, startsTaken, columnsTaken, valueTaken, matrixChecks, wordsTaken}
+use Rattle.meaning.specs.Refusal.{check, first, elements, rowsTaken, sizeTaken, startsTaken, columnsTaken, valueTaken, matrixChecks, wordsTaken, windowTaken}
 use Rattle.meaning.specs.Calls.{systemChecks, runChecks, solverRefusal}
 use Rattle.laws.specs.Bool.{and-left, and-right, and-both, and-five, or-right, test-cases}
 use Rattle.laws.specs.List.{all-at, all-of, every-at, every-of, length-table, getD-table}
@@ -255,37 +255,41 @@ module _ {p : ℕ} {A : Matrix} {b : List ℕ} (a : AcceptedSystem p A b) where
 
 -- ---- a run, and a call of the solver
 
-pub record AcceptedRun (p : ℕ) (A : Matrix) (b words : List ℕ) : Type 0 where
+pub record AcceptedRun (p : ℕ) (A : Matrix) (b words : List ℕ) (w : ℕ) : Type 0 where
   pub system : AcceptedSystem p A b
   pub words-taken : wordsTaken (size A) words ≡ true
+  pub window-low : w ≤ 64
 
-pub run-accepted : (p : ℕ) (A : Matrix) (b words : List ℕ) → first (runChecks p A b words) ≡ 0 → AcceptedRun p A b words
+pub run-accepted : (p : ℕ) (A : Matrix) (b words : List ℕ) (w : ℕ) → first (runChecks p A b words w) ≡ 0 → AcceptedRun p A b words w
 unfolding runChecks
-run-accepted p A b words e =
-    let both = first-append-zero (systemChecks p A b) (check 10 (not (wordsTaken (size A) words)) ∷ []) (numbered-system p A b) e in
+run-accepted p A b words w e =
+    let both = first-append-zero (systemChecks p A b) (check 10 (not (wordsTaken (size A) words)) ∷ check 13 (not (windowTaken w)) ∷ []) (numbered-system p A b) e in
+    let ten = first-passed 10 (wordsTaken (size A) words) _ (omega arith) (both .1) in
     record {
       system = system-accepted p A b (both .0);
-      words-taken = first-passed 10 (wordsTaken (size A) words) [] (omega arith) (both .1) .0;
+      words-taken = ten .0;
+      window-low = leb-true w 64 (first-passed 13 (windowTaken w) [] (omega arith) (ten .1) .0);
     }
 
 abbrev pub slicesTaken : ℕ → List ℕ → List ℕ → List ℕ → Bool
 slicesTaken n v f w = eqb (length v) n && eqb (length f) (n + 1) && leb (16 * n + 16) (length w)
 
-pub record AcceptedCall (p : ℕ) (A : Matrix) (b words v f w : List ℕ) : Type 0 where
-  pub run : AcceptedRun p A b words
+pub record AcceptedCall (p : ℕ) (A : Matrix) (b words : List ℕ) (w : ℕ) (v f work : List ℕ) : Type 0 where
+  pub run : AcceptedRun p A b words w
   pub vector-size : length v ≡ size A
   pub polynomial-size : length f ≡ size A + 1
-  pub room : 16 * size A + 16 ≤ length w
+  pub room : 16 * size A + 16 ≤ length work
 
-pub call-accepted : (p : ℕ) (A : Matrix) (b words v f w : List ℕ) → solverRefusal p A b words v f w ≡ 0 → AcceptedCall p A b words v f w
+pub call-accepted : (p : ℕ) (A : Matrix) (b words : List ℕ) (w : ℕ) (v f work : List ℕ) → solverRefusal p A b words w v f work ≡ 0
+    → AcceptedCall p A b words w v f work
 unfolding solverRefusal
-call-accepted p A b words v f w e =
-    let both = first-append-zero (runChecks p A b words) (check 11 (not (slicesTaken (size A) v f w)) ∷ []) (numbered-run p A b words) e in
-    let slices = first-passed 11 (slicesTaken (size A) v f w) [] (omega arith) (both .1) .0 in
-    let lengths = and-left (eqb (length v) (size A) && eqb (length f) (size A + 1)) (leb (16 * size A + 16) (length w)) slices in
+call-accepted p A b words w v f work e =
+    let both = first-append-zero (runChecks p A b words w) (check 11 (not (slicesTaken (size A) v f work)) ∷ []) (numbered-run p A b words w) e in
+    let slices = first-passed 11 (slicesTaken (size A) v f work) [] (omega arith) (both .1) .0 in
+    let lengths = and-left (eqb (length v) (size A) && eqb (length f) (size A + 1)) (leb (16 * size A + 16) (length work)) slices in
     record {
-      run = run-accepted p A b words (both .0);
+      run = run-accepted p A b words w (both .0);
       vector-size = eqb-true (length v) (size A) (and-left (eqb (length v) (size A)) (eqb (length f) (size A + 1)) lengths);
       polynomial-size = eqb-true (length f) (size A + 1) (and-right (eqb (length v) (size A)) (eqb (length f) (size A + 1)) lengths);
-      room = leb-true (16 * size A + 16) (length w) (and-right (eqb (length v) (size A) && eqb (length f) (size A + 1)) (leb (16 * size A + 16) (length w)) slices);
+      room = leb-true (16 * size A + 16) (length work) (and-right (eqb (length v) (size A) && eqb (length f) (size A + 1)) (leb (16 * size A + 16) (length work)) slices);
     }

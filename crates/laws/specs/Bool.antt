@@ -2,7 +2,7 @@
 --     and-left, and-right, and-both      a conjunction is true exactly if both are
 --     and-five                           .. five of them
 --     and-false-left, and-false-right    it is false if one is
---     or-right                           a disjunction whose left side is false
+--     or-true-left, or-true-right        a disjunction is true if one is; or-right: one whose left side is false
 --     not-by, not-both                   a test that fails, by an equal one; by two that are equal to its parts
 --     never                              a test that is both proves anything
 --     test-cases                         a test is true or false
@@ -35,6 +35,13 @@ and-false-left b e = rw e
 pub and-false-right : (a : Bool) {b : Bool} → b ≡ false → a && b ≡ false
 and-false-right true e = e
 and-false-right false e = refl
+
+pub or-true-left : {a : Bool} (b : Bool) → a ≡ true → (a || b) ≡ true
+or-true-left b e = rw e
+
+pub or-true-right : (a : Bool) {b : Bool} → b ≡ true → (a || b) ≡ true
+or-true-right true e = refl
+or-true-right false e = e
 
 pub or-right : (a b : Bool) → a ≡ false → (a || b) ≡ true → b ≡ true
 or-right a b e h = ap (λ t. t || b) (sym e) ∙ h

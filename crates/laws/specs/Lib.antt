@@ -5,6 +5,7 @@ pub mod List
 pub mod Written
 pub mod Part
 pub mod Products
+pub mod Least
 pub mod Lent
 pub mod Recurrence
 pub mod Refusal

@@ -114,6 +114,6 @@ module _ (p : ℕ) (A : Matrix) where
 
 pub every-run-by-entry : EveryRunByEntry
 unfolding solve close
-every-run-by-entry p A b words e =
-    let k = applications (solve p A b words) in
-    multiplied-times A k ∙ ap (λ m. k * m) (accepted-entries (run-accepted p A b words e .system))
+every-run-by-entry p A b words w e =
+    let k = applications (solve p A b words w) in
+    multiplied-times A k ∙ ap (λ m. k * m) (accepted-entries (run-accepted p A b words w e .system))

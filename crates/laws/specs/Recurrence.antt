@@ -7,8 +7,13 @@
 --     discrepancy-lt           the discrepancy is below p
 --     discrepancy-first, steps-first       d of r and the steps for 1 to r are those of the first r terms: no later one is needed
 --     at-update                the coefficients of q − (d/e)·z·t
+--     z-same                   z·f of equal polynomials
+--     SameSteps                the same q, t, L and e, polynomials coefficient by coefficient
+--     discrepancy-same, step-same          a step of the same is the same
+--     discrepancy-of           d of r, with the q and L of r − 1
+--     e-element                e is an element and not 0
 --     Regular p r c            after r steps: L ≤ r; q's elements are below p, and 0 above L; z·t's are 0 above r + 1 − L
---     steps-regular            the steps keep it
+--     step-regular, steps-regular          a step, and the steps, keep it
 --     degree-within, length-generator, generator-below       L ≤ N; f has L + 1 elements, all below p
 use mathlib.Core.Path.{_≡_, refl, sym, ap, ap₂, _∙_, subst}
 use mathlib.Core.Logic.{_≢_}
@@ -136,6 +141,72 @@ at-update p d st z i = go (decLt i n)
     go (yes l) = getD-table n f i 0 l
     go (no l) = past (omega arith)
 
+-- ---- steps that are the same
+
+pub z-same : (f g : List ℕ) → ((i : ℕ) → at f i ≡ at g i) → (i : ℕ) → at (0 ∷ f) i ≡ at (0 ∷ g) i
+z-same f g h zero = refl
+z-same f g h (suc i) = h i
+
+pub record SameSteps (c c′ : Steps) : Type 0 where
+  -- "absent coefficients being 0"
+  pub q : (i : ℕ) → at (c .q) i ≡ at (c′ .q) i
+  pub t : (i : ℕ) → at (c .t) i ≡ at (c′ .t) i
+  pub L : c .L ≡ c′ .L
+  pub e : c .e ≡ c′ .e
+
+module _ (p : ℕ) (s : List ℕ) (r : ℕ) {c c′ : Steps} (h : SameSteps c c′) where
+  pub discrepancy-same : discrepancy p s r c ≡ discrepancy p s r c′
+  unfolding discrepancy
+  discrepancy-same =
+      ap (λ x. x % p)
+      (sum-ext (c .L + 1) (λ i. at (c .q) i * at s (r - 1 - i)) (λ i. at (c′ .q) i * at s (r - 1 - i)) (λ i l. ap (λ x. x * at s (r - 1 - i)) (h .q i))
+      ∙ ap (λ n. sum (n + 1) (λ i. at (c′ .q) i * at s (r - 1 - i))) (h .L))
+
+  update-same : 0 < p → (d d′ : ℕ) → d ≡ d′ → (i : ℕ) → at (update p d c) i ≡ at (update p d′ c′) i
+  update-same z d d′ e i =
+      at-update p d c z i
+      ∙ ap₂ (λ x y. minus p x (times p (times p d (inverse p (c .e))) y)) (h .q i) (z-same (c .t) (c′ .t) (h .t) i)
+      ∙ ap₂ (λ x y. minus p (at (c′ .q) i) (times p (times p x (inverse p y)) (at (0 ∷ c′ .t) i))) e (h .e)
+      ∙ sym (at-update p d′ c′ z i)
+
+  pub step-same : 0 < p → SameSteps (step p s r c) (step p s r c′)
+  step-same z =
+      elim (ℕ-discrete d 0) [
+        | yes e ↦ rw (step-zero p s r c e, step-zero p s r c′ (sym discrepancy-same ∙ e))
+            (record { q = h .q; t = z-same (c .t) (c′ .t) (h .t); L = h .L; e = h .e })
+        | no e ↦ elim (decLt (2 * c .L) r) [
+          | yes l ↦ rw (step-grow p s r c e l, step-grow p s r c′ (λ x. e (discrepancy-same ∙ x)) (subst (λ n. 2 * n < r) (h .L) l))
+              (record { q = update-same z d d′ discrepancy-same; t = h .q; L = ap (λ n. r - n) (h .L); e = discrepancy-same })
+          | no l ↦ rw (step-stay p s r c e (omega arith), step-stay p s r c′ (λ x. e (discrepancy-same ∙ x)) (subst (λ n. r ≤ 2 * n) (h .L) (omega arith)))
+              (record { q = update-same z d d′ discrepancy-same; t = z-same (c .t) (c′ .t) (h .t); L = h .L; e = h .e })
+        ]
+      ]
+    where
+      d : ℕ
+      d = discrepancy p s r c
+
+      d′ : ℕ
+      d′ = discrepancy p s r c′
+
+-- d of r, with the q and L of r − 1
+abbrev pub discrepancy-of : ℕ → List ℕ → ℕ → ℕ
+discrepancy-of p s r = discrepancy p s r (steps p s (r - 1))
+
+pub e-element : (p : ℕ) → 1 < p → (s : List ℕ) (r : ℕ) → (0 < steps p s r .e) × (steps p s r .e < p)
+unfolding start
+e-element p two s zero = rw (steps-zero p s) (omega arith, two)
+e-element p two s (suc r) =
+    elim (ℕ-discrete d 0) [
+      | yes e ↦ rw (steps-suc p s r, step-zero p s (suc r) (steps p s r) e) (e-element p two s r)
+      | no e ↦ elim (decLt (2 * steps p s r .L) (suc r)) [
+        | yes l ↦ rw (steps-suc p s r, step-grow p s (suc r) (steps p s r) e l) (omega (arith, e), discrepancy-lt p s (omega (arith, two)) (suc r) (steps p s r))
+        | no l ↦ rw (steps-suc p s r, step-stay p s (suc r) (steps p s r) e (omega arith)) (e-element p two s r)
+      ]
+    ]
+  where
+    d : ℕ
+    d = discrepancy p s (suc r) (steps p s r)
+
 -- ---- how long q and t get
 
 pub record Regular (p r : ℕ) (c : Steps) : Type 0 where
@@ -187,7 +258,7 @@ module _ (p : ℕ) (two : 1 < p) where
     copied zero l = refl
     copied (suc i) l = k .q-end i (omega (arith, l, k .within))
 
-    step-regular : (s : List ℕ) → Regular p (suc r) (step p s (suc r) c)
+    pub step-regular : (s : List ℕ) → Regular p (suc r) (step p s (suc r) c)
     step-regular s =
         elim (ℕ-discrete d 0) [
           | yes z ↦ rw (step-zero p s (suc r) c z) (record { within = omega (arith, k .within); element = k .element; q-end = k .q-end; t-end = moved })

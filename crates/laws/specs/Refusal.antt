@@ -64,9 +64,9 @@ pub numbered-system : (p : ℕ) (A : Matrix) (b : List ℕ) → Numbered (system
 unfolding systemChecks matrixChecks every
 numbered-system p A b = refl
 
-pub numbered-run : (p : ℕ) (A : Matrix) (b words : List ℕ) → Numbered (runChecks p A b words)
+pub numbered-run : (p : ℕ) (A : Matrix) (b words : List ℕ) (w : ℕ) → Numbered (runChecks p A b words w)
 unfolding runChecks systemChecks matrixChecks every
-numbered-run p A b words = refl
+numbered-run p A b words w = refl
 
 pub numbered-text : (text : List ℕ) → Numbered (textChecks text)
 unfolding textChecks documentChecks every

@@ -7,24 +7,31 @@
 --     length-projections, projection-words, projection-unit      "the R vectors, then the unit vectors 1 to n"
 --     spent-nil, spent-cons, spent-append, spent-snoc            the applications of passes
 --     bill-nil, bill-cons, bill-snoc, length-bill                the passes in numbers
---     Within n q, made-within                what is known of a pass on n rows: left ≤ n, t ≤ 2 × left, 2 × left − 1 + t applications
+--     length-passTerms                       2 × left terms
+--     pass-whole, pass-early, pass-on        a pass by its cases: no test; one that found f(A)r zero; one that did not
+--     test-none, pass-present        w = 0 is the present rule: no test
+--     Ends, pass-ends                        how a pass ended, whichever case it was
+--     Within n w q, made-within              what is known of a pass on n rows: left ≤ n, t ≤ 2 × left; for w = 0 2 × left − 1 + t applications
 --     AllWithin, run-within                  so it is of all passes of a run
 use mathlib.Core.Path.{_≡_, refl, sym, ap, ap₂, _∙_, subst}
+use mathlib.Core.Logic.{_⊎_, inl, inr}
 use mathlib.Core.Bool.{Bool, true, false, cond, _&&_}
 use mathlib.Core.List.{List, [], _∷_, _++_}
 use Prim.Native.Nat.{ℕ, zero, suc, _+_, _-_, _*_, _/_, _%_, _≤_, _<_}
 use native.Mathlib.Nat.{zero-div, div-add-mod', div-lt-iff-lt-mul}
+use native.Mathlib.Decide.{decLt}
 use native.Mathlib.Omega.{arith}
 use lib.Dec.{eqb, leb}
-use lib.ListN.{length, getD, length-append, List·getD-append}
-use lib.Seq.{getD-append-add}
-use borrow.Author.Tests.{eqb-true, leb-true}
+use lib.ListN.{length, take, getD, length-append, List·getD-append}
+use lib.Seq.{getD-append-add, length-take-le}
+use borrow.Author.Tests.{eqb-true, leb-true, lt-ltb, le-ltb}
 use Rattle.meaning.specs.List.{at, table, isZero, flat}
-use Rattle.meaning.specs.Matrix.{Matrix, size, power}
-use Rattle.meaning.specs.Recurrence.{degree}
-use Rattle.meaning.specs.Solver.{vectorCount, vectors, units, projections, dot, terms, Pass, Run, passTerms, pass, run, spent, charge, bill}
+use Rattle.meaning.specs.Matrix.{Matrix, size, power, apply}
+use Rattle.meaning.specs.Recurrence.{degree, generator}
+use Rattle.meaning.specs.Solver.{vectorCount, vectors, units, projections, dot, terms, Pass, Run, passTerms, due, testAt, endPass, pass, run, spent, charge, bill}
 use Rattle.meaning.specs.Refusal.{wordsTaken}
-use Rattle.laws.specs.Bool.{and-left, and-right}
+use Rattle.laws.specs.Bool.{and-left, and-right, test-cases}
+use Rattle.laws.specs.Least.{least-none}
 use Rattle.laws.specs.List.{length-table, getD-table}
 use Rattle.laws.specs.Recurrence.{degree-within}
 
@@ -139,46 +146,148 @@ pub length-bill : (qs : List Pass) → length (bill qs) ≡ 3 * length qs
 length-bill [] = ap length bill-nil
 length-bill (q ∷ qs) = ap length (bill-cons q qs) ∙ omega (arith, length-bill qs)
 
+-- ---- the terms of a pass
+
+pub length-passTerms : (p : ℕ) (A : Matrix) (u : List ℕ) (c : Run) → length (passTerms p A u c) ≡ 2 * (size A - c .found)
+unfolding passTerms terms
+length-passTerms p A u c = length-table (2 * (size A - c .found)) (λ i. dot p u (power p A i (c .residual)))
+
+-- ---- a pass by its cases
+
+module _ (p : ℕ) (A : Matrix) (w : ℕ) (u : List ℕ) (c : Run) where
+  abbrev s : List ℕ
+  s = passTerms p A u c
+
+  abbrev whole : ℕ
+  whole = 2 * (size A - c .found) - 1
+
+  module _ (i : ℕ) (e : testAt p w (passTerms p A u c) ≡ i) where
+    pub pass-whole : length (passTerms p A u c) ≤ i → pass p A w u c ≡ endPass p A (passTerms p A u c) (2 * (size A - c .found) - 1) c
+    unfolding pass
+    pass-whole l = rw (e, le-ltb i (length s) l)
+
+    module _ (l : i < length (passTerms p A u c)) where
+      pub pass-early : isZero (apply p A (generator p (take i (passTerms p A u c))) (c .residual)) ≡ true
+          → pass p A w u c ≡ endPass p A (take i (passTerms p A u c)) (i - 1) c
+      unfolding pass
+      pass-early z = rw (e, lt-ltb i (length s) l, z)
+
+      pub pass-on : isZero (apply p A (generator p (take i (passTerms p A u c))) (c .residual)) ≡ false
+          → pass p A w u c ≡ endPass p A (passTerms p A u c) (2 * (size A - c .found) - 1 + degree p (take i (passTerms p A u c))) c
+      unfolding pass
+      pass-on z = rw (e, lt-ltb i (length s) l, z)
+
+pub test-none : (p : ℕ) (s : List ℕ) → testAt p 0 s ≡ length s
+unfolding testAt due
+test-none p s = least-none (length s) (due p 0 s) (λ i l. refl)
+
+-- w = 0 is "the present rule"
+pub pass-present : (p : ℕ) (A : Matrix) (u : List ℕ) (c : Run)
+    → pass p A 0 u c ≡ endPass p A (passTerms p A u c) (2 * (size A - c .found) - 1) c
+pass-present p A u c = pass-whole p A 0 u c (length (passTerms p A u c)) (test-none p (passTerms p A u c)) (omega arith)
+
+-- how a pass ended: with which terms, after how many products beside those of its f
+pub record Ends (p : ℕ) (A : Matrix) (w : ℕ) (u : List ℕ) (c : Run) : Type 0 where
+  pub taken : List ℕ
+  pub made : ℕ
+  pub is : pass p A w u c ≡ endPass p A taken made c
+  pub few : length taken ≤ 2 * (size A - c .found)
+  pub low : made ≤ 4 * (size A - c .found)
+  pub present : w ≡ 0 → (taken ≡ passTerms p A u c) × (made ≡ 2 * (size A - c .found) - 1)
+  -- all terms, or the first of them whose f kills r
+  pub shortest : (taken ≡ passTerms p A u c) ⊎ ((i : ℕ) × (i ≤ length (passTerms p A u c)) × (taken ≡ take i (passTerms p A u c)) × (isZero (apply p A (generator p taken) (c .residual)) ≡ true))
+
+module _ (p : ℕ) (A : Matrix) (two : 1 < p) (w : ℕ) (u : List ℕ) (c : Run) where
+  pub pass-ends : Ends p A w u c
+  pass-ends = go (decLt i (length s)) (test-cases (isZero (apply p A (generator p (take i s)) (c .residual))))
+    where
+      s : List ℕ
+      s = passTerms p A u c
+
+      i : ℕ
+      i = testAt p w (passTerms p A u c)
+
+      size-s : length s ≡ 2 * (size A - c .found)
+      size-s = length-passTerms p A u c
+
+      -- where there is no window there is no test
+      tested : w ≡ 0 → i < length s → ⊥
+      tested e l = omega (arith, l, ap (λ v. testAt p v s) e, test-none p s)
+
+      go : Dec (i < length s) → (isZero (apply p A (generator p (take i s)) (c .residual)) ≡ true) ⊎ (isZero (apply p A (generator p (take i s)) (c .residual)) ≡ false) → Ends p A w u c
+      go (no l) z =
+          record {
+            taken = s;
+            made = 2 * (size A - c .found) - 1;
+            is = pass-whole p A w u c i refl (omega (arith, l));
+            few = omega (arith, size-s);
+            low = omega arith;
+            present = λ e. (refl, refl);
+            shortest = inl refl;
+          }
+      go (yes l) (inl z) =
+          record {
+            taken = take i s;
+            made = i - 1;
+            is = pass-early p A w u c i refl l z;
+            few = omega (arith, length-take-le i s (omega (arith, l)), l, size-s);
+            low = omega (arith, l, size-s);
+            present = λ e. absurd (tested e l);
+            shortest = inr (i, omega (arith, l), refl, z);
+          }
+      go (yes l) (inr z) =
+          record {
+            taken = s;
+            made = 2 * (size A - c .found) - 1 + degree p (take i s);
+            is = pass-on p A w u c i refl l z;
+            few = omega (arith, size-s);
+            low = omega (arith, degree-within p two (take i s), length-take-le i s (omega (arith, l)), l, size-s);
+            present = λ e. absurd (tested e l);
+            shortest = inl refl;
+          }
+
 -- ---- what is known of a pass
 
-pub record Within (n : ℕ) (q : Pass) : Type 0 where
+pub record Within (n w : ℕ) (q : Pass) : Type 0 where
   pub left-low : q .left ≤ n
   pub degree-low : q .degree ≤ 2 * q .left
-  pub cost : q .applications ≡ 2 * q .left - 1 + q .degree
+  pub cost-low : q .applications ≤ 4 * q .left + q .degree
+  pub cost : w ≡ 0 → q .applications ≡ 2 * q .left - 1 + q .degree
 
-abbrev pub AllWithin : ℕ → List Pass → Type 0
-AllWithin n [] = Unit {0}
-AllWithin n (q ∷ qs) = Within n q × AllWithin n qs
+abbrev pub AllWithin : ℕ → ℕ → List Pass → Type 0
+AllWithin n w [] = Unit {0}
+AllWithin n w (q ∷ qs) = Within n w q × AllWithin n w qs
 
-all-within-snoc : (n : ℕ) (qs : List Pass) (q : Pass) → AllWithin n qs → Within n q → AllWithin n (qs ++ (q ∷ []))
-all-within-snoc n [] q h w = (w, tt)
-all-within-snoc n (r ∷ qs) q h w = (h .0, all-within-snoc n qs q (h .1) w)
+all-within-snoc : (n w : ℕ) (qs : List Pass) (q : Pass) → AllWithin n w qs → Within n w q → AllWithin n w (qs ++ (q ∷ []))
+all-within-snoc n w [] q h k = (k, tt)
+all-within-snoc n w (r ∷ qs) q h k = (h .0, all-within-snoc n w qs q (h .1) k)
 
-module _ (p : ℕ) (A : Matrix) (two : 2 ≤ p) where
+module _ (p : ℕ) (A : Matrix) (two : 2 ≤ p) (w : ℕ) where
   -- the record that a pass adds
   last : List ℕ → Run → Pass
   last u c =
       let left = size A - c .found in
-      let t = degree p (passTerms p A u c) in
-      record { left = left; degree = t; applications = 2 * left - 1 + t }
+      let e = pass-ends p A two w u c in
+      let t = degree p (e .taken) in
+      record { left = left; degree = t; applications = e .made + t }
 
-  last-within : (u : List ℕ) (c : Run) → Within (size A) (last u c)
-  unfolding last passTerms terms
+  last-within : (u : List ℕ) (c : Run) → Within (size A) w (last u c)
+  unfolding last
   last-within u c =
-      let left = size A - c .found in
+      let e = pass-ends p A two w u c in
       record {
         left-low = omega arith;
-        degree-low =
-            omega (arith, degree-within p two (passTerms p A u c), length-table (2 * left) (λ i. dot p u (power p A i (c .residual))));
-        cost = refl;
+        degree-low = omega (arith, degree-within p two (e .taken), e .few);
+        cost-low = omega (arith, e .low);
+        cost = λ z. ap (λ m. m + degree p (e .taken)) (e .present z .1);
       }
 
-  pass-adds : (u : List ℕ) (c : Run) → pass p A u c .passes ≡ c .passes ++ (last u c ∷ [])
-  unfolding pass last
-  pass-adds u c = refl
+  pass-adds : (u : List ℕ) (c : Run) → pass p A w u c .passes ≡ c .passes ++ (last u c ∷ [])
+  unfolding last endPass
+  pass-adds u c = ap (λ (x : Run). x .passes) (pass-ends p A two w u c .is)
 
-  pub made-within : (u : List ℕ) (c r : Run) (q : Pass) → r .passes ≡ c .passes ++ (q ∷ []) → r ≡ pass p A u c → Within (size A) q
-  made-within u c r q e f = subst (Within (size A)) (sym same) (last-within u c)
+  pub made-within : (u : List ℕ) (c r : Run) (q : Pass) → r .passes ≡ c .passes ++ (q ∷ []) → r ≡ pass p A w u c → Within (size A) w q
+  made-within u c r q e f = subst (Within (size A) w) (sym same) (last-within u c)
     where
       at-end : (x : Pass) → getD (c .passes ++ (x ∷ [])) (length (c .passes) + 0) q ≡ x
       at-end x = getD-append-add (c .passes) (x ∷ []) 0 q
@@ -189,14 +298,14 @@ module _ (p : ℕ) (A : Matrix) (two : 2 ≤ p) where
           ∙ ap (λ l. getD l (length (c .passes) + 0) q) (sym e ∙ ap (λ (x : Run). x .passes) f ∙ pass-adds u c)
           ∙ at-end (last u c)
 
-  pub run-within : (us : List (List ℕ)) (c : Run) → AllWithin (size A) (c .passes) → AllWithin (size A) (run p A us c .passes)
+  pub run-within : (us : List (List ℕ)) (c : Run) → AllWithin (size A) w (c .passes) → AllWithin (size A) w (run p A w us c .passes)
   unfolding run
   run-within [] c h = h
-  run-within (u ∷ us) c h = go (isZero (c .residual)) (run-within us (pass p A u c) next)
+  run-within (u ∷ us) c h = go (isZero (c .residual)) (run-within us (pass p A w u c) next)
     where
-      next : AllWithin (size A) (pass p A u c .passes)
-      next = subst (AllWithin (size A)) (sym (pass-adds u c)) (all-within-snoc (size A) (c .passes) (last u c) h (last-within u c))
+      next : AllWithin (size A) w (pass p A w u c .passes)
+      next = subst (AllWithin (size A) w) (sym (pass-adds u c)) (all-within-snoc (size A) w (c .passes) (last u c) h (last-within u c))
 
-      go : (t : Bool) → AllWithin (size A) (run p A us (pass p A u c) .passes) → AllWithin (size A) (cond t c (run p A us (pass p A u c)) .passes)
+      go : (t : Bool) → AllWithin (size A) w (run p A w us (pass p A w u c) .passes) → AllWithin (size A) w (cond t c (run p A w us (pass p A w u c)) .passes)
       go true later = h
       go false later = later

@@ -24,7 +24,7 @@ use Rattle.meaning.specs.Solver.{applications, billed, solve, nothingLef
 use Rattle.meaning.specs.ThirdCondition.{ThirdCondition, SameAnswer}
 use Rattle.meaning.specs.Text.{Document, document, inForm, System, system, write}
 use Rattle.meaning.specs.Answer.{answerText, refusedText}
-use Rattle.meaning.specs.Refusal.{Check, check, first, unlessRefused, within, elements, matrixChecks, wordsTaken, documentChecks}
+use Rattle.meaning.specs.Refusal.{Check, check, first, unlessRefused, within, elements, matrixChecks, wordsTaken, windowTaken, documentChecks}
 
 -- ---- the field
 
@@ -108,52 +108,54 @@ unfoldable pub systemChecks : ℕ → Matrix → List ℕ → List Check
 systemChecks p A b =
     matrixChecks p A ++ (check 8 (not (eqb (length b) (size A))) ∷ check 9 (not (elements p b)) ∷ [])
 
--- the checks that a run's system and words pass
-unfoldable pub runChecks : ℕ → Matrix → List ℕ → List ℕ → List Check
-runChecks p A b words = systemChecks p A b ++ (check 10 (not (wordsTaken (size A) words)) ∷ [])
+-- the checks that a run's system, words and window pass; "13, a window above 64, after check 10"
+unfoldable pub runChecks : ℕ → Matrix → List ℕ → List ℕ → ℕ → List Check
+runChecks p A b words w =
+    systemChecks p A b ++ (check 10 (not (wordsTaken (size A) words)) ∷ check 13 (not (windowTaken w)) ∷ [])
 
-unfoldable pub solverRefusal : ℕ → Matrix → List ℕ → List ℕ → List ℕ → List ℕ → List ℕ → ℕ
-solverRefusal p A b words vector polynomial work =
+unfoldable pub solverRefusal : ℕ → Matrix → List ℕ → List ℕ → ℕ → List ℕ → List ℕ → List ℕ → ℕ
+solverRefusal p A b words w vector polynomial work =
     first
-    (runChecks p A b words
+    (runChecks p A b words w
     ++ (check 11
     (not (eqb (length vector) (size A) && eqb (length polynomial) (size A + 1) && leb (16 * size A + 16) (length work)))
     ∷ []))
 
-abbrev pub vectorAfter : ℕ → Matrix → List ℕ → List ℕ → List ℕ → List ℕ → List ℕ → List ℕ
-vectorAfter p A b words vector polynomial work =
-    unlessRefused (solverRefusal p A b words vector polynomial work) (solve p A b words .vector) vector
+abbrev pub vectorAfter : ℕ → Matrix → List ℕ → List ℕ → ℕ → List ℕ → List ℕ → List ℕ → List ℕ
+vectorAfter p A b words w vector polynomial work =
+    unlessRefused (solverRefusal p A b words w vector polynomial work) (solve p A b words w .vector) vector
 
-abbrev pub polynomialAfter : ℕ → Matrix → List ℕ → List ℕ → List ℕ → List ℕ → List ℕ → List ℕ
-polynomialAfter p A b words vector polynomial work =
-    unlessRefused (solverRefusal p A b words vector polynomial work)
-    (padded (size A + 1) (solve p A b words .polynomial))
+abbrev pub polynomialAfter : ℕ → Matrix → List ℕ → List ℕ → ℕ → List ℕ → List ℕ → List ℕ → List ℕ
+polynomialAfter p A b words w vector polynomial work =
+    unlessRefused (solverRefusal p A b words w vector polynomial work)
+    (padded (size A + 1) (solve p A b words w .polynomial))
     polynomial
 
 -- request (i); no length of the bill is a reason to refuse
-abbrev pub billAfter : ℕ → Matrix → List ℕ → List ℕ → List ℕ → List ℕ → List ℕ → List ℕ → List ℕ
-billAfter p A b words vector polynomial work bill =
-    unlessRefused (solverRefusal p A b words vector polynomial work) (billed bill (solve p A b words .passes)) bill
+abbrev pub billAfter : ℕ → Matrix → List ℕ → List ℕ → ℕ → List ℕ → List ℕ → List ℕ → List ℕ → List ℕ
+billAfter p A b words w vector polynomial work bill =
+    unlessRefused (solverRefusal p A b words w vector polynomial work) (billed bill (solve p A b words w .passes)) bill
 
--- the third condition of every run, and of every two runs on one system; proved with the solver's run
+-- the third condition of every run, and of every two runs on one system, whatever their words and windows; proved with the solver's run
 abbrev pub EveryRun : Type 0
-EveryRun = (p : ℕ) (A : Matrix) (b words : List ℕ) → first (runChecks p A b words) ≡ 0 → ThirdCondition p A b words (solve p A b words)
+EveryRun =
+    (p : ℕ) (A : Matrix) (b words : List ℕ) (w : ℕ) → first (runChecks p A b words w) ≡ 0 → ThirdCondition p A b words w (solve p A b words w)
 
 abbrev pub EveryTwoRuns : Type 0
 EveryTwoRuns =
-    (p : ℕ) (A : Matrix) (b words words′ : List ℕ) → first (runChecks p A b words) ≡ 0 → first (runChecks p A b words′) ≡ 0
-    → SameAnswer (solve p A b words) (solve p A b words′)
+    (p : ℕ) (A : Matrix) (b words words′ : List ℕ) (w w′ : ℕ) → first (runChecks p A b words w) ≡ 0 → first (runChecks p A b words′ w′) ≡ 0
+    → SameAnswer (solve p A b words w) (solve p A b words′ w′)
 
 -- request (iii): "equal to applications × entries"
 abbrev pub EveryRunByEntry : Type 0
 EveryRunByEntry =
-    (p : ℕ) (A : Matrix) (b words : List ℕ) → first (runChecks p A b words) ≡ 0
-    → solve p A b words .multiplied ≡ applications (solve p A b words) * entryCount A
+    (p : ℕ) (A : Matrix) (b words : List ℕ) (w : ℕ) → first (runChecks p A b words w) ≡ 0
+    → solve p A b words w .multiplied ≡ applications (solve p A b words w) * entryCount A
 
 -- request (ii): what every run on size 0 ends with
 abbrev pub EveryEmptyRun : Type 0
 EveryEmptyRun =
-    (p : ℕ) (A : Matrix) (b words : List ℕ) → first (runChecks p A b words) ≡ 0 → size A ≡ 0 → solve p A b words ≡ nothingLeft
+    (p : ℕ) (A : Matrix) (b words : List ℕ) (w : ℕ) → first (runChecks p A b words w) ≡ 0 → size A ≡ 0 → solve p A b words w ≡ nothingLeft
 
 -- ---- the two checks of offered answers
 
@@ -229,11 +231,11 @@ textRefusal text room =
     ∷ textChecks text
     ++ (check 11 (not (leb (d .size) 128 && leb (d .count) 1024 && leb 7168 room)) ∷ []))
 
--- "system text in, answer text out .. uses no random words"
+-- "system text in, answer text out .. uses no random words"; request (v): w = 0 is "the text call's"
 unfoldable pub solvedText : List ℕ → List ℕ
 solvedText text =
     let s = system (document text) in
-    answerText (solve (s .modulus) (s .matrix) (s .right) [])
+    answerText (solve (s .modulus) (s .matrix) (s .right) [] 0)
 
 -- "the answer's length .. or the refusal's number"
 abbrev pub textAnswer : List ℕ → ℕ → ℕ

@@ -77,6 +77,10 @@ unfoldable pub wordsTaken : ℕ → List ℕ → Bool
 wordsTaken zero words = eqb (length words) 0
 wordsTaken (suc m) words = let n = suc m in eqb (length words % n) 0 && leb (length words) (64 * n)
 
+-- 13, request (v): "a window above 64"
+abbrev pub windowTaken : ℕ → Bool
+windowTaken w = leb w 64
+
 -- 5 of a text: "there are over 65,536 entries; or the header's count isn't that of the `a` lines"
 unfoldable pub countTaken : Document → Bool
 countTaken d = eqb (d .count) (length (d .entries)) && leb (length (d .entries)) 65536

@@ -4,7 +4,8 @@
 --     proved-cases     document 01's cases that are marked (P)
 --     more-cases       its other cases, and cases worked out by evidence/reference.py, which was written from the paper alone
 --     nothing-left-cases          request (ii)'s, of size 0
---     proved-rows, more-rows, nothing-left-rows      they hold
+--     window-cases                request (v)'s, with a window
+--     proved-rows, more-rows, nothing-left-rows, window-rows      they hold
 use mathlib.Core.Path.{_≡_, refl}
 use mathlib.Core.Bool.{Bool, true, false}
 use mathlib.Core.List.{List, [], _∷_}
@@ -15,7 +16,7 @@ use Rattle.meaning.specs.List.{sum, table, all, every, chainFrom, chain,
 use Rattle.meaning.specs.Field.{isPrime, isModulus, plus, minus, times, inverse}
 use Rattle.meaning.specs.Matrix.{product, transposed, power, apply, perProduct, multiplied, Matrix, matrix}
 use Rattle.meaning.specs.Recurrence.{isMonic, recurs, start, discrepancy, update, step, steps, reversed, degree, generator, Steps}
-use Rattle.meaning.specs.Solver.{vectorCount, vectors, units, projections, dot, terms, multiply, Pass, begin, passTerms, pass, run, spent, bill, verdict, close, solve, takes, isNull, Kind, solved, singular, passCount, applications}
+use Rattle.meaning.specs.Solver.{vectorCount, vectors, units, projections, dot, terms, multiply, Pass, begin, passTerms, due, testAt, endPass, pass, run, spent, bill, verdict, close, solve, takes, isNull, Kind, solved, singular, passCount, applications}
 use Rattle.meaning.specs.Text.{digits, decimal, valueAfter, isNumeral, line, onFirst, parts, hasForm, formOf, lineOf, lineFields, lines, saying, inForm, document, system, writeRow, writeElement, write}
 use Rattle.meaning.specs.Answer.{passLines, answerText, refusedText}
 use Rattle.meaning.specs.Refusal.{first, elements, sizeTaken, startsTaken, columnsTaken, matrixChecks, wordsTaken, countTaken, before, placesTaken, documentChecks}
@@ -23,11 +24,11 @@ use Rattle.meaning.specs.Calls.{fieldRefusal, operationRefusal, inverseR
 
 -- every definition open, so that the rows compute
 unfoldable compute : Unit {0}
-unfolding sum table all every chainFrom chain equal least select flat bytes isPrime isModulus plus minus times inverse product transposed power apply perProduct multiplied isMonic recurs start discrepancy update step steps reversed degree generator vectorCount vectors units projections dot terms multiply begin passTerms pass run spent bill verdict close solve takes isNull digits decimal valueAfter isNumeral line onFirst parts hasForm formOf lineOf lineFields lines saying inForm document system writeRow writeElement write passLines answerText refusedText first elements sizeTaken startsTaken columnsTaken matrixChecks wordsTaken countTaken before placesTaken documentChecks fieldRefusal operationRefusal inverseRefusal productRefusal applyRefusal recurrenceRefusal systemChecks runChecks solverRefusal takesRefusal isNullRefusal textChecks readerRefusal writerRefusal textRefusal solvedText programOutput
+unfolding sum table all every chainFrom chain equal least select flat bytes isPrime isModulus plus minus times inverse product transposed power apply perProduct multiplied isMonic recurs start discrepancy update step steps reversed degree generator vectorCount vectors units projections dot terms multiply begin passTerms due testAt endPass pass run spent bill verdict close solve takes isNull digits decimal valueAfter isNumeral line onFirst parts hasForm formOf lineOf lineFields lines saying inForm document system writeRow writeElement write passLines answerText refusedText first elements sizeTaken startsTaken columnsTaken matrixChecks wordsTaken countTaken before placesTaken documentChecks fieldRefusal operationRefusal inverseRefusal productRefusal applyRefusal recurrenceRefusal systemChecks runChecks solverRefusal takesRefusal isNullRefusal textChecks readerRefusal writerRefusal textRefusal solvedText programOutput
 compute = tt
 
 pub data Case : Type 0 where
-  -- a run on p, A, b and words: kind, vector, f, passes, applications, entries multiplied
+  -- a run on p, A, b and words, without a window: kind, vector, f, passes, applications, entries multiplied
   solver-gives : (p : ℕ) (A : Matrix) (b words : List ℕ) → Kind → (vector f : List ℕ) (passes applications multiplied : ℕ) → Case
   -- the vector and polynomial slices after it
   solver-leaves : (p : ℕ) (A : Matrix) (b words vector polynomial : List ℕ) → Case
@@ -35,6 +36,9 @@ pub data Case : Type 0 where
   solver-makes : (p : ℕ) (A : Matrix) (b words : List ℕ) → List Pass → Case
   -- its bill, in a slice of that many places
   solver-bills : (p : ℕ) (A : Matrix) (b words : List ℕ) (room : ℕ) (slice : List ℕ) → Case
+  -- a run with a window: kind, vector, f, its passes, applications, entries multiplied
+  window-gives : (p : ℕ) (A : Matrix) (b words : List ℕ) (w : ℕ) → Kind → (vector f : List ℕ) → List Pass → (applications multiplied : ℕ) → Case
+  window-refuses : (p : ℕ) (A : Matrix) (b words : List ℕ) (w vector polynomial work number : ℕ) → Case
   -- the terms that the pass with u takes after the passes with us
   pass-takes : (p : ℕ) (A : Matrix) (b : List ℕ) (us : List (List ℕ)) (u terms : List ℕ) → Case
   -- the solver's refusal, for slices of these lengths (vector, polynomial, work)
@@ -73,27 +77,39 @@ nines k = replicate k 9
 
 abbrev pub Holds : Case → Type 0
 Holds (solver-gives p A b words k x f n a m) =
-    let o = solve p A b words in
+    let o = solve p A b words 0 in
     _≡_ {A = ℕ × Kind × List ℕ × List ℕ × ℕ × ℕ × ℕ}
-    (first (runChecks p A b words), o .kind, o .vector, o .polynomial, passCount o, applications o, o .multiplied)
+    (first (runChecks p A b words 0), o .kind, o .vector, o .polynomial, passCount o, applications o, o .multiplied)
     (0, k, x, f, n, a, m)
-Holds (solver-makes p A b words qs) = solve p A b words .passes ≡ qs
+Holds (solver-makes p A b words qs) = solve p A b words 0 .passes ≡ qs
 Holds (solver-leaves p A b words x f) =
     let v = nines (length x) in
     let g = nines (length f) in
     let w = nines 48 in
     _≡_ {A = ℕ × List ℕ × List ℕ}
-    (solverRefusal p A b words v g w, vectorAfter p A b words v g w, polynomialAfter p A b words v g w)
+    (solverRefusal p A b words 0 v g w, vectorAfter p A b words 0 v g w, polynomialAfter p A b words 0 v g w)
     (0, x, f)
 Holds (solver-bills p A b words room slice) =
-    billAfter p A b words (nines (length b)) (nines (length b + 1)) (nines 48) (nines room) ≡ slice
-Holds (pass-takes p A b us u s) = passTerms p A u (run p A us (begin b)) ≡ s
+    billAfter p A b words 0 (nines (length b)) (nines (length b + 1)) (nines 48) (nines room) ≡ slice
+Holds (window-gives p A b words w k x f qs a m) =
+    let o = solve p A b words w in
+    _≡_ {A = ℕ × Kind × List ℕ × List ℕ × List Pass × ℕ × ℕ}
+    (first (runChecks p A b words w), o .kind, o .vector, o .polynomial, o .passes, applications o, o .multiplied)
+    (0, k, x, f, qs, a, m)
+Holds (window-refuses p A b words w vector polynomial work k) =
+    let x = nines vector in
+    let f = nines polynomial in
+    let room = nines work in
+    _≡_ {A = ℕ × List ℕ × List ℕ}
+    (solverRefusal p A b words w x f room, vectorAfter p A b words w x f room, polynomialAfter p A b words w x f room)
+    (k, x, f)
+Holds (pass-takes p A b us u s) = passTerms p A u (run p A 0 us (begin b)) ≡ s
 Holds (solver-refuses p A b words vector polynomial work k) =
     let x = nines vector in
     let f = nines polynomial in
     let w = nines work in
     _≡_ {A = ℕ × List ℕ × List ℕ}
-    (solverRefusal p A b words x f w, vectorAfter p A b words x f w, polynomialAfter p A b words x f w)
+    (solverRefusal p A b words 0 x f w, vectorAfter p A b words 0 x f w, polynomialAfter p A b words 0 x f w)
     (k, x, f)
 Holds (recurrence-gives p s L f) =
     let out = nines (length f) in
@@ -179,6 +195,10 @@ diag23 = matrix (0 ∷ 1 ∷ 2 ∷ []) (0 ∷ 1 ∷ []) (2 ∷ 3 ∷ [])
 
 abbrev pub U : Matrix
 U = matrix (0 ∷ 1 ∷ 1 ∷ []) (1 ∷ []) (1 ∷ [])
+
+-- diag(2,3,4)
+abbrev pub diag234 : Matrix
+diag234 = matrix (0 ∷ 1 ∷ 2 ∷ 3 ∷ []) (0 ∷ 1 ∷ 2 ∷ []) (2 ∷ 3 ∷ 4 ∷ [])
 
 -- the matrix of size 0
 abbrev pub nothing : Matrix
@@ -432,3 +452,51 @@ nothing-left-cases =
 pub nothing-left-rows : AllHold nothing-left-cases
 unfolding compute
 nothing-left-rows = (refl, (refl, (refl, (refl, (refl, (refl, (refl, (refl, (refl, (refl, (refl, (refl, (refl, (refl, (refl, (refl, (refl, (refl, (refl, (refl, (refl, (refl, (refl, (refl, (refl, (refl, (refl, (refl, (refl, (refl, (refl, tt)))))))))))))))))))))))))))))))
+
+-- document 02, request (v): "stopping a pass early"; worked out by evidence/reference.py
+abbrev pub window-cases : List Case
+window-cases =
+    -- a pass that ends early, at i − 1 + L applications: w = 0, 1, 2 and 3, which is due at the last i; w = 4 would be due after term 2 × left only
+    window-gives 7 diag234 (1 ∷ 0 ∷ 0 ∷ []) [] 0 solved (4 ∷ 0 ∷ 0 ∷ []) (5 ∷ 1 ∷ []) (made 3 1 6 ∷ []) 6 18
+    ∷ window-gives 7 diag234 (1 ∷ 0 ∷ 0 ∷ []) [] 1 solved (4 ∷ 0 ∷ 0 ∷ []) (5 ∷ 1 ∷ []) (made 3 1 3 ∷ []) 3 9
+    ∷ window-gives 7 diag234 (1 ∷ 0 ∷ 0 ∷ []) [] 2 solved (4 ∷ 0 ∷ 0 ∷ []) (5 ∷ 1 ∷ []) (made 3 1 4 ∷ []) 4 12
+    ∷ window-gives 7 diag234 (1 ∷ 0 ∷ 0 ∷ []) [] 3 solved (4 ∷ 0 ∷ 0 ∷ []) (5 ∷ 1 ∷ []) (made 3 1 5 ∷ []) 5 15
+    ∷ window-gives 7 diag234 (1 ∷ 0 ∷ 0 ∷ []) [] 4 solved (4 ∷ 0 ∷ 0 ∷ []) (5 ∷ 1 ∷ []) (made 3 1 6 ∷ []) 6 18
+    -- the same with words, and a degree of 2; leading zeros are no window, since L is 0
+    ∷ window-gives 7 (matrix (0 ∷ 1 ∷ 2 ∷ 3 ∷ 4 ∷ []) (0 ∷ 1 ∷ 2 ∷ 3 ∷ []) (2 ∷ 3 ∷ 5 ∷ 5 ∷ [])) (1 ∷ 1 ∷ 0 ∷ 0 ∷ []) (1 ∷ 1 ∷ 0 ∷ 0 ∷ []) 1 solved (4 ∷ 5 ∷ 0 ∷ 0 ∷ []) (6 ∷ 2 ∷ 1 ∷ []) (made 4 2 6 ∷ []) 7 28
+    ∷ window-gives 7 (matrix (0 ∷ 1 ∷ 2 ∷ 3 ∷ 4 ∷ []) (0 ∷ 1 ∷ 2 ∷ 3 ∷ []) (2 ∷ 3 ∷ 5 ∷ 5 ∷ [])) (1 ∷ 1 ∷ 0 ∷ 0 ∷ []) (1 ∷ 1 ∷ 0 ∷ 0 ∷ []) 2 solved (4 ∷ 5 ∷ 0 ∷ 0 ∷ []) (6 ∷ 2 ∷ 1 ∷ []) (made 4 2 7 ∷ []) 8 32
+    ∷ window-gives 2 (matrix (0 ∷ 1 ∷ 1 ∷ 2 ∷ []) (2 ∷ 1 ∷ []) (1 ∷ 1 ∷ [])) (0 ∷ 1 ∷ 0 ∷ []) [] 2 singular (1 ∷ 0 ∷ 0 ∷ []) (0 ∷ 0 ∷ 0 ∷ 1 ∷ []) (made 3 3 7 ∷ []) 9 18
+    -- a test that fails: the pass goes on to 2 × left terms, and costs L more; a moment later a second test would find zero
+    ∷ window-gives 2 (matrix (0 ∷ 1 ∷ 2 ∷ 2 ∷ []) (1 ∷ 0 ∷ []) (1 ∷ 1 ∷ [])) (1 ∷ 0 ∷ 0 ∷ []) [] 1 solved (0 ∷ 1 ∷ 0 ∷ []) (1 ∷ 0 ∷ 1 ∷ []) (made 3 2 8 ∷ []) 9 18
+    -- p = 2 and 3, short windows: false alarms; the final f is another one
+    ∷ window-gives 2 (matrix (0 ∷ 1 ∷ 2 ∷ 3 ∷ []) (1 ∷ 2 ∷ 0 ∷ []) (1 ∷ 1 ∷ 1 ∷ [])) (0 ∷ 0 ∷ 1 ∷ []) [] 2 solved (1 ∷ 0 ∷ 0 ∷ []) (1 ∷ 0 ∷ 0 ∷ 1 ∷ []) (made 3 3 11 ∷ []) 13 39
+    ∷ window-gives 3 (matrix (0 ∷ 0 ∷ 1 ∷ []) (0 ∷ []) (1 ∷ [])) (1 ∷ 0 ∷ []) [] 1 singular (0 ∷ 1 ∷ []) (0 ∷ 0 ∷ 1 ∷ []) (made 2 1 5 ∷ made 1 1 2 ∷ []) 8 8
+    -- a test that would fail after term 2 × left is not made
+    ∷ window-gives 2 (matrix (0 ∷ 1 ∷ 1 ∷ []) (0 ∷ []) (1 ∷ [])) (1 ∷ 1 ∷ []) [] 2 singular (0 ∷ 1 ∷ []) (0 ∷ 1 ∷ 1 ∷ []) (made 2 1 4 ∷ made 1 1 2 ∷ []) 7 7
+    ∷ window-gives 7 diag23 (1 ∷ 1 ∷ []) [] 2 solved (4 ∷ 5 ∷ []) (6 ∷ 2 ∷ 1 ∷ []) (made 2 1 4 ∷ made 1 1 2 ∷ []) 7 14
+    -- the next pass begins anew: its own test, its own window
+    ∷ window-gives 7 (matrix (0 ∷ 1 ∷ 2 ∷ 3 ∷ []) (0 ∷ 1 ∷ 2 ∷ []) (2 ∷ 3 ∷ 5 ∷ [])) (1 ∷ 1 ∷ 0 ∷ []) [] 1 solved (4 ∷ 5 ∷ 0 ∷ []) (6 ∷ 2 ∷ 1 ∷ []) (made 3 1 7 ∷ made 2 1 3 ∷ []) 11 33
+    ∷ window-gives 7 diag23 (1 ∷ 1 ∷ []) [] 1 solved (4 ∷ 5 ∷ []) (6 ∷ 2 ∷ 1 ∷ []) (made 2 1 5 ∷ made 1 1 2 ∷ []) 8 16
+    ∷ window-gives 2 (matrix (0 ∷ 0 ∷ 1 ∷ 1 ∷ []) (0 ∷ []) (1 ∷ [])) (1 ∷ 0 ∷ 0 ∷ []) [] 1 singular (0 ∷ 1 ∷ 0 ∷ []) (0 ∷ 0 ∷ 1 ∷ []) (made 3 1 7 ∷ made 2 1 2 ∷ []) 10 10
+    ∷ window-gives 2 (matrix (0 ∷ 0 ∷ 1 ∷ 2 ∷ []) (2 ∷ 0 ∷ []) (1 ∷ 1 ∷ [])) (1 ∷ 1 ∷ 0 ∷ []) [] 1 singular (0 ∷ 1 ∷ 0 ∷ []) (0 ∷ 0 ∷ 0 ∷ 1 ∷ []) (made 3 1 7 ∷ made 2 2 4 ∷ []) 13 26
+    ∷ window-gives 5 (matrix (0 ∷ 0 ∷ 1 ∷ 2 ∷ []) (2 ∷ 0 ∷ []) (1 ∷ 1 ∷ [])) (1 ∷ 1 ∷ 0 ∷ []) [] 1 singular (0 ∷ 1 ∷ 0 ∷ []) (0 ∷ 0 ∷ 0 ∷ 1 ∷ []) (made 3 1 7 ∷ made 2 2 4 ∷ []) 13 26
+    -- a pass of degree 0 is not tested; w = 64 is never reached here; no rows, b = 0, n = 1
+    ∷ window-gives 7 diag23 (1 ∷ 1 ∷ []) (0 ∷ 0 ∷ []) 1 solved (4 ∷ 5 ∷ []) (6 ∷ 2 ∷ 1 ∷ []) (made 2 0 3 ∷ made 2 1 5 ∷ made 1 1 2 ∷ []) 11 22
+    ∷ window-gives 7 diag234 (1 ∷ 0 ∷ 0 ∷ []) [] 64 solved (4 ∷ 0 ∷ 0 ∷ []) (5 ∷ 1 ∷ []) (made 3 1 6 ∷ []) 6 18
+    ∷ window-gives 2 (matrix (0 ∷ 1 ∷ 2 ∷ 2 ∷ []) (1 ∷ 0 ∷ []) (1 ∷ 1 ∷ [])) (1 ∷ 0 ∷ 0 ∷ []) [] 64 solved (0 ∷ 1 ∷ 0 ∷ []) (1 ∷ 0 ∷ 1 ∷ []) (made 3 2 7 ∷ []) 8 16
+    ∷ window-gives 7 diag23 (0 ∷ 0 ∷ []) [] 1 solved (0 ∷ 0 ∷ []) (1 ∷ []) [] 0 0
+    ∷ window-gives 7 nothing [] [] 64 solved [] (1 ∷ []) [] 0 0
+    ∷ window-gives 2 (matrix (0 ∷ 1 ∷ []) (0 ∷ []) (1 ∷ [])) (1 ∷ []) [] 1 solved (1 ∷ []) (1 ∷ 1 ∷ []) (made 1 1 2 ∷ []) 2 2
+    -- 13: 65 is turned down, after 10 and before 11
+    ∷ window-refuses 7 diag23 (1 ∷ 1 ∷ []) [] 65 2 3 48 13
+    ∷ window-refuses 7 diag23 (1 ∷ 1 ∷ []) [] 4294967295 2 3 48 13
+    ∷ window-refuses 7 nothing [] [] 65 0 1 16 13
+    ∷ window-refuses 7 diag23 (1 ∷ 7 ∷ []) [] 65 2 3 48 9
+    ∷ window-refuses 7 diag23 (1 ∷ 1 ∷ []) (1 ∷ []) 65 2 3 48 10
+    ∷ window-refuses 7 diag23 (1 ∷ 1 ∷ []) [] 65 3 3 48 13
+    ∷ window-refuses 7 diag23 (1 ∷ 1 ∷ []) [] 64 3 3 48 11
+    ∷ []
+
+pub window-rows : AllHold window-cases
+unfolding compute
+window-rows = (refl, (refl, (refl, (refl, (refl, (refl, (refl, (refl, (refl, (refl, (refl, (refl, (refl, (refl, (refl, (refl, (refl, (refl, (refl, (refl, (refl, (refl, (refl, (refl, (refl, (refl, (refl, (refl, (refl, (refl, (refl, tt)))))))))))))))))))))))))))))))

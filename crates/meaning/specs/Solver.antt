@@ -9,8 +9,12 @@
 --     Run                    r, F and D between two passes, and the passes made
 --     begin                  "r = b, F = 1, D = 0"
 --     passTerms p A u        the terms of a pass with the projection u, left = n − D
---     pass p A u             that pass: "f is their shortest recurrence", which knows its own terms only
---     run p A us             "while r is not zero, make a pass with the next projection"
+--     due p w s i            request (v): after term i "L is at least 1 and the last w discrepancies were all 0"; never for w = 0
+--     testAt p w s           the first i below 2 × left where it is so: there "f(A)r is worked out, once per pass"; 2 × left if there is none
+--     endPass p A s made     a pass that ends with the terms s, after `made` other products: "f is their shortest recurrence, of degree t; r becomes
+--                            f(A)r, F becomes F × f, D grows by t"
+--     pass p A w u           a pass with the projection u and the window w
+--     run p A w us           "while r is not zero, make a pass with the next projection"
 --     Kind, Outcome          solved or singular; what a run ends with; request (iii): "the solver's result carries" the entries that its products multiplied
 --     passCount              "the passes", their number
 --     spent                  the applications of passes, summed
@@ -19,18 +23,18 @@
 --     charge, bill           request (i): a pass in numbers, "left, degree t, applications of that pass"; the passes in numbers, one after the other
 --     billed B qs            the slice that held B, with these numbers at its front, for as many passes as it has room for
 --     close                  "when r is zero, let G = (F − F[0]) / z .."
---     solve                  the whole run
+--     solve                  the whole run, with the words and the window w
 --     nothingLeft            request (ii), size 0: "solved: empty vector, f = 1, no pass, no application"
 --     takes, isNull          the two checks of offered answers
 use mathlib.Core.Bool.{Bool, not, cond, _&&_}
 use mathlib.Core.List.{List, [], _∷_, _++_, map}
 use Prim.Native.Nat.{ℕ, zero, suc, _+_, _-_, _*_, _/_, _%_}
-use lib.Dec.{eqb}
+use lib.Dec.{eqb, ltb, leb}
 use lib.ListN.{length, take, drop}
-use Rattle.meaning.specs.List.{at, sum, table, zeros, isZero, equal, flat, overwrite}
+use Rattle.meaning.specs.List.{at, sum, table, zeros, all, isZero, equal, least, flat, overwrite}
 use Rattle.meaning.specs.Field.{minus, times, inverse}
 use Rattle.meaning.specs.Matrix.{Matrix, size, product, power, apply, multiplied}
-use Rattle.meaning.specs.Recurrence.{degree, generator}
+use Rattle.meaning.specs.Recurrence.{discrepancy, steps, degree, generator}
 
 unfoldable pub vectorCount : ℕ → List ℕ → ℕ
 vectorCount zero words = 0
@@ -72,24 +76,43 @@ begin b = record { residual = b; factor = 1 ∷ []; found = 0; passes = [] }
 unfoldable pub passTerms : ℕ → Matrix → List ℕ → Run → List ℕ
 passTerms p A u c = terms p A (size A - c .found) u (c .residual)
 
-unfoldable pub pass : ℕ → Matrix → List ℕ → Run → Run
-pass p A u c =
+unfoldable pub due : ℕ → ℕ → List ℕ → ℕ → Bool
+due p w s i =
+    leb 1 w && leb w i && leb 1 (steps p s i .L) && all w (λ k. eqb (discrepancy p s (i - k) (steps p s (i - k - 1))) 0)
+
+unfoldable pub testAt : ℕ → ℕ → List ℕ → ℕ
+testAt p w s = least (length s) (due p w s)
+
+unfoldable pub endPass : ℕ → Matrix → List ℕ → ℕ → Run → Run
+endPass p A s made c =
     let left = size A - c .found in
-    let s = passTerms p A u c in
     let f = generator p s in
     let t = degree p s in
     record {
       residual = apply p A f (c .residual);
       factor = multiply p (c .factor) f;
       found = c .found + t;
-      passes = c .passes ++ (record { left = left; degree = t; applications = 2 * left - 1 + t } ∷ []);
+      passes = c .passes ++ (record { left = left; degree = t; applications = made + t } ∷ []);
     }
 
+-- "if it is zero the pass ends with that f, at i − 1 + L applications. If not, the pass goes on to 2 × left terms and its cost grows by L"
+unfoldable pub pass : ℕ → Matrix → ℕ → List ℕ → Run → Run
+pass p A w u c =
+    let left = size A - c .found in
+    let s = passTerms p A u c in
+    let i = testAt p w s in
+    let first = take i s in
+    cond (not (ltb i (length s)))
+    (endPass p A s (2 * left - 1) c)
+    (cond (isZero (apply p A (generator p first) (c .residual)))
+    (endPass p A first (i - 1) c)
+    (endPass p A s (2 * left - 1 + degree p first) c))
+
 -- with no projection left r is zero (proved with the run), so the first line is never a failure
-unfoldable pub run : ℕ → Matrix → List (List ℕ) → Run → Run
-run p A [] c = c
-run p A (u ∷ us) c =
-    let next = run p A us (pass p A u c) in
+unfoldable pub run : ℕ → Matrix → ℕ → List (List ℕ) → Run → Run
+run p A w [] c = c
+run p A w (u ∷ us) c =
+    let next = run p A w us (pass p A w u c) in
     cond (isZero (c .residual)) c next
 
 pub data Kind : Type 0 where
@@ -150,8 +173,8 @@ close p A b c =
       multiplied = multiplied (productsMade (c .passes) (c .found)) A;
     }
 
-unfoldable pub solve : ℕ → Matrix → List ℕ → List ℕ → Outcome
-solve p A b words = close p A b (run p A (projections p (size A) words) (begin b))
+unfoldable pub solve : ℕ → Matrix → List ℕ → List ℕ → ℕ → Outcome
+solve p A b words w = close p A b (run p A w (projections p (size A) words) (begin b))
 
 abbrev pub nothingLeft : Outcome
 nothingLeft = record { kind = solved; vector = []; polynomial = 1 ∷ []; degree = 0; passes = []; multiplied = 0 }

@@ -1,7 +1,7 @@
--- The customer's third condition, sentence by sentence. The solver's run is proved to meet it.
+-- The customer's third condition, sentence by sentence, for every window (request (v)). The solver's run is proved to meet it.
 --     inSpan           "b is a sum of multiples of Ab, A²b, .., Aⁿb"
 --     termCost         "the sum of 2 × left − 1 over its passes", left "being n less the degree found before that pass"
---     ThirdCondition   what holds of the outcome of a run on p, A, b and words
+--     ThirdCondition   what holds of the outcome of a run on p, A, b and words, with the window w
 --     SameAnswer       two outcomes with "the same kind, vector and polynomial f"
 -- Calls states both of every run (EveryRun, EveryTwoRuns).
 use mathlib.Core.Path.{_≡_}
@@ -12,7 +12,7 @@ use Prim.Native.Nat.{ℕ, _+_, _-_, _*_, _%_, _≤_, _<_}
 use Rattle.meaning.specs.List.{at, sum, table, zeros, isZero}
 use Rattle.meaning.specs.Matrix.{Matrix, size, product, power, apply}
 use Rattle.meaning.specs.Recurrence.{isMonic}
-use Rattle.meaning.specs.Solver.{vectorCount, Pass, Outcome, solved, singular, passCount, applications}
+use Rattle.meaning.specs.Solver.{vectorCount, Pass, Outcome, solved, singular, passCount, spent, applications}
 
 -- n coefficients c with b = c[0] × Ab + .. + c[n − 1] × Aⁿb
 abbrev pub inSpan : ℕ → Matrix → List ℕ → Type 0
@@ -24,7 +24,7 @@ unfoldable pub termCost : ℕ → List Pass → ℕ
 termCost left [] = 0
 termCost left (q ∷ qs) = 2 * left - 1 + termCost (left - q .degree) qs
 
-pub record ThirdCondition (p : ℕ) (A : Matrix) (b words : List ℕ) (o : Outcome) : Type 0 where
+pub record ThirdCondition (p : ℕ) (A : Matrix) (b words : List ℕ) (w : ℕ) (o : Outcome) : Type 0 where
   -- "f is monic, of a degree D, with f(A)b = 0, and every other monic g with g(A)b = 0 has a higher degree"
   pub monic : isMonic p (o .degree) (o .polynomial) ≡ true
   pub annihilates : apply p A (o .polynomial) b ≡ zeros (size A)
@@ -37,8 +37,10 @@ pub record ThirdCondition (p : ℕ) (A : Matrix) (b words : List ℕ) (o : Outco
   pub to-zero : o .kind ≡ singular → product p A (o .vector) ≡ zeros (size A)
   -- "at most R + n" passes
   pub few : passCount o ≤ vectorCount (size A) words + size A
-  -- "the sum of 2 × left − 1 over its passes plus 2 × D − 1, or 0 if b = 0"
-  pub counted : applications o ≡ cond (isZero b) 0 (termCost (size A) (o .passes) + (2 * o .degree - 1))
+  -- "the sum of these costs plus D − 1 (0 if D = 0)", for every window
+  pub summed : applications o ≡ spent (o .passes) + (o .degree - 1)
+  -- for w = 0 "the sum of 2 × left − 1 over its passes plus 2 × D − 1, or 0 if b = 0"
+  pub counted : w ≡ 0 → applications o ≡ cond (isZero b) 0 (termCost (size A) (o .passes) + (2 * o .degree - 1))
 
 pub record SameAnswer (o o′ : Outcome) : Type 0 where
   pub kind : o .kind ≡ o′ .kind

@@ -77,7 +77,7 @@ holds-generator {p} {count} {r} {W} {W₁} {W′} c ready end followed stay turn
         (λ past. turned .after (count + 2 + i) (omega arith) ∙ q i l
         ∙ regular .q-end i (subst (λ x. x < i) (follows .L) past)
         ∙ sym (at-generator-past p s count size i (subst (λ x. x < i) (follows .L) past)))
-        (λ inside. turned .inside i inside ∙ q (c .L - i) (omega (arith, within))
+        (λ inside. turned .inside i (omega (arith, inside)) ∙ q (c .L - i) (omega (arith, within))
         ∙ ap (λ k. at (steps p s count .q) (k - i)) (follows .L)
         ∙ sym (at-generator-within p s count size i (subst (λ x. i ≤ x) (follows .L) inside)))
         (lt-or-ge (c .L) i)

@@ -1,5 +1,4 @@
 -- laws that only the proofs here use
-pub mod Reversing
 pub mod Represented
 pub mod Stepping
 pub mod HoldsGenerator

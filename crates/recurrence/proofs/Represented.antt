@@ -2,7 +2,6 @@
 --     lt-or-ge                           one number is below the other, or not
 --     power-none, power-next             z to the power 0 times f, and one power more
 --     power-low, power-at                z to the power k times f: nothing below k, f from there on
---     z-same                             z·f of equal polynomials
 --     part-past                          past its end a part has no coefficient
 --     t-within, spare-within, exchanged  the two regions after q's, and that they take turns
 --     follows-within                     L is at most r
@@ -53,10 +52,6 @@ power-at (suc k) f i =
 pub power-next : (k : ℕ) (f : List ℕ) → timesPower (k + 1) f ≡ 0 ∷ timesPower k f
 unfolding timesPower
 power-next k f = ap (λ n. timesPower n f) (add-one k)
-
-pub z-same : (f g : List ℕ) → ((i : ℕ) → at f i ≡ at g i) → (i : ℕ) → at (0 ∷ f) i ≡ at (0 ∷ g) i
-z-same f g h zero = refl
-z-same f g h (suc i) = h i
 
 pub part-past : (a n : ℕ) (W : List ℕ) (i : ℕ) → a + n ≤ length W → n ≤ i → at (part a n W) i ≡ 0
 part-past a n W i fits l = List·getD-eq-default (part a n W) 0 {n = i} (omega (arith, length-part a n W fits))

@@ -1,7 +1,9 @@
 -- What the code's step makes of a slice that holds the steps before r: document 01's step for r, of the first r terms.
 --     fresh, shifted, lengthened       a register of q = 1, t = 0, L = 0 and e = 1; after t = z·t; after t = q, L = r − L, e = d
 --     start-laid, start-follows  the start
---     first-terms, before-step   what a start asks, and a step after r − 1 others
+--     first-terms, still, before-step      what a start asks, and a step after r − 1 others
+--     follows-next               a step of what follows the steps follows them
+--     Between, between-begin, between-next, between-end      the steps on their way from one r to another
 --     crossing                   what the discrepancy's products ask
 --     Kept, kept-same, kept-copied     the slice where the update begins: as it was, but for a copy of q in the spare region
 --     Updated                    q − k·z·t in q's place
@@ -18,9 +20,9 @@ use lib.ListN.{length, take, set, length-set}
 use lib.Seq.{getD-take, take-take, take-set-le, getD-set-same, getD-set-other}
 use Rattle.meaning.specs.List.{at, sum, sumFrom}
 use Rattle.meaning.specs.Field.{minus, times, inverse}
-use Rattle.meaning.specs.Recurrence.{Steps, start, discrepancy, update, steps}
+use Rattle.meaning.specs.Recurrence.{Steps, start, discrepancy, update, step, steps}
 use Rattle.laws.specs.List.{sum-ext}
-use Rattle.laws.specs.Recurrence.{times-lt, times-zero, minus-zero, at-update, step-zero, step-stay, step-grow, steps-zero, steps-at, steps-first, Regular, steps-regular}
+use Rattle.laws.specs.Recurrence.{times-lt, times-zero, minus-zero, at-update, step-zero, step-stay, step-grow, steps-zero, steps-at, steps-first, SameSteps, discrepancy-same, step-same, Regular, step-regular}
 use Rattle.laws.specs.Part.{part, Apart, before, after, at-part, part-ext, written-other-at}
 use Rattle.laws.specs.Written.{Written, written-none}
 use Rattle.laws.specs.Lent.{written-take}
@@ -31,8 +33,8 @@ use Rattle.modular.specs.Sums.{Summed, sumFrom-zero}
 use Rattle.recurrence.specs.declared.steps.Register.{Register}
 use Rattle.recurrence.specs.Convolution.{cross, Crossing, nothing}
 use Rattle.recurrence.specs.Recurrence.{Ready}
-use Rattle.recurrence.specs.Steps.{FollowsSteps, timesPower, represented, Laid, TermsStay, FirstTerms, BeforeStep}
-use Rattle.recurrence.proofs.Represented.{lt-or-ge, power-none, power-low, power-at, power-next, z-same, part-past, t-within, spare-within, exchanged, follows-within, follows-after, stay-same}
+use Rattle.recurrence.specs.Steps.{FollowsSteps, IsStep, timesPower, represented, Laid, TermsStay, FirstTerms, Sound, BeforeStep, MakesStep, MakesSteps}
+use Rattle.recurrence.proofs.Represented.{lt-or-ge, power-none, power-low, power-at, power-next, part-past, t-within, spare-within, exchanged, follows-before, follows-after, stay-same, stay-both}
 
 -- ---- registers
 
@@ -49,18 +51,13 @@ lengthened r d y c =
     record { d = d; t = c .spare; held = c .L + 1; shift = 0; L = r - c .L; e = d; inverse = y; spare = c .t }
 
 -- a whole region: what it holds, and nothing past its end
-q-whole : (p count r : ℕ) (s W : List ℕ) → 1 < p → r ≤ count → 4 * count + 8 ≤ length W
-    → ((i : ℕ) → i < count + 2 → at W (count + 2 + i) ≡ at (steps p s r .q) i)
-    → (i : ℕ) → at (part (count + 2) (count + 2) W) i ≡ at (steps p s r .q) i
-q-whole p count r s W two few room held i =
+q-whole : (count : ℕ) (W g : List ℕ) → 4 * count + 8 ≤ length W → ((i : ℕ) → i < count + 2 → at W (count + 2 + i) ≡ at g i)
+    → ((i : ℕ) → count + 2 ≤ i → at g i ≡ 0) → (i : ℕ) → at (part (count + 2) (count + 2) W) i ≡ at g i
+q-whole count W g room held past i =
     ⊎-elim
     (λ l. at-part (count + 2) (count + 2) W i l ∙ held i l)
-    (λ l. part-past (count + 2) (count + 2) W i (omega (arith, room)) l
-    ∙ sym (regular .q-end i (omega (arith, l, few, regular .within))))
+    (λ l. part-past (count + 2) (count + 2) W i (omega (arith, room)) l ∙ sym (past i l))
     (lt-or-ge i (count + 2))
-  where
-    regular : Regular p r (steps p s r)
-    regular = steps-regular p two s r
 
 -- ---- the start
 
@@ -79,11 +76,16 @@ module _ (p count : ℕ) (W W₁ : List ℕ) (first : FirstTerms p count 0 W) (w
       ap (at W₀) e ∙ getD-set-same W₁ (count + 2) 1 0 (omega (arith, w .same-length, room))
   one (suc i) l = getD-set-other W₁ (count + 2) (count + 2 + suc i) 1 0 (omega arith) ∙ w .inside (suc i) l
 
+  none : (i : ℕ) → count + 2 ≤ i → at (1 ∷ []) i ≡ 0
+  none zero l = absurd (omega arith)
+  none (suc i) l = refl
+
   pub start-laid : Laid p count 0 (fresh count) × TermsStay count W W₀
   start-laid = (
     record {
       places = inl (refl, refl);
       short = omega arith;
+      end = omega arith;
       inverted = sym (inverse-is p 1 1 (ready .two) (mod-eq-of-lt (ready .two)));
     },
     record {
@@ -98,8 +100,8 @@ module _ (p count : ℕ) (W W₁ : List ℕ) (first : FirstTerms p count 0 W) (w
   start-follows =
       record {
         d = λ l. absurd (omega arith);
-        q = q-whole p count 0 (take 0 W) W₀ (ready .two) (omega arith) (omega (arith, same-length, room))
-            (λ i l. one i l ∙ sym (ap (λ x. at (x .q) i) (steps-zero p (take 0 W))));
+        q = λ i.
+            q-whole count W₀ (1 ∷ []) (omega (arith, same-length, room)) one none i ∙ sym (ap (λ x. at (x .q) i) (steps-zero p (take 0 W)));
         t = λ i. sym (ap (λ x. at (x .t) i) (steps-zero p (take 0 W)));
         L = sym (ap (λ x. x .L) (steps-zero p (take 0 W)));
         e = sym (ap (λ x. x .e) (steps-zero p (take 0 W)));
@@ -123,31 +125,100 @@ first-terms r l ready =
       room = ready .room;
     }
 
--- the terms are still there
-still : {p count : ℕ} {W W′ : List ℕ} → TermsStay count W W′ → Ready p count W → Ready p count W′
-still {p} {count} {W} {W′} stay ready =
+-- .. of fewer terms, and where they are still there
+pub still : {p count to : ℕ} {W W′ : List ℕ} (r : ℕ) → r ≤ to → TermsStay count W W′ → FirstTerms p count to W → FirstTerms p count r W′
+still {p} {count} {to} {W} {W′} r low stay first =
     record {
-      two = ready .two;
-      small = ready .small;
-      few = ready .few;
-      room = omega (arith, stay .same-length, ready .room);
-      elements = λ i l. subst (λ x. x < p) (sym (same i l)) (ready .elements i l);
+      ready =
+          record {
+            two = first .ready .two;
+            small = first .ready .small;
+            few = omega (arith, low, first .ready .few);
+            room = omega (arith, low, stay .same-length, first .ready .room);
+            elements = λ i l. subst (λ x. x < p) (sym (same i (omega (arith, l, low, first .high)))) (first .ready .elements i (omega (arith, l, low)));
+          };
+      high = omega (arith, low, first .high);
+      few = first .few;
+      room = omega (arith, stay .same-length, first .room);
     }
   where
     same : (i : ℕ) → i < count → at W′ i ≡ at W i
     same i b =
         sym (getD-take (count + 2) W′ i 0 (omega arith)) ∙ ap (λ l. at l i) (stay .same-front) ∙ getD-take (count + 2) W i 0 (omega arith)
 
-pub before-step : {p count r : ℕ} {W W′ : List ℕ} {c : Register} → Ready p count W → r < count → TermsStay count W W′
-    → FollowsSteps p (take r W) r (c .d) (represented count W′ c) → Laid p count r c → BeforeStep p count (r + 1) W′ c
-before-step {p} {count} {r} {W} {W′} {c} ready l stay follows laid =
+pub before-step : {p count r to : ℕ} {W W′ : List ℕ} {c : Register} → FirstTerms p count to W → r < to → TermsStay count W W′ → Sound p count r W′ c
+    → BeforeStep p count (r + 1) W′ c
+before-step {p} {count} {r} {to} {W} {W′} {c} first l stay sound =
     let e : r ≡ r + 1 - 1 = omega arith in
+    record { low = omega arith; first = still (r + 1) (omega (arith, l)) stay first; sound = subst (λ n. Sound p count n W′ c) e sound }
+
+pub follows-next : {p r d₀ d : ℕ} (W : List ℕ) {st st′ : Steps} → 1 < p → 0 < r → FollowsSteps p (take (r - 1) W) (r - 1) d₀ st
+    → IsStep p (take r W) r st d st′ → FollowsSteps p (take r W) r d st′
+follows-next {p} {r} {d₀} {d} W {st} {st′} two low follows made =
     record {
-      low = omega arith;
-      first = first-terms (r + 1) (omega arith) (still stay ready);
-      follows = subst (λ n. FollowsSteps p (take n W′) n (c .d) (represented count W′ c)) e (follows-after stay r (omega arith) follows);
-      laid = subst (λ n. Laid p count n c) e laid;
+      d = λ l. made .0 ∙ discrepancy-same p s r agree;
+      q = λ i. made .1 .q i ∙ next .q i ∙ ap (λ x. at (x .q) i) end;
+      t = λ i. made .1 .t i ∙ next .t i ∙ ap (λ x. at (x .t) i) end;
+      L = made .1 .L ∙ next .L ∙ ap (λ x. x .L) end;
+      e = made .1 .e ∙ next .e ∙ ap (λ x. x .e) end;
     }
+  where
+    s : List ℕ
+    s = take r W
+
+    -- the steps for 1 to r − 1 do not ask for the term that r adds
+    same : steps p (take (r - 1) W) (r - 1) ≡ steps p s (r - 1)
+    same = ap (λ x. steps p x (r - 1)) (sym (take-take (r - 1) r W (omega arith))) ∙ steps-first p s (r - 1) (r - 1) (omega arith)
+
+    agree : SameSteps st (steps p s (r - 1))
+    agree =
+        record {
+          q = λ i. follows .q i ∙ ap (λ x. at (x .q) i) same;
+          t = λ i. follows .t i ∙ ap (λ x. at (x .t) i) same;
+          L = follows .L ∙ ap (λ x. x .L) same;
+          e = follows .e ∙ ap (λ x. x .e) same;
+        }
+
+    next : SameSteps (step p s r st) (step p s r (steps p s (r - 1)))
+    next = step-same p s r agree (omega (arith, two))
+
+    end : step p s r (steps p s (r - 1)) ≡ steps p s r
+    end = sym (steps-at p s r low)
+
+-- the steps from `from` + 1 to r have been made
+pub record Between (p count from r : ℕ) (W : List ℕ) (c : Register) (W₁ : List ℕ) (c₁ : Register) : Type 0 where
+  pub none : r ≡ from → (W₁ ≡ W) × (c₁ ≡ c)
+  pub one : r ≡ from + 1 → IsStep p (take r W) r (represented count W c) (c₁ .d) (represented count W₁ c₁)
+  pub follows : FollowsSteps p (take from W) from (c .d) (represented count W c) → FollowsSteps p (take r W) r (c₁ .d) (represented count W₁ c₁)
+  pub sound : Sound p count r W₁ c₁
+  pub stay : TermsStay count W W₁
+
+pub between-begin : {p count from : ℕ} {W : List ℕ} {c : Register} → Sound p count from W c → Between p count from from W c W c
+between-begin sound =
+    record { none = λ e. (refl, refl); one = λ e. absurd (omega (arith, e)); follows = λ f. f; sound = sound; stay = stay-same }
+
+pub between-next : {p count from r : ℕ} {W W₁ W₂ : List ℕ} {c c₁ c₂ : Register} → from ≤ r → r < count → Between p count from r W c W₁ c₁
+    → MakesStep p count (r + 1) W₁ c₁ W₂ c₂ → Between p count from (r + 1) W c W₂ c₂
+between-next {p} {count} {from} {r} {W} {W₁} {W₂} {c} {c₁} {c₂} low high h made =
+    record {
+      none = λ e. absurd (omega (arith, e, low));
+      one = λ e.
+          let first = h .none (omega (arith, e)) in
+          subst (λ x. IsStep p (take (r + 1) W) (r + 1) (represented count W x) (c₂ .d) (represented count W₂ c₂)) (first .1)
+          (subst (λ X. IsStep p (take (r + 1) X) (r + 1) (represented count X c₁) (c₂ .d) (represented count W₂ c₂)) (first .0) (made .step));
+      follows = λ f. follows-before (h .stay) (r + 1) (omega (arith, high)) (made .follows (before (h .follows f)));
+      sound = made .sound;
+      stay = stay-both (h .stay) (made .stay);
+    }
+  where
+    before : FollowsSteps p (take r W) r (c₁ .d) (represented count W₁ c₁) → FollowsSteps p (take (r + 1 - 1) W₁) (r + 1 - 1) (c₁ .d) (represented count W₁ c₁)
+    before f =
+        let e : r ≡ r + 1 - 1 = omega arith in
+        subst (λ n. FollowsSteps p (take n W₁) n (c₁ .d) (represented count W₁ c₁)) e (follows-after (h .stay) r (omega (arith, high)) f)
+
+pub between-end : {p count from r to : ℕ} {W W₁ : List ℕ} {c c₁ : Register} → r ≡ to → Between p count from r W c W₁ c₁ → MakesSteps p count from to W c W₁ c₁
+between-end {p} {count} {from} {r} {to} {W} {W₁} {c} {c₁} e h =
+    subst (λ n. MakesSteps p count from n W c W₁ c₁) e (record { one = h .one; follows = h .follows; sound = h .sound; stay = h .stay })
 
 -- W₁ is W, but for the first `size` coefficients of q in the spare region
 pub record Kept (count : ℕ) (W W₁ : List ℕ) (c : Register) (size : ℕ) : Type 0 where
@@ -177,45 +248,35 @@ Updated p k count c W₁ W′ =
 -- ---- the step for r
 
 module _ {p count r : ℕ} {W : List ℕ} {c : Register} (ask : BeforeStep p count r W c) where
-  open BeforeStep ask using (low, first, follows, laid)
+  open BeforeStep ask using (low, first, sound)
   open FirstTerms first using (ready, high, few, room)
+  open Sound sound using (laid)
 
   abbrev s : List ℕ
   s = take r W
 
+  -- the q, t, L and e that are found
   abbrev st : Steps
-  st = steps p s (r - 1)
-
-  regular : Regular p (r - 1) st
-  regular = steps-regular p (ready .two) s (r - 1)
+  st = represented count W c
 
   positive : 0 < p
   positive = omega (arith, ready .two)
 
-  -- the steps for 1 to r − 1 do not ask for the term that r adds
-  same : steps p (take (r - 1) W) (r - 1) ≡ st
-  same = ap (λ x. steps p x (r - 1)) (sym (take-take (r - 1) r W (omega arith))) ∙ steps-first p s (r - 1) (r - 1) (omega arith)
-
-  L-is : c .L ≡ st .L
-  L-is = follows .L ∙ ap (λ x. x .L) same
-
   pub within : c .L ≤ r - 1
-  within = follows-within (ready .two) follows
-
-  e-is : c .e ≡ st .e
-  e-is = follows .e ∙ ap (λ x. x .e) same
+  within = sound .within
 
   q-is : (i : ℕ) → i < count + 2 → at W (count + 2 + i) ≡ at (st .q) i
-  q-is i l = sym (at-part (count + 2) (count + 2) W i l) ∙ follows .q i ∙ ap (λ x. at (x .q) i) same
+  q-is i l = sym (at-part (count + 2) (count + 2) W i l)
 
-  t-is : (i : ℕ) → at (timesPower (c .shift) (part (c .t) (c .held) W)) i ≡ at (st .t) i
-  t-is i = follows .t i ∙ ap (λ x. at (x .t) i) same
+  beyond : (i : ℕ) → count + 2 ≤ i → at (st .q) i ≡ 0
+  beyond i l = part-past (count + 2) (count + 2) W i (omega (arith, room)) l
 
   past : (i : ℕ) → c .L < i → at (st .q) i ≡ 0
-  past i l = regular .q-end i (subst (λ x. x < i) L-is l)
+  past i h = ⊎-elim (λ l. sym (q-is i l) ∙ sound .end i l h) (beyond i) (lt-or-ge i (count + 2))
 
-  q-element : (i : ℕ) → i < count + 2 → at W (count + 2 + i) < p
-  q-element i l = subst (λ x. x < p) (sym (q-is i l)) (regular .element i)
+  element : (i : ℕ) → at (st .q) i < p
+  element i =
+      ⊎-elim (λ l. subst (λ x. x < p) (q-is i l) (sound .element i l)) (λ l. subst (λ x. x < p) (sym (beyond i l)) positive) (lt-or-ge i (count + 2))
 
   t-in : (2 * (count + 2) ≤ c .t) × (c .t ≤ 3 * (count + 2))
   t-in = t-within count (c .t) (c .spare) (laid .places)
@@ -229,18 +290,18 @@ module _ {p count r : ℕ} {W : List ℕ} {c : Register} (ask : BeforeStep p cou
   -- z·t: nothing, then the coefficients that are held, then nothing
   zt-low : (i : ℕ) → i < 1 + c .shift → at (0 ∷ st .t) i ≡ 0
   zt-low zero l = refl
-  zt-low (suc i) l = sym (t-is i) ∙ power-low (c .shift) (part (c .t) (c .held) W) i (omega arith)
+  zt-low (suc i) l = power-low (c .shift) (part (c .t) (c .held) W) i (omega arith)
 
   zt-held : (i : ℕ) → i < c .held → at (0 ∷ st .t) (1 + c .shift + i) ≡ at W (c .t + i)
   zt-held i l =
       let e : 1 + c .shift + i ≡ suc (c .shift + i) = omega arith in
-      ap (at (0 ∷ st .t)) e ∙ sym (t-is (c .shift + i)) ∙ power-at (c .shift) (part (c .t) (c .held) W) i ∙ at-part (c .t) (c .held) W i l
+      ap (at (0 ∷ st .t)) e ∙ power-at (c .shift) (part (c .t) (c .held) W) i ∙ at-part (c .t) (c .held) W i l
 
   zt-end : (i : ℕ) → 1 + c .shift + c .held ≤ i → at (0 ∷ st .t) i ≡ 0
   zt-end zero l = absurd (omega arith)
   zt-end (suc i) l =
       let e : i ≡ c .shift + (i - c .shift) = omega arith in
-      sym (t-is i) ∙ ap (at (timesPower (c .shift) (part (c .t) (c .held) W))) e
+      ap (at (timesPower (c .shift) (part (c .t) (c .held) W))) e
       ∙ power-at (c .shift) (part (c .t) (c .held) W) (i - c .shift)
       ∙ part-past (c .t) (c .held) W (i - c .shift) t-room (omega arith)
 
@@ -254,7 +315,7 @@ module _ {p count r : ℕ} {W : List ℕ} {c : Register} (ask : BeforeStep p cou
         front = omega (arith, within, high, room);
         back = omega (arith, within, low);
         room = omega (arith, high, room);
-        left = λ i a l. omega (arith, q-element i (omega (arith, l, within, high)), ready .small);
+        left = λ i a l. omega (arith, sound .element i (omega (arith, l, within, high)), ready .small);
         right = λ i a l. omega (arith, ready .elements (r - 1 - i) (omega (arith, low)), ready .small);
       }
 
@@ -267,8 +328,7 @@ module _ {p count r : ℕ} {W : List ℕ} {c : Register} (ask : BeforeStep p cou
       (summed .sum ∙ zero-add (sumFrom 0 (c .L + 1) (cross W (count + 2) (r - 1)))
       ∙ sumFrom-zero (c .L + 1) (cross W (count + 2) (r - 1))
       ∙ sum-ext (c .L + 1) (cross W (count + 2) (r - 1)) (λ i. at (st .q) i * at s (r - 1 - i))
-      (λ i l. ap₂ _*_ (q-is i (omega (arith, l, within, high))) (sym (getD-take r W (r - 1 - i) 0 (omega (arith, low)))))
-      ∙ ap (λ n. sum (n + 1) (λ i. at (st .q) i * at s (r - 1 - i))) L-is)
+      (λ i l. ap₂ _*_ (q-is i (omega (arith, l, within, high))) (sym (getD-take r W (r - 1 - i) 0 (omega (arith, low))))))
 
   -- ---- the update
 
@@ -308,18 +368,18 @@ module _ {p count r : ℕ} {W : List ℕ} {c : Register} (ask : BeforeStep p cou
         (λ i l.
             let e : count + 2 + (1 + c .shift + i) ≡ count + 2 + 1 + c .shift + i = omega arith in
             subst (λ x. at W₁ x < p) e
-            (subst (λ x. x < p) (sym (q₁ (1 + c .shift + i) (omega (arith, l, laid .short, low, high)))) (regular .element (1 + c .shift + i)))),
+            (subst (λ x. x < p) (sym (q₁ (1 + c .shift + i) (omega (arith, l, laid .short, low, high)))) (element (1 + c .shift + i)))),
       )
 
       module _ {W′ : List ℕ} (w : Updated p k count c W₁ W′) where
         -- d/e
         quotient : k ≡ times p d (inverse p (st .e))
-        quotient = constant ∙ ap (times p d) (laid .inverted ∙ ap (inverse p) e-is)
+        quotient = constant ∙ ap (times p d) (laid .inverted)
 
         idle : (i : ℕ) → at (0 ∷ st .t) i ≡ 0 → at (st .q) i ≡ at (update p d st) i
         idle i e =
             sym (at-update p d st positive i ∙ ap (λ x. minus p (at (st .q) i) (times p (times p d (inverse p (st .e))) x)) e
-            ∙ ap (minus p (at (st .q) i)) (times-zero p (times p d (inverse p (st .e)))) ∙ minus-zero p (at (st .q) i) (regular .element i))
+            ∙ ap (minus p (at (st .q) i)) (times-zero p (times p d (inverse p (st .e)))) ∙ minus-zero p (at (st .q) i) (element i))
 
         inside : (i j : ℕ) → i ≡ 1 + c .shift + j → j < c .held → at W′ (count + 2 + i) ≡ at (update p d st) i
         inside i j e l =
@@ -341,6 +401,9 @@ module _ {p count r : ℕ} {W : List ℕ} {c : Register} (ask : BeforeStep p cou
             (λ past. w .after (count + 2 + i) (omega arith) ∙ q₁ i l ∙ idle i (zt-end i past))
             (lt-or-ge i (1 + c .shift + c .held)))
             (lt-or-ge i (1 + c .shift))
+
+        updated-beyond : (i : ℕ) → count + 2 ≤ i → at (update p d st) i ≡ 0
+        updated-beyond i l = sym (idle i (zt-end i (omega (arith, l, laid .short, low, high)))) ∙ beyond i l
 
         terms-stay : TermsStay count W W′
         terms-stay =
@@ -371,22 +434,57 @@ module _ {p count r : ℕ} {W : List ℕ} {c : Register} (ask : BeforeStep p cou
     d-is : d ≡ discrepancy p s r st
     d-is = discrepancy-is T d summed residue
 
-    -- a step that ends in the steps given
-    ending : (W′ : List ℕ) (c′ : Register) (st′ : Steps) → steps p s r ≡ st′ → length W′ ≡ length W → c′ .d ≡ d
-        → ((i : ℕ) → i < count + 2 → at W′ (count + 2 + i) ≡ at (st′ .q) i)
-        → ((i : ℕ) → at (timesPower (c′ .shift) (part (c′ .t) (c′ .held) W′)) i ≡ at (st′ .t) i)
-        → c′ .L ≡ st′ .L → c′ .e ≡ st′ .e → FollowsSteps p s r (c′ .d) (represented count W′ c′)
-    ending W′ c′ st′ end same-length found q t L e =
+    -- what is found is regular, and so is document 01's step of it
+    regular : Regular p (r - 1) st
+    regular =
         record {
-          d = λ l. found ∙ d-is;
-          q = q-whole p count r s W′ (ready .two) high (omega (arith, same-length, room)) (λ i l. q i l ∙ ap (λ x. at (x .q) i) (sym end));
-          t = λ i. t i ∙ ap (λ x. at (x .t) i) (sym end);
-          L = L ∙ ap (λ x. x .L) (sym end);
-          e = e ∙ ap (λ x. x .e) (sym end);
+          within = within;
+          element = element;
+          q-end = past;
+          t-end = λ i l. zt-end i (omega (arith, l, laid .end, low));
         }
 
+    stepped : Regular p r (step p s r st)
+    stepped =
+        let e : suc (r - 1) ≡ r = omega (arith, low) in
+        subst (λ n. Regular p n (step p s n st)) e (step-regular p (ready .two) regular s)
+
+    -- a step that ends in the steps given
+    ending : (W′ : List ℕ) (c′ : Register) (st′ : Steps) → step p s r st ≡ st′ → length W′ ≡ length W → c′ .d ≡ d
+        → ((i : ℕ) → i < count + 2 → at W′ (count + 2 + i) ≡ at (st′ .q) i) → ((i : ℕ) → count + 2 ≤ i → at (st′ .q) i ≡ 0)
+        → ((i : ℕ) → at (timesPower (c′ .shift) (part (c′ .t) (c′ .held) W′)) i ≡ at (st′ .t) i)
+        → c′ .L ≡ st′ .L → c′ .e ≡ st′ .e → Laid p count r c′ → TermsStay count W W′ → MakesStep p count r W c W′ c′
+    ending W′ c′ st′ end same-length found q q-end t L e laid′ stay =
+        record {
+          step = is;
+          follows = λ f. follows-next W (ready .two) low f is;
+          sound =
+              record {
+                within = omega (arith, is .1 .L, stepped .within);
+                element = λ i l. subst (λ x. x < p) (sym (place i l)) (stepped .element i);
+                end = λ i l h. place i l ∙ stepped .q-end i (subst (λ x. x < i) (is .1 .L) h);
+                laid = laid′;
+              };
+          stay = stay;
+        }
+      where
+        is : IsStep p s r st (c′ .d) (represented count W′ c′)
+        is = (
+          found ∙ d-is,
+          record {
+            q = λ i. q-whole count W′ (st′ .q) (omega (arith, same-length, room)) q q-end i ∙ ap (λ x. at (x .q) i) (sym end);
+            t = λ i. t i ∙ ap (λ x. at (x .t) i) (sym end);
+            L = L ∙ ap (λ x. x .L) (sym end);
+            e = e ∙ ap (λ x. x .e) (sym end);
+          },
+        )
+
+        place : (i : ℕ) → i < count + 2 → at W′ (count + 2 + i) ≡ at (step p s r st .q) i
+        place i l = sym (at-part (count + 2) (count + 2) W′ i l) ∙ is .1 .q i
+
     shifted-laid : Laid p count r (shifted d c)
-    shifted-laid = record { places = laid .places; short = omega (arith, laid .short, low); inverted = laid .inverted }
+    shifted-laid =
+        record { places = laid .places; short = omega (arith, laid .short, low); end = omega (arith, laid .end, low); inverted = laid .inverted }
 
     -- t = z·t
     t-shifted : (W′ : List ℕ) → part (c .t) (c .held) W′ ≡ part (c .t) (c .held) W
@@ -394,38 +492,30 @@ module _ {p count r : ℕ} {W : List ℕ} {c : Register} (ask : BeforeStep p cou
     t-shifted W′ stays i =
         ap (λ x. at (timesPower (c .shift + 1) x) i) stays
         ∙ ap (λ x. at x i) (power-next (c .shift) (part (c .t) (c .held) W))
-        ∙ z-same (timesPower (c .shift) (part (c .t) (c .held) W)) (st .t) t-is i
 
-    pub after-zero : d ≡ 0 → FollowsSteps p s r d (represented count W (shifted d c)) × (Laid p count r (shifted d c) × TermsStay count W W)
-    after-zero z = (
-      ending W (shifted d c) (record { q = st .q; t = 0 ∷ st .t; L = st .L; e = st .e })
-          (steps-at p s r low ∙ step-zero p s r st (sym d-is ∙ z)) refl refl q-is (t-shifted W refl) L-is e-is,
-      (shifted-laid, stay-same),
-    )
+    pub after-zero : d ≡ 0 → MakesStep p count r W c W (shifted d c)
+    after-zero z =
+        ending W (shifted d c) (record { q = st .q; t = 0 ∷ st .t; L = st .L; e = st .e }) (step-zero p s r st (sym d-is ∙ z)) refl refl q-is beyond
+        (t-shifted W refl) refl refl shifted-laid stay-same
 
     module _ (nonzero : d ≢ 0) {W₁ : List ℕ} {size : ℕ} (kept : Kept count W W₁ c size) (k : ℕ) (constant : k ≡ times p d (c .inverse)) {W′ : List ℕ}
         (w : Updated p k count c W₁ W′) where
-      pub after-stay : r ≤ 2 * c .L → FollowsSteps p s r d (represented count W′ (shifted d c)) × (Laid p count r (shifted d c) × TermsStay count W W′)
-      after-stay long = (
-        ending W′ (shifted d c) (record { q = update p d st; t = 0 ∷ st .t; L = st .L; e = st .e })
-            (steps-at p s r low ∙ step-stay p s r st (λ z. nonzero (d-is ∙ z)) (subst (λ x. r ≤ 2 * x) L-is long)
-            ∙ ap {B = Steps} (λ x. record { q = update p x st; t = 0 ∷ st .t; L = st .L; e = st .e }) (sym d-is))
-            (terms-stay kept d k constant w .same-length) refl (updated kept d k constant w) (t-shifted W′ (t-stays kept d k constant w)) L-is e-is,
-        (shifted-laid, terms-stay kept d k constant w),
-      )
+      pub after-stay : r ≤ 2 * c .L → MakesStep p count r W c W′ (shifted d c)
+      after-stay long =
+          ending W′ (shifted d c) (record { q = update p d st; t = 0 ∷ st .t; L = st .L; e = st .e })
+          (step-stay p s r st (λ z. nonzero (d-is ∙ z)) long
+          ∙ ap {B = Steps} (λ x. record { q = update p x st; t = 0 ∷ st .t; L = st .L; e = st .e }) (sym d-is))
+          (terms-stay kept d k constant w .same-length) refl (updated kept d k constant w) (updated-beyond kept d k constant w)
+          (t-shifted W′ (t-stays kept d k constant w)) refl refl shifted-laid (terms-stay kept d k constant w)
 
-      pub after-grow : size ≡ c .L + 1 → 2 * c .L < r → (y : ℕ) → y ≡ inverse p d
-          → FollowsSteps p s r d (represented count W′ (lengthened r d y c)) × (Laid p count r (lengthened r d y c) × TermsStay count W W′)
-      after-grow whole short y inverted = (
-        ending W′ (lengthened r d y c) (record { q = update p d st; t = st .q; L = r - st .L; e = d })
-            (steps-at p s r low ∙ step-grow p s r st (λ z. nonzero (d-is ∙ z)) (subst (λ x. 2 * x < r) L-is short)
-            ∙ ap {B = Steps} (λ x. record { q = update p x st; t = st .q; L = r - st .L; e = x }) (sym d-is))
-            (terms-stay kept d k constant w .same-length) refl (updated kept d k constant w) t (ap (λ x. r - x) L-is) refl,
-        (
-          record { places = exchanged count (c .t) (c .spare) (laid .places); short = omega (arith, within, low); inverted = inverted },
-          terms-stay kept d k constant w,
-        ),
-      )
+      pub after-grow : size ≡ c .L + 1 → 2 * c .L < r → (y : ℕ) → y ≡ inverse p d → MakesStep p count r W c W′ (lengthened r d y c)
+      after-grow whole short y inverted =
+          ending W′ (lengthened r d y c) (record { q = update p d st; t = st .q; L = r - st .L; e = d })
+          (step-grow p s r st (λ z. nonzero (d-is ∙ z)) short
+          ∙ ap {B = Steps} (λ x. record { q = update p x st; t = st .q; L = r - st .L; e = x }) (sym d-is))
+          (terms-stay kept d k constant w .same-length) refl (updated kept d k constant w) (updated-beyond kept d k constant w) t refl refl
+          (record { places = exchanged count (c .t) (c .spare) (laid .places); short = omega (arith, within, low); end = omega (arith, within, low); inverted = inverted })
+          (terms-stay kept d k constant w)
         where
           fits : c .spare + (c .L + 1) ≤ length W′
           fits = omega (arith, copying .1, terms-stay kept d k constant w .same-length)

@@ -2,4 +2,5 @@
 pub mod Convolution
 pub mod Recurrence
 pub mod Steps
+pub mod OneStep
 pub mod Factor

@@ -1,28 +1,32 @@
 -- What the contracts of the shortest recurrence say. It runs in a slice of four regions of count + 2 places, of which the first holds the terms and the
 -- second q; what stands there after each r is said in specs/Steps.antt.
 --     Ready            what the steps ask: p of 2 to 2³¹ − 1, prime or not; `count` terms at the slice's front, all below p; room for four regions
---     Reversed         a slice after L + 1 places of it, from a on, were put in reverse order
+--     Reversed         a slice after L + 1 places of it, from a on, were put in reverse order; reversed-lent: the part was lent
 --     HoldsGenerator   a slice before and after the core: L, and f with zeros after it in the second region
---     termsRefusal     3, 8, 11 and 9 of terms at the front of a slice
+--     roomChecks       3, 8 and 11 of the regions: p of 2 to 2³¹ − 1, prime or not; at most 8,192 terms; the slice
+--     termsRefusal     these, and 9 of terms at the front of the slice
 --     Generates        what a call in place answers and leaves
 --     terms-ready, terms-taken      terms in place that no check turns down are ready, and back
 --     GivesDegree      what each case of an answer says: document 01's number of the refusal, 0 for none, and L
 --     Recurred         what a call answers and leaves, and Massey's promise of it
-use mathlib.Core.Path.{_≡_, sym, subst}
+use mathlib.Core.Path.{_≡_, refl, sym, ap, _∙_, subst}
 use mathlib.Core.Logic.{_≢_}
 use mathlib.Core.Bool.{not}
-use mathlib.Core.List.{List, [], _∷_}
+use mathlib.Core.List.{List, [], _∷_, _++_}
 use Prim.Native.Nat.{ℕ, _+_, _-_, _*_, _≤_, _<_}
 use native.Mathlib.Omega.{arith}
 use lib.Dec.{leb}
 use lib.ListN.{length, take, drop}
 use lib.Seq.{getD-take, length-take-le}
 use borrow.Author.Tests.{leb-true, ltb-true, le-leb}
-use Rattle.meaning.specs.List.{at, padded}
+use Rattle.meaning.specs.List.{at, table, every, padded}
 use Rattle.meaning.specs.Recurrence.{IsShortest, degree, generator}
-use Rattle.meaning.specs.Refusal.{check, first, within, elements}
-use Rattle.laws.specs.List.{every-at}
-use Rattle.laws.specs.Refusal.{first-nil, first-passed, first-pass, within-low, within-high, within-of}
+use Rattle.meaning.specs.Refusal.{Check, check, first, within, elements}
+use Rattle.laws.specs.List.{every-at, table-ext}
+use Rattle.laws.specs.Written.{Written, written-all}
+use Rattle.laws.specs.Part.{part, length-part, at-part}
+use Rattle.laws.specs.Lent.{lent, written-lent}
+use Rattle.laws.specs.Refusal.{Numbered, first-nil, first-passed, first-pass, within-low, within-high, within-of}
 use Rattle.checks.specs.Valid.{elements-of}
 use Rattle.meaning.specs.Calls.{recurrenceRefusal, recurrenceAnswer, recurrenceAfter}
 use Rattle.recurrence.specs.declared.Answer.{Answer}
@@ -35,25 +39,36 @@ pub record Ready (p count : ℕ) (W : List ℕ) : Type 0 where
   pub room : 4 * count + 8 ≤ length W
   pub elements : (i : ℕ) → i < count → at W i < p
 
-pub record Reversed (W : List ℕ) (a L : ℕ) (W′ : List ℕ) : Type 0 where
-  pub same-length : length W′ ≡ length W
-  pub inside : (k : ℕ) → k ≤ L → at W′ (a + k) ≡ at W (a + (L - k))
-  pub before : (k : ℕ) → k < a → at W′ k ≡ at W k
-  pub after : (k : ℕ) → a + L < k → at W′ k ≡ at W k
+abbrev pub Reversed : List ℕ → ℕ → ℕ → List ℕ → Type 0
+Reversed W a L W′ = Written W a (L + 1) (λ k. at W (a + (L - k))) W′
+
+pub reversed-lent : (W : List ℕ) (a L n : ℕ) (Y : List ℕ) → n ≡ L + 1 → a + n ≤ length W
+    → Y ≡ table (length (part a n W)) (λ i. at (part a n W) (length (part a n W) - 1 - i)) → Reversed W a L (lent W a n Y)
+reversed-lent W a L n Y e fits turned =
+    written-all e
+    (written-lent W a n (λ k. at W (a + (L - k))) Y fits
+    (turned ∙ ap (λ m. table m (λ i. at (part a n W) (m - 1 - i))) size
+    ∙ table-ext n (λ i. at (part a n W) (n - 1 - i)) (λ k. at W (a + (L - k)))
+    (λ i l. at-part a n W (n - 1 - i) (omega (arith, l)) ∙ ap (at W) (omega (arith, e, l)))))
+  where
+    size : length (part a n W) ≡ n
+    size = length-part a n W fits
 
 pub record HoldsGenerator (p count : ℕ) (W W′ : List ℕ) (L : ℕ) : Type 0 where
   pub answer : L ≡ degree p (take count W)
   pub f : take (count + 2) (drop (count + 2) W′) ≡ padded (count + 2) (generator p (take count W))
   pub terms : take (count + 2) W′ ≡ take (count + 2) W
 
+unfoldable pub roomChecks : ℕ → ℕ → List ℕ → List Check
+roomChecks p count W =
+    check 3 (not (within 2 2147483647 p)) ∷ check 8 (not (leb count 8192)) ∷ check 11 (not (leb (4 * count + 8) (length W))) ∷ []
+
+pub numbered-room : (p count : ℕ) (W : List ℕ) → Numbered (roomChecks p count W)
+unfolding roomChecks every
+numbered-room p count W = refl
+
 unfoldable pub termsRefusal : ℕ → ℕ → List ℕ → ℕ
-termsRefusal p count W =
-    first
-    (check 3 (not (within 2 2147483647 p))
-    ∷ check 8 (not (leb count 8192))
-    ∷ check 11 (not (leb (4 * count + 8) (length W)))
-    ∷ check 9 (not (elements p (take count W)))
-    ∷ [])
+termsRefusal p count W = first (roomChecks p count W ++ (check 9 (not (elements p (take count W))) ∷ []))
 
 pub record Generates (p count : ℕ) (W : List ℕ) (r : Answer) (W′ : List ℕ) : Type 0 where
   pub degree : (L : ℕ) → r ≡ Degree L → (termsRefusal p count W ≡ 0) × HoldsGenerator p count W W′ L
@@ -75,7 +90,7 @@ pub record Recurred (p : ℕ) (s polynomial work : List ℕ) (r : Answer) (polyn
 -- ---- terms in place
 
 pub terms-ready : (p count : ℕ) (W : List ℕ) → termsRefusal p count W ≡ 0 → Ready p count W
-unfolding termsRefusal elements
+unfolding termsRefusal roomChecks elements
 terms-ready p count W z =
     let a = first-passed 3 (within 2 2147483647 p) _ (omega arith) z in
     let b = first-passed 8 (leb count 8192) _ (omega arith) (a .1) in
@@ -92,7 +107,7 @@ terms-ready p count W z =
     }
 
 pub terms-taken : {p count : ℕ} {W : List ℕ} → Ready p count W → termsRefusal p count W ≡ 0
-unfolding termsRefusal
+unfolding termsRefusal roomChecks
 terms-taken {p} {count} {W} h =
     first-pass 3 (within 2 2147483647 p) _ (within-of 2 2147483647 p (h .two) (h .small))
     (first-pass 8 (leb count 8192) _ (le-leb count 8192 (h .few))

@@ -9,36 +9,38 @@
 // turns. t is never moved: `shift` says how often it was multiplied by z.
 //
 // The contracts cite the crate meaning (Recurrence: the steps) and specs/Steps.antt: FollowsSteps, that d, q, t, L and e are those of document
-// 01's steps, and apart from it how regions and register stand for them (represented, Laid); of the whole, specs/Recurrence.antt.
+// 01's steps, MakesStep, that a step keeps it, and apart from them how regions and register stand for these (represented, Laid); of the whole,
+// specs/Recurrence.antt.
 use crate::convolution::crossed;
 use modular::modulus::Modulus;
 use modular::multiplier::Multiplier;
 use slices::clear;
 use slices::copy_within;
+use slices::reverse;
 ghost use Prim.Native.Nat.{ℕ, _+_, _≤_, _<_};
 ghost use lib.ListN.{length, take};
 ghost use Rattle.meaning.specs.List.{at};
 ghost use Rattle.meaning.specs.Field.{minus, times};
 ghost use Rattle.modular.specs.Modulus.{Modular};
 ghost use Rattle.laws.specs.Written.{Written};
-ghost use Rattle.recurrence.specs.Recurrence.{Ready, HoldsGenerator, Reversed};
-ghost use Rattle.recurrence.specs.Steps.{FollowsSteps, represented, Laid, TermsStay, FirstTerms, BeforeStep};
+ghost use Rattle.recurrence.specs.Recurrence.{Ready, HoldsGenerator};
+ghost use Rattle.recurrence.specs.Steps.{FollowsSteps, represented, Laid, TermsStay, FirstTerms, Sound, BeforeStep, MakesStep, MakesSteps};
 
 // What the steps keep beside the regions.
-pub(crate) struct Register {
+pub struct Register {
     // d, the discrepancy of r; before the first r it says nothing
-    pub(crate) d: u32,
+    pub d: u32,
     // t: `held` coefficients, which stand from `t` on, times z to the power `shift`
-    pub(crate) t: usize,
-    pub(crate) held: usize,
-    pub(crate) shift: usize,
+    pub t: usize,
+    pub held: usize,
+    pub shift: usize,
     // L
-    pub(crate) L: usize,
+    pub L: usize,
     // e, and its inverse
-    pub(crate) e: u32,
-    pub(crate) inverse: u32,
+    pub e: u32,
+    pub inverse: u32,
     // the region that t leaves free
-    pub(crate) spare: usize,
+    pub spare: usize,
 }
 
 // ---- parts of the slice
@@ -55,22 +57,6 @@ fn subtract(m: Modulus, factor: u32, work: &mut [u32], q: usize, t: usize, size:
     while i < size {
         work[q + i] = m.difference(work[q + i], k.times(m.p, work[t + i]));
         i += 1;
-    }
-}
-
-// The `length` + 1 places from `from` on, in reverse order.
-fn reverse(work: &mut [u32], from: usize, length: usize)
-    requires { ⌜ from + length < lib.ListN.length (now work) ⌝ }
-    ensures { λ _. ⌜ Reversed (now (work .entry)) from length (now (work .exit)) ⌝ }
-{
-    let mut i = 0;
-    let mut j = length;
-    while i < j {
-        let low = work[from + i];
-        work[from + i] = work[from + j];
-        work[from + j] = low;
-        i += 1;
-        j -= 1;
     }
 }
 
@@ -98,7 +84,8 @@ pub(crate) fn start(p: u32, count: usize, work: &mut [u32]) -> Register
     }
 }
 
-// The body of the loop: d, q, t, L and e of r − 1 become those of r. Of the terms the first r are read, and no later one.
+// The body of the loop: d, q, t, L and e of r − 1 become those of r. Of the terms the first r are read, and no later one; how q, t, L and e came
+// about is not asked.
 pub(crate) fn step(
     m: Modulus,
     count: usize,
@@ -107,8 +94,7 @@ pub(crate) fn step(
     before: Register,
 ) -> Register
     requires { ⌜ BeforeStep (m .p) count r (now work) before × Modular m ⌝ }
-    ensures { λ after. ⌜ FollowsSteps (m .p) (take r (now (work .entry))) r (after .d) (represented count (now (work .exit)) after) ⌝ }
-    ensures { λ after. ⌜ Laid (m .p) count r after × TermsStay count (now (work .entry)) (now (work .exit)) ⌝ }
+    ensures { λ after. ⌜ MakesStep (m .p) count r (now (work .entry)) before (now (work .exit)) after ⌝ }
 {
     let q = count + 2;
     let mut after = before;
@@ -144,18 +130,37 @@ pub(crate) fn step(
     after
 }
 
+// The steps for r = `from` + 1 to `to`. (The one place that makes a step, so that it is compiled into the loop.)
+pub(crate) fn make_steps(
+    m: Modulus,
+    count: usize,
+    work: &mut [u32],
+    from: usize,
+    to: usize,
+    before: Register,
+) -> Register
+    requires { ⌜ (from ≤ to) × FirstTerms (m .p) count to (now work) × Sound (m .p) count from (now work) before × Modular m ⌝ }
+    ensures { λ after. ⌜ MakesSteps (m .p) count from to (now (work .entry)) before (now (work .exit)) after ⌝ }
+{
+    let mut c = before;
+    let mut r = from;
+    while r < to {
+        r += 1;
+        c = step(m, count, work, r, c);
+    }
+    c
+}
+
 // For r = 1, 2, ..: the shortest recurrence of the `count` terms at the front of `work`, its degree L, and f in the second region, zeros
 // after it. f ← λ^l·Λ(1/λ) is q in reverse order.
 pub(crate) fn shortest(m: Modulus, count: usize, work: &mut [u32]) -> usize
     requires { ⌜ Ready (m .p) count (now work) × Modular m ⌝ }
     ensures { λ L. ⌜ HoldsGenerator (m .p) count (now (work .entry)) (now (work .exit)) L ⌝ }
 {
-    let mut c = start(m.p, count, work);
-    let mut r = 0;
-    while r < count {
-        r += 1;
-        c = step(m, count, work, r, c);
-    }
-    reverse(work, count + 2, c.L);
+    let fresh = start(m.p, count, work);
+    let c = make_steps(m, count, work, 0, count, fresh);
+    let q = count + 2;
+    let end = q + (c.L + 1);
+    reverse(&mut work[q..end]);
     c.L
 }

@@ -22,7 +22,7 @@ use borrow.Author.Tests.{ltb-true, ltb-false, eq-eqb, ne-eqb}
 use Rattle.meaning.specs.List.{least}
 use Rattle.meaning.specs.Field.{inverse}
 use Rattle.residue.specs.Numbers.{mul-mod-mod, mod-mul-mod}
-use Rattle.residue.specs.Least.{least-is, least-none}
+use Rattle.laws.specs.Least.{least-is, least-none}
 use Rattle.residue.specs.Prime.{Prime}
 
 -- ---- any modulus

@@ -1,7 +1,6 @@
 -- the crate's root
 pub mod Numbers
 pub mod Prime
-pub mod Least
 pub mod Inverse
 pub mod Residue
 pub mod Lists

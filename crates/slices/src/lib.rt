@@ -1,9 +1,10 @@
-// Places of slices of 32-bit numbers: read, written, cleared, copied, and whether all are zero. Every function answers for all inputs.
+// Places of slices of 32-bit numbers: read, written, cleared, copied, put in reverse order, and whether all are zero. Every function answers for all inputs.
 //
 // The contracts cite the crates meaning (List) and laws (Written), and specs/Copy.antt (what a copy within one slice leaves).
 ghost use mathlib.Core.Path.{_≡_};
-ghost use lib.ListN.{length, set};
-ghost use Rattle.meaning.specs.List.{at, zeros, padded, isZero};
+ghost use Prim.Native.Nat.{_-_};
+ghost use lib.ListN.{length};
+ghost use Rattle.meaning.specs.List.{at, table, zeros, padded, isZero};
 ghost use Rattle.slices.specs.Copy.{Copies};
 
 // Element i of v, 0 past its end.
@@ -27,15 +28,6 @@ pub fn is_zero(v: &[u32]) -> bool
     true
 }
 
-// x into place i; past the end nothing is written.
-pub fn put(out: &mut [u32], i: usize, x: u32)
-    ensures { λ _. ⌜ now (out .exit) ≡ set (now (out .entry)) i x ⌝ }
-{
-    if i < out.len() {
-        out[i] = x;
-    }
-}
-
 // Zeros in every place.
 pub fn clear(out: &mut [u32])
     ensures { λ _. ⌜ now (out .exit) ≡ zeros (length (now (out .entry))) ⌝ }
@@ -43,6 +35,21 @@ pub fn clear(out: &mut [u32])
     let mut i = 0;
     while i < out.len() {
         out[i] = 0;
+        i += 1;
+    }
+}
+
+// All places in reverse order.
+pub fn reverse(v: &mut [u32])
+    ensures { λ _. ⌜ now (v .exit) ≡ table (length (now (v .entry))) (λ i. at (now (v .entry)) (length (now (v .entry)) - 1 - i)) ⌝ }
+{
+    let n = v.len();
+    let mut i = 0;
+    while i < n / 2 {
+        let j = n - 1 - i;
+        let low = v[i];
+        v[i] = v[j];
+        v[j] = low;
         i += 1;
     }
 }

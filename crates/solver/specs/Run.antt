@@ -24,7 +24,7 @@ use lib.ListN.{length, take, drop, getD, set, length-set, length-append, take-ap
 use lib.Seq.{take-suc, take-all, getD-set-same, getD-set-other}
 use Rattle.meaning.specs.List.{at, isZero, padded}
 use Rattle.meaning.specs.Matrix.{Matrix, size, multiplied}
-use Rattle.meaning.specs.Refusal.{check, first, elements, matrixChecks, wordsTaken}
+use Rattle.meaning.specs.Refusal.{check, first, elements, matrixChecks, wordsTaken, windowTaken}
 use Rattle.meaning.specs.Calls.{systemChecks, runChecks}
 use Rattle.meaning.specs.Recurrence.{degree}
 use Rattle.meaning.specs.Solver.{Pass, Run, projections, begin, spent, billed, pass, run}
@@ -61,13 +61,13 @@ pub record CheckedSystem (p : ℕ) (A : Matrix) (b : List ℕ) : Type 0 where
   pub valid : Valid p A
   pub accepted : Accepted p A b
 
-pub system-of : (p : ℕ) (A : Matrix) (b words : List ℕ) → first (runChecks p A b words) ≡ 0 → CheckedSystem p A b
+pub system-of : (p : ℕ) (A : Matrix) (b words : List ℕ) (w : ℕ) → first (runChecks p A b words w) ≡ 0 → CheckedSystem p A b
 unfolding runChecks systemChecks
-system-of p A b words e =
-    record { checked = matrix; valid = valid-of (run-accepted p A b words e .system); accepted = accepted p A b words e }
+system-of p A b words w e =
+    record { checked = matrix; valid = valid-of (run-accepted p A b words w e .system); accepted = accepted p A b words w e }
   where
     system : first (systemChecks p A b) ≡ 0
-    system = first-append-zero (systemChecks p A b) (check 10 (not (wordsTaken (size A) words)) ∷ []) (numbered-system p A b) e .0
+    system = first-append-zero (systemChecks p A b) (check 10 (not (wordsTaken (size A) words)) ∷ check 13 (not (windowTaken w)) ∷ []) (numbered-system p A b) e .0
 
     matrix : first (matrixChecks p A) ≡ 0
     matrix = first-append-zero (matrixChecks p A) (vectorChecks p A b) (numbered-matrix p A) system .0
@@ -89,11 +89,11 @@ pub record Fits (c : Counts) (q : CodePass) : Type 0 where
   pub degree-low : c .degree ≤ 4096
   pub passes-low : c .passes < 65536
   pub applications-low : c .applications < 4294967296
-  pub multiplied-low : c .multiplied ≤ 8796093022208
+  pub multiplied-low : c .multiplied ≤ 13194139533312
   pub left-low : q .left ≤ 4096
   pub found-low : q .degree ≤ 8192
-  pub cost-low : q .applications ≤ 16384
-  pub entries-low : q .multiplied ≤ 1073741824
+  pub cost-low : q .applications ≤ 24576
+  pub entries-low : q .multiplied ≤ 1610612736
 
 -- b in r's place, which was lent, and 1 in F's first: the run's beginning
 pub begun : (W b : List ℕ) (from m : ℕ) (Y : List ℕ) → from ≡ residualAt (length b) → m ≡ length b → from + m ≤ length W → Y ≡ padded m b
@@ -127,60 +127,60 @@ begun W b from m Y e f fits y = (long, ap₂ {C = Run} (λ r F. record { residua
 
 -- ---- the run
 
-module _ (p : ℕ) (h : Prime p) (A : Matrix) (b : List ℕ) where
-  pub run-append : (us vs : List (List ℕ)) (c : Run) → run p A (us ++ vs) c ≡ run p A vs (run p A us c)
-  run-append [] vs c = ap (run p A vs) (sym (run-nil p h A b c))
-  run-append (u ∷ us) vs c = go (test-cases (isZero (c .residual))) (run-append us vs (pass p A u c))
+module _ (p : ℕ) (h : Prime p) (A : Matrix) (b : List ℕ) (w : ℕ) where
+  pub run-append : (us vs : List (List ℕ)) (c : Run) → run p A w (us ++ vs) c ≡ run p A w vs (run p A w us c)
+  run-append [] vs c = ap (run p A w vs) (sym (run-nil p h A b w c))
+  run-append (u ∷ us) vs c = go (test-cases (isZero (c .residual))) (run-append us vs (pass p A w u c))
     where
-      go : (isZero (c .residual) ≡ true) ⊎ (isZero (c .residual) ≡ false) → run p A (us ++ vs) (pass p A u c) ≡ run p A vs (run p A us (pass p A u c))
-          → run p A (u ∷ us ++ vs) c ≡ run p A vs (run p A (u ∷ us) c)
+      go : (isZero (c .residual) ≡ true) ⊎ (isZero (c .residual) ≡ false) → run p A w (us ++ vs) (pass p A w u c) ≡ run p A w vs (run p A w us (pass p A w u c))
+          → run p A w (u ∷ us ++ vs) c ≡ run p A w vs (run p A w (u ∷ us) c)
       go (inl z) ih =
-          run-stop p h A b u (us ++ vs) c z ∙ sym (ap (run p A vs) (run-stop p h A b u us c z) ∙ run-rest p h A b vs c z)
-      go (inr z) ih = run-pass p h A b u (us ++ vs) c z ∙ ih ∙ ap (run p A vs) (sym (run-pass p h A b u us c z))
+          run-stop p h A b w u (us ++ vs) c z ∙ sym (ap (run p A w vs) (run-stop p h A b w u us c z) ∙ run-rest p h A b w vs c z)
+      go (inr z) ih = run-pass p h A b w u (us ++ vs) c z ∙ ih ∙ ap (run p A w vs) (sym (run-pass p h A b w u us c z))
 
   -- one projection more, while r is not zero
-  pub run-more : (us : List (List ℕ)) (j : ℕ) (c : Run) → j < length us → isZero (run p A (take j us) c .residual) ≡ false
-      → run p A (take (j + 1) us) c ≡ pass p A (getD us j []) (run p A (take j us) c)
+  pub run-more : (us : List (List ℕ)) (j : ℕ) (c : Run) → j < length us → isZero (run p A w (take j us) c .residual) ≡ false
+      → run p A w (take (j + 1) us) c ≡ pass p A w (getD us j []) (run p A w (take j us) c)
   run-more us j c l z =
-      ap (λ vs. run p A vs c) (ap (λ k. take k us) (add-one j) ∙ take-suc us j [] l) ∙ run-append (take j us) (getD us j [] ∷ []) c
-      ∙ run-pass p h A b (getD us j []) [] (run p A (take j us) c) z ∙ run-nil p h A b (pass p A (getD us j []) (run p A (take j us) c))
+      ap (λ vs. run p A w vs c) (ap (λ k. take k us) (add-one j) ∙ take-suc us j [] l) ∙ run-append (take j us) (getD us j [] ∷ []) c
+      ∙ run-pass p h A b w (getD us j []) [] (run p A w (take j us) c) z ∙ run-nil p h A b w (pass p A w (getD us j []) (run p A w (take j us) c))
 
   module _ (size-b : length b ≡ size A) (reduced-b : (i : ℕ) → i < length b → getD b i 0 < p) (us : List (List ℕ)) where
     open Field (residues p h) using (ring as R)
 
     -- while r is not zero, less than n has been found
-    pub run-left : isZero (run p A us (begin b) .residual) ≡ false → run p A us (begin b) .found < size A
-    run-left z = go (decLt (run p A us (begin b) .found) (size A))
+    pub run-left : isZero (run p A w us (begin b) .residual) ≡ false → run p A w us (begin b) .found < size A
+    run-left z = go (decLt (run p A w us (begin b) .found) (size A))
       where
         c : Run
-        c = run p A us (begin b)
+        c = run p A w us (begin b)
 
         full : size A ≤ c .found → isZero (c .residual) ≡ true
         full l =
-            null-isZero p h (c .residual) (run-begun p h A b size-b reduced-b us .stands .reduced-residual)
+            null-isZero p h (c .residual) (run-begun p h A b size-b reduced-b w us .stands .reduced-residual)
             (kept-full (residues p h) (size A) (operator p h A) (coef p h b) (operator-linear p h A) (λ i k. coef-below p h b i (omega arith))
             (kept (residues p h) (size A) (operator p h A) (coef p h b) (operator-linear p h A) (λ i k. coef-below p h b i (omega arith))
-            (run-begun p h A b size-b reduced-b us .stands .reached)) l)
+            (run-begun p h A b size-b reduced-b w us .stands .reached)) l)
 
         go : Dec (c .found < size A) → c .found < size A
         go (yes l) = l
         go (no l) = never (isZero (c .residual)) (full (omega (arith, l))) z
 
-pub record Midway (p : ℕ) (A : Matrix) (b words B B′ W : List ℕ) (j : ℕ) (c : Counts) : Type 0 where
+pub record Midway (p : ℕ) (A : Matrix) (b words : List ℕ) (w : ℕ) (B B′ W : List ℕ) (j : ℕ) (c : Counts) : Type 0 where
   pub made : List Pass
   pub bill : B′ ≡ billed B made
   pub passes : c .passes ≡ length made
   pub used : length made ≡ j
   pub applications : c .applications ≡ spent made
   pub by-entry : c .multiplied ≡ multiplied (c .applications) A
-  pub few : c .applications ≤ j * 16384
+  pub few : c .applications ≤ j * 24576
   pub room : 16 * size A + 16 ≤ length W
   pub within : j ≤ length (projections p (size A) words)
-  pub state : held (size A) W (c .degree) made ≡ run p A (take j (projections p (size A) words)) (begin b)
+  pub state : held (size A) W (c .degree) made ≡ run p A w (take j (projections p (size A) words)) (begin b)
 
-pub midway-begin : {p : ℕ} {A : Matrix} {b words B W : List ℕ} → CheckedSystem p A b → 16 * size A + 16 ≤ length W → held (size A) W 0 [] ≡ begin b
-    → Midway p A b words B B W 0 none
-midway-begin {p} {A} {b} {words} {B} {W} s room e =
+pub midway-begin : {p : ℕ} {A : Matrix} {b words : List ℕ} {w : ℕ} {B W : List ℕ} → CheckedSystem p A b → 16 * size A + 16 ≤ length W → held (size A) W 0 [] ≡ begin b
+    → Midway p A b words w B B W 0 none
+midway-begin {p} {A} {b} {words} {w} {B} {W} s room e =
     record {
       made = [];
       bill = sym (billed-nil B);
@@ -191,28 +191,28 @@ midway-begin {p} {A} {b} {words} {B} {W} s room e =
       few = omega arith;
       room = room;
       within = omega arith;
-      state = e ∙ sym (run-nil p (s .accepted .prime) A b (begin b));
+      state = e ∙ sym (run-nil p (s .accepted .prime) A b w (begin b));
     }
 
-pub record Finished (p : ℕ) (A : Matrix) (b words B B′ W : List ℕ) (c : Counts) : Type 0 where
+pub record Finished (p : ℕ) (A : Matrix) (b words : List ℕ) (w : ℕ) (B B′ W : List ℕ) (c : Counts) : Type 0 where
   pub made : List Pass
   pub bill : B′ ≡ billed B made
   pub passes : c .passes ≡ length made
   pub applications : c .applications ≡ spent made
   pub by-entry : c .multiplied ≡ multiplied (c .applications) A
-  pub few : c .applications ≤ 134217728
+  pub few : c .applications ≤ 201326592
   pub room : 16 * size A + 16 ≤ length W
-  pub state : held (size A) W (c .degree) made ≡ run p A (projections p (size A) words) (begin b)
+  pub state : held (size A) W (c .degree) made ≡ run p A w (projections p (size A) words) (begin b)
 
-module _ {p : ℕ} {A : Matrix} {b words B B′ W : List ℕ} {j : ℕ} {c : Counts} (s : CheckedSystem p A b) (most : length (projections p (size A) words) ≤ 8192)
-    (m : Midway p A b words B B′ W j c) where
+module _ {p : ℕ} {A : Matrix} {b words : List ℕ} {w : ℕ} {B B′ W : List ℕ} {j : ℕ} {c : Counts} (s : CheckedSystem p A b) (most : length (projections p (size A) words) ≤ 8192)
+    (m : Midway p A b words w B B′ W j c) where
   h : Prime p
   h = s .accepted .prime
 
   us : List (List ℕ)
   us = projections p (size A) words
 
-  zeroed : isZero (run p A (take j (projections p (size A) words)) (begin b) .residual) ≡ isZero (part (residualAt (size A)) (size A) W)
+  zeroed : isZero (run p A w (take j (projections p (size A) words)) (begin b) .residual) ≡ isZero (part (residualAt (size A)) (size A) W)
   zeroed = ap (λ (q : Run). isZero (q .residual)) (sym (m .state))
 
   pub midway-less : isZero (part (residualAt (size A)) (size A) W) ≡ false → j < length (projections p (size A) words)
@@ -222,22 +222,22 @@ module _ {p : ℕ} {A : Matrix} {b words B B′ W : List ℕ} {j : ℕ} {c : Cou
       go : (j ≡ length us) ⊎ (j < length us) → j < length us
       go (inl e) =
           never (isZero (part (residualAt (size A)) (size A) W))
-          (sym zeroed ∙ ap (λ vs. isZero (run p A vs (begin b) .residual)) (take-all j us (omega (arith, e)))
-          ∙ projections-zero p h A b (s .accepted .size-b) (s .accepted .reduced-b) words)
+          (sym zeroed ∙ ap (λ vs. isZero (run p A w vs (begin b) .residual)) (take-all j us (omega (arith, e)))
+          ∙ projections-zero p h A b (s .accepted .size-b) (s .accepted .reduced-b) w words)
           z
       go (inr l) = l
 
   next : isZero (part (residualAt (size A)) (size A) W) ≡ false
-      → run p A (take (j + 1) (projections p (size A) words)) (begin b)
-      ≡ pass p A (getD (projections p (size A) words) j []) (held (size A) W (c .degree) (m .made))
+      → run p A w (take (j + 1) (projections p (size A) words)) (begin b)
+      ≡ pass p A w (getD (projections p (size A) words) j []) (held (size A) W (c .degree) (m .made))
   unfolding h us
   next z =
-      run-more p h A b us j (begin b) (midway-less z) (zeroed ∙ z) ∙ ap (pass p A (getD us j [])) (sym (m .state))
+      run-more p h A b w us j (begin b) (midway-less z) (zeroed ∙ z) ∙ ap (pass p A w (getD us j [])) (sym (m .state))
 
   stands : Stands p (s .accepted .prime) A b
-      (run-begun p (s .accepted .prime) A b (s .accepted .size-b) (s .accepted .reduced-b) (take j (projections p (size A) words)) .used)
-      (run p A (take j (projections p (size A) words)) (begin b))
-  stands = run-begun p (s .accepted .prime) A b (s .accepted .size-b) (s .accepted .reduced-b) (take j (projections p (size A) words)) .stands
+      (run-begun p (s .accepted .prime) A b (s .accepted .size-b) (s .accepted .reduced-b) w (take j (projections p (size A) words)) .used)
+      (run p A w (take j (projections p (size A) words)) (begin b))
+  stands = run-begun p (s .accepted .prime) A b (s .accepted .size-b) (s .accepted .reduced-b) w (take j (projections p (size A) words)) .stands
 
   residual : Vector p (size A) (part (residualAt (size A)) (size A) W)
   residual =
@@ -260,7 +260,7 @@ module _ {p : ℕ} {A : Matrix} {b words B B′ W : List ℕ} {j : ℕ} {c : Cou
   unfolding h us
   below z =
       subst (λ (q : Run). q .found < size A) (sym (m .state))
-      (run-left p h A b (s .accepted .size-b) (s .accepted .reduced-b) (take j us) (zeroed ∙ z))
+      (run-left p h A b w (s .accepted .size-b) (s .accepted .reduced-b) (take j us) (zeroed ∙ z))
 
   -- what is held is a state that a pass takes
   pub midway-state : isZero (part (residualAt (size A)) (size A) W) ≡ false → wordsTaken (size A) words ≡ true → passRefusal p A words (c .degree) W ≡ 0
@@ -271,23 +271,23 @@ module _ {p : ℕ} {A : Matrix} {b words B B′ W : List ℕ} {j : ℕ} {c : Cou
 
   -- whatever its projection
   pub midway-made : isZero (part (residualAt (size A)) (size A) W) ≡ false → wordsTaken (size A) words ≡ true → (i : ℕ) (W′ : List ℕ) (r : Passed) (k : ℕ)
-      → r ≡ Refused k → Passes p A words i (c .degree) W r W′ → ⊥
+      → r ≡ Refused k → Passes p A words w i (c .degree) W r W′ → ⊥
   midway-made z t i W′ r k e said =
-      let q = subst (λ x. Passes p A words i (c .degree) W x W′) e said in q .1 (sym (q .0) ∙ midway-state z t)
+      let q = subst (λ x. Passes p A words w i (c .degree) W x W′) e said in q .1 (sym (q .0) ∙ midway-state z t)
 
   -- the numbers that a pass adds, whatever its projection
   pub midway-fits : isZero (part (residualAt (size A)) (size A) W) ≡ false → (i : ℕ) (W′ : List ℕ) (r : Passed) (q : CodePass) → r ≡ Made q
-      → Passes p A words i (c .degree) W r W′ → Fits c q
+      → Passes p A words w i (c .degree) W r W′ → Fits c q
   midway-fits z i W′ r q e said =
-      let made = subst (λ x. Passes p A words i (c .degree) W x W′) e said in
+      let made = subst (λ x. Passes p A words w i (c .degree) W x W′) e said in
       let sized = s .valid .sized in
       let u = getD (projections p (size A) words) i [] in
       let here = held (size A) W (c .degree) (m .made) in
       let there = held (size A) W′ (c .degree + q .degree) (m .made ++ (passOf q ∷ [])) in
-      let within = made-within p A (s .accepted .prime .two-le) u here there (passOf q) refl (made .1 .run (m .made)) in
+      let within = made-within p A (s .accepted .prime .two-le) w u here there (passOf q) refl (made .1 .run (m .made)) in
       let low : q .left ≤ 4096 = omega (arith, within .left-low, sized) in
       let short : q .degree ≤ 8192 = omega (arith, within .degree-low, low) in
-      let cost : q .applications ≤ 16384 = omega (arith, within .cost, within .degree-low, low) in
+      let cost : q .applications ≤ 24576 = omega (arith, within .cost-low, within .degree-low, low) in
       record {
         degree-low = omega (arith, below z, sized);
         passes-low = omega (arith, m .passes, m .used, m .within, most);
@@ -301,9 +301,9 @@ module _ {p : ℕ} {A : Matrix} {b words B B′ W : List ℕ} {j : ℕ} {c : Cou
       }
 
   pub midway-next : isZero (part (residualAt (size A)) (size A) W) ≡ false → (W′ : List ℕ) (r : Passed) (q : CodePass) → r ≡ Made q
-      → Passes p A words j (c .degree) W r W′ → (length W′ ≡ length W) × Midway p A b words B (entered B′ j (passOf q)) W′ (j + 1) (counted c q)
+      → Passes p A words w j (c .degree) W r W′ → (length W′ ≡ length W) × Midway p A b words w B (entered B′ j (passOf q)) W′ (j + 1) (counted c q)
   midway-next z W′ r q e said =
-      let made = subst (λ x. Passes p A words j (c .degree) W x W′) e said in
+      let made = subst (λ x. Passes p A words w j (c .degree) W x W′) e said in
       let fits = midway-fits z j W′ r q e said in (
         made .1 .same-length,
         record {
@@ -320,7 +320,7 @@ module _ {p : ℕ} {A : Matrix} {b words B B′ W : List ℕ} {j : ℕ} {c : Cou
         },
       )
 
-  pub midway-end : isZero (part (residualAt (size A)) (size A) W) ≡ true → Finished p A b words B B′ W c
+  pub midway-end : isZero (part (residualAt (size A)) (size A) W) ≡ true → Finished p A b words w B B′ W c
   unfolding h us
   midway-end z =
       record {
@@ -334,16 +334,16 @@ module _ {p : ℕ} {A : Matrix} {b words B B′ W : List ℕ} {j : ℕ} {c : Cou
         state =
             m .state
             ∙ sym
-            (ap (λ vs. run p A vs (begin b)) (sym (take-append-drop j us)) ∙ run-append p h A b (take j us) (drop j us) (begin b)
-            ∙ run-rest p h A b (drop j us) (run p A (take j us) (begin b)) (zeroed ∙ z));
+            (ap (λ vs. run p A w vs (begin b)) (sym (take-append-drop j us)) ∙ run-append p h A b w (take j us) (drop j us) (begin b)
+            ∙ run-rest p h A b w (drop j us) (run p A w (take j us) (begin b)) (zeroed ∙ z));
       }
 
 -- ---- the end
 
 pub record Bounded (c : Counts) : Type 0 where
-  pub applications-low : c .applications ≤ 134217728
-  -- 2⁴³
-  pub multiplied-low : c .multiplied ≤ 8796093022208
+  pub applications-low : c .applications ≤ 201326592
+  -- 3 × 2⁴²
+  pub multiplied-low : c .multiplied ≤ 13194139533312
 
 pub record Closable (p : ℕ) (A : Matrix) (W : List ℕ) (c : Counts) : Type 0 where
   pub found : c .degree ≤ size A
@@ -352,8 +352,8 @@ pub record Closable (p : ℕ) (A : Matrix) (W : List ℕ) (c : Counts) : Type 0 
   pub few : Bounded c
   pub elements : (i : ℕ) → i ≤ c .degree → at W i < p
 
-pub closable : {p : ℕ} {A : Matrix} {b words B B′ W : List ℕ} {c : Counts} → CheckedSystem p A b → Finished p A b words B B′ W c → Closable p A W c
-closable {p} {A} {b} {words} {B} {B′} {W} {c} s f =
+pub closable : {p : ℕ} {A : Matrix} {b words : List ℕ} {w : ℕ} {B B′ W : List ℕ} {c : Counts} → CheckedSystem p A b → Finished p A b words w B B′ W c → Closable p A W c
+closable {p} {A} {b} {words} {w} {B} {B′} {W} {c} s f =
     record {
       found = found;
       one = sym (place (c .degree) (omega arith)) ∙ ap (λ (q : Run). at (q .factor) (c .degree)) (f .state) ∙ ap (at (end .factor)) (ap (λ (q : Run). q .found) (f .state)) ∙ monic-leading p (end .found) (end .factor) (end-monic p h A b size-b reduced-b end stands zero-end);
@@ -379,16 +379,16 @@ closable {p} {A} {b} {words} {B} {B′} {W} {c} s f =
     us = projections p (size A) words
 
     end : Run
-    end = run p A us (begin b)
+    end = run p A w us (begin b)
 
-    stands : Stands p h A b (run-begun p h A b size-b reduced-b us .used) end
-    stands = run-begun p h A b size-b reduced-b us .stands
+    stands : Stands p h A b (run-begun p h A b size-b reduced-b w us .used) end
+    stands = run-begun p h A b size-b reduced-b w us .stands
 
     zero-end : isZero (end .residual) ≡ true
-    zero-end = projections-zero p h A b size-b reduced-b words
+    zero-end = projections-zero p h A b size-b reduced-b w words
 
     found : c .degree ≤ size A
-    found = subst (λ (q : Run). q .found ≤ size A) (sym (f .state)) (run-found p h A b size-b reduced-b us)
+    found = subst (λ (q : Run). q .found ≤ size A) (sym (f .state)) (run-found p h A b size-b reduced-b w us)
 
     place : (i : ℕ) → i ≤ c .degree → at (part 0 (c .degree + 1) W) i ≡ at W i
     place i l = at-part 0 (c .degree + 1) W i (omega (arith, l)) ∙ ap (at W) (zero-add i)

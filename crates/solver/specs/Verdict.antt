@@ -55,8 +55,8 @@ pub record Counted (c : Counts) (o : Outcome) : Type 0 where
 pub record ByEntry (A : Matrix) (o : Outcome) : Type 0 where
   -- "equal to applications × entries"
   pub product : o .multiplied ≡ applications o * entryCount A
-  -- 64 bits are enough: at most 2⁴³ + 2²⁸
-  pub fits : o .multiplied ≤ 8796361457664
+  -- 64 bits are enough: at most 3 × 2⁴² + 2²⁸
+  pub fits : o .multiplied ≤ 13194407968768
 
 -- "a refusal returns its number and no other answer"
 abbrev pub Says : Verdict → ℕ → Outcome → Type 0
@@ -64,55 +64,55 @@ Says (Solved c) number o = (number ≡ 0) × (o .kind ≡ solved) × Counted c o
 Says (Singular c) number o = (number ≡ 0) × (o .kind ≡ singular) × Counted c o
 Says (Refused k) number o = (number ≡ k) × (k ≢ 0)
 
-pub record Leaves (p : ℕ) (A : Matrix) (b words vector polynomial bill work vector′ polynomial′ bill′ work′ : List ℕ) : Type 0 where
-  pub vector-after : vector′ ≡ vectorAfter p A b words vector polynomial work
-  pub polynomial-after : polynomial′ ≡ polynomialAfter p A b words vector polynomial work
-  pub bill-after : bill′ ≡ billAfter p A b words vector polynomial work bill
+pub record Leaves (p : ℕ) (A : Matrix) (b words : List ℕ) (window : ℕ) (vector polynomial bill work vector′ polynomial′ bill′ work′ : List ℕ) : Type 0 where
+  pub vector-after : vector′ ≡ vectorAfter p A b words window vector polynomial work
+  pub polynomial-after : polynomial′ ≡ polynomialAfter p A b words window vector polynomial work
+  pub bill-after : bill′ ≡ billAfter p A b words window vector polynomial work bill
   -- "every lent slice keeps its contents"
-  pub kept : solverRefusal p A b words vector polynomial work ≢ 0 → work′ ≡ work
+  pub kept : solverRefusal p A b words window vector polynomial work ≢ 0 → work′ ≡ work
   -- the third condition of every run
-  pub condition : solverRefusal p A b words vector polynomial work ≡ 0 → ThirdCondition p A b words (solve p A b words)
-  pub by-entry : solverRefusal p A b words vector polynomial work ≡ 0 → ByEntry A (solve p A b words)
+  pub condition : solverRefusal p A b words window vector polynomial work ≡ 0 → ThirdCondition p A b words window (solve p A b words window)
+  pub by-entry : solverRefusal p A b words window vector polynomial work ≡ 0 → ByEntry A (solve p A b words window)
 
-pub record Solves (p : ℕ) (A : Matrix) (b words vector polynomial bill work : List ℕ) (r : Verdict) (vector′ polynomial′ bill′ work′ : List ℕ) : Type 0 where
-  pub says : Says r (solverRefusal p A b words vector polynomial work) (solve p A b words)
-  pub leaves : Leaves p A b words vector polynomial bill work vector′ polynomial′ bill′ work′
+pub record Solves (p : ℕ) (A : Matrix) (b words : List ℕ) (window : ℕ) (vector polynomial bill work : List ℕ) (r : Verdict) (vector′ polynomial′ bill′ work′ : List ℕ) : Type 0 where
+  pub says : Says r (solverRefusal p A b words window vector polynomial work) (solve p A b words window)
+  pub leaves : Leaves p A b words window vector polynomial bill work vector′ polynomial′ bill′ work′
 
 -- ---- the checks
 
 -- where nothing is refused, the checks of a run are passed
-pub run-passed : (p : ℕ) (A : Matrix) (b words vector polynomial work : List ℕ) → solverRefusal p A b words vector polynomial work ≡ 0
-    → first (runChecks p A b words) ≡ 0
+pub run-passed : (p : ℕ) (A : Matrix) (b words : List ℕ) (window : ℕ) (vector polynomial work : List ℕ) → solverRefusal p A b words window vector polynomial work ≡ 0
+    → first (runChecks p A b words window) ≡ 0
 unfolding solverRefusal
-run-passed p A b words vector polynomial work e =
-    first-append-zero (runChecks p A b words)
+run-passed p A b words window vector polynomial work e =
+    first-append-zero (runChecks p A b words window)
     (check 11 (not (eqb (length vector) (size A) && eqb (length polynomial) (size A + 1) && leb (16 * size A + 16) (length work))) ∷ [])
-    (numbered-run p A b words) e .0
+    (numbered-run p A b words window) e .0
 
-pub condition : (p : ℕ) (A : Matrix) (b words vector polynomial work : List ℕ) → solverRefusal p A b words vector polynomial work ≡ 0
-    → ThirdCondition p A b words (solve p A b words)
-condition p A b words vector polynomial work e = everyRun p A b words (run-passed p A b words vector polynomial work e)
+pub condition : (p : ℕ) (A : Matrix) (b words : List ℕ) (window : ℕ) (vector polynomial work : List ℕ) → solverRefusal p A b words window vector polynomial work ≡ 0
+    → ThirdCondition p A b words window (solve p A b words window)
+condition p A b words window vector polynomial work e = everyRun p A b words window (run-passed p A b words window vector polynomial work e)
 
 -- ---- two runs
 
 -- two calls on one system of which none is refused
-pub same-answer : (p : ℕ) (A : Matrix) (b words v f w words₁ v₁ f₁ w₁ : List ℕ) → solverRefusal p A b words v f w ≡ 0
-    → solverRefusal p A b words₁ v₁ f₁ w₁ ≡ 0 → SameAnswer (solve p A b words) (solve p A b words₁)
-same-answer p A b words v f w words₁ v₁ f₁ w₁ e e₁ =
-    everyTwoRuns p A b words words₁ (run-passed p A b words v f w e) (run-passed p A b words₁ v₁ f₁ w₁ e₁)
+pub same-answer : (p : ℕ) (A : Matrix) (b words : List ℕ) (window : ℕ) (v f w words₁ : List ℕ) (window₁ : ℕ) (v₁ f₁ w₁ : List ℕ) → solverRefusal p A b words window v f w ≡ 0
+    → solverRefusal p A b words₁ window₁ v₁ f₁ w₁ ≡ 0 → SameAnswer (solve p A b words window) (solve p A b words₁ window₁)
+same-answer p A b words window v f w words₁ window₁ v₁ f₁ w₁ e e₁ =
+    everyTwoRuns p A b words words₁ window window₁ (run-passed p A b words window v f w e) (run-passed p A b words₁ window₁ v₁ f₁ w₁ e₁)
 
-pub same-slices : {p : ℕ} {A : Matrix} {b words v f B w words₁ v₁ f₁ B₁ w₁ v′ f′ B′ w′ v₁′ f₁′ B₁′ w₁′ : List ℕ} → Leaves p A b words v f B w v′ f′ B′ w′
-    → Leaves p A b words₁ v₁ f₁ B₁ w₁ v₁′ f₁′ B₁′ w₁′ → solverRefusal p A b words v f w ≡ 0 → solverRefusal p A b words₁ v₁ f₁ w₁ ≡ 0
+pub same-slices : {p : ℕ} {A : Matrix} {b words : List ℕ} {window : ℕ} {v f B w words₁ : List ℕ} {window₁ : ℕ} {v₁ f₁ B₁ w₁ v′ f′ B′ w′ v₁′ f₁′ B₁′ w₁′ : List ℕ} → Leaves p A b words window v f B w v′ f′ B′ w′
+    → Leaves p A b words₁ window₁ v₁ f₁ B₁ w₁ v₁′ f₁′ B₁′ w₁′ → solverRefusal p A b words window v f w ≡ 0 → solverRefusal p A b words₁ window₁ v₁ f₁ w₁ ≡ 0
     → (v′ ≡ v₁′) × (f′ ≡ f₁′)
-same-slices {p} {A} {b} {words} {v} {f} {B} {w} {words₁} {v₁} {f₁} {B₁} {w₁} s s₁ e e₁ =
-    let same = same-answer p A b words v f w words₁ v₁ f₁ w₁ e e₁ in
-    let here = solverRefusal p A b words v f w in
-    let there = solverRefusal p A b words₁ v₁ f₁ w₁ in
-    let F : List ℕ → List ℕ = λ ws. padded (size A + 1) (solve p A b ws .polynomial) in (
-      s .vector-after ∙ unlessRefused-none here (solve p A b words .vector) v e ∙ same .vector
-          ∙ sym (s₁ .vector-after ∙ unlessRefused-none there (solve p A b words₁ .vector) v₁ e₁),
-      s .polynomial-after ∙ unlessRefused-none here (F words) f e ∙ ap (padded (size A + 1)) (same .polynomial)
-          ∙ sym (s₁ .polynomial-after ∙ unlessRefused-none there (F words₁) f₁ e₁),
+same-slices {p} {A} {b} {words} {window} {v} {f} {B} {w} {words₁} {window₁} {v₁} {f₁} {B₁} {w₁} s s₁ e e₁ =
+    let same = same-answer p A b words window v f w words₁ window₁ v₁ f₁ w₁ e e₁ in
+    let here = solverRefusal p A b words window v f w in
+    let there = solverRefusal p A b words₁ window₁ v₁ f₁ w₁ in
+    let F : List ℕ → ℕ → List ℕ = λ ws k. padded (size A + 1) (solve p A b ws k .polynomial) in (
+      s .vector-after ∙ unlessRefused-none here (solve p A b words window .vector) v e ∙ same .vector
+          ∙ sym (s₁ .vector-after ∙ unlessRefused-none there (solve p A b words₁ window₁ .vector) v₁ e₁),
+      s .polynomial-after ∙ unlessRefused-none here (F words window) f e ∙ ap (padded (size A + 1)) (same .polynomial)
+          ∙ sym (s₁ .polynomial-after ∙ unlessRefused-none there (F words₁ window₁) f₁ e₁),
     )
 
 -- the kind of an answer that is no refusal
@@ -133,22 +133,22 @@ kind-says (Solved c) number o e s = s .1
 kind-says (Singular c) number o e s = s .1
 kind-says (Refused k) number o e s = s .1 (sym (s .0) ∙ e)
 
-module _ (p : ℕ) (A : Matrix) (b words v f B w words₁ v₁ f₁ B₁ w₁ : List ℕ) (r r₁ : Verdict) (v′ f′ B′ w′ v₁′ f₁′ B₁′ w₁′ : List ℕ) where
-  pub same-run : Solves p A b words v f B w r v′ f′ B′ w′ → Solves p A b words₁ v₁ f₁ B₁ w₁ r₁ v₁′ f₁′ B₁′ w₁′ → solverRefusal p A b words v f w ≡ 0
-      → solverRefusal p A b words₁ v₁ f₁ w₁ ≡ 0 → SameRun p A b r r₁ v′ v₁′ f′ f₁′
+module _ (p : ℕ) (A : Matrix) (b words : List ℕ) (window : ℕ) (v f B w words₁ : List ℕ) (window₁ : ℕ) (v₁ f₁ B₁ w₁ : List ℕ) (r r₁ : Verdict) (v′ f′ B′ w′ v₁′ f₁′ B₁′ w₁′ : List ℕ) where
+  pub same-run : Solves p A b words window v f B w r v′ f′ B′ w′ → Solves p A b words₁ window₁ v₁ f₁ B₁ w₁ r₁ v₁′ f₁′ B₁′ w₁′ → solverRefusal p A b words window v f w ≡ 0
+      → solverRefusal p A b words₁ window₁ v₁ f₁ w₁ ≡ 0 → SameRun p A b r r₁ v′ v₁′ f′ f₁′
   same-run s s₁ e e₁ =
       record {
-        kind = solve p A b words .kind;
-        this = kind-says r (solverRefusal p A b words v f w) (solve p A b words) e (s .says);
+        kind = solve p A b words window .kind;
+        this = kind-says r (solverRefusal p A b words window v f w) (solve p A b words window) e (s .says);
         that =
             subst (kindOf r₁) (sym (same .kind))
-            (kind-says r₁ (solverRefusal p A b words₁ v₁ f₁ w₁) (solve p A b words₁) e₁ (s₁ .says));
+            (kind-says r₁ (solverRefusal p A b words₁ window₁ v₁ f₁ w₁) (solve p A b words₁ window₁) e₁ (s₁ .says));
         same-vector = same-slices (s .leaves) (s₁ .leaves) e e₁ .0;
         same-polynomial = same-slices (s .leaves) (s₁ .leaves) e e₁ .1;
       }
     where
-      same : SameAnswer (solve p A b words) (solve p A b words₁)
-      same = same-answer p A b words v f w words₁ v₁ f₁ w₁ e e₁
+      same : SameAnswer (solve p A b words window) (solve p A b words₁ window₁)
+      same = same-answer p A b words window v f w words₁ window₁ v₁ f₁ w₁ e e₁
 
 -- ---- the end
 
@@ -234,29 +234,29 @@ module _ {p : ℕ} {A : Matrix} {b W : List ℕ} {c : Counts} (s : CheckedSystem
         (first-pass 11 _ [] (and-both (eq-eqb (length out) (size A) places) (le-leb (2 * size A) (length work) (omega (arith, room, q .room)))) first-nil))
 
 -- what the whole run found
-pub record Found (p : ℕ) (A : Matrix) (b words bill : List ℕ) (r : Verdict) (vector polynomial bill′ : List ℕ) : Type 0 where
-  pub says : Says r 0 (solve p A b words)
-  pub vector-is : vector ≡ solve p A b words .vector
-  pub polynomial-is : polynomial ≡ padded (size A + 1) (solve p A b words .polynomial)
-  pub bill-is : bill′ ≡ billed bill (solve p A b words .passes)
-  pub fits : solve p A b words .multiplied ≤ 8796361457664
+pub record Found (p : ℕ) (A : Matrix) (b words : List ℕ) (window : ℕ) (bill : List ℕ) (r : Verdict) (vector polynomial bill′ : List ℕ) : Type 0 where
+  pub says : Says r 0 (solve p A b words window)
+  pub vector-is : vector ≡ solve p A b words window .vector
+  pub polynomial-is : polynomial ≡ padded (size A + 1) (solve p A b words window .polynomial)
+  pub bill-is : bill′ ≡ billed bill (solve p A b words window .passes)
+  pub fits : solve p A b words window .multiplied ≤ 13194407968768
 
-pub closed : {p : ℕ} {A : Matrix} {b words B B′ W : List ℕ} {c : Counts} {r : Verdict} {vector polynomial : List ℕ} → CheckedSystem p A b → Finished p A b words B B′ W c
-    → Closed p A b W c r vector polynomial → Found p A b words B r vector polynomial B′
+pub closed : {p : ℕ} {A : Matrix} {b words : List ℕ} {window : ℕ} {B B′ W : List ℕ} {c : Counts} {r : Verdict} {vector polynomial : List ℕ} → CheckedSystem p A b → Finished p A b words window B B′ W c
+    → Closed p A b W c r vector polynomial → Found p A b words window B r vector polynomial B′
 unfolding solve close
-closed {p} {A} {b} {words} {B} {B′} {W} {c} {r} {vector} {polynomial} s f q =
+closed {p} {A} {b} {words} {window} {B} {B′} {W} {c} {r} {vector} {polynomial} s f q =
     record {
       says = subst (λ o. Says r 0 o) outcome (go r (q .ends));
       vector-is = q .vector-is ∙ ap (λ (o : Outcome). o .vector) outcome;
       polynomial-is = q .polynomial-is ∙ ap (λ (o : Outcome). padded (size A + 1) (o .polynomial)) outcome;
       bill-is = f .bill ∙ ap (λ (o : Outcome). billed B (o .passes)) outcome;
-      fits = subst (λ (o : Outcome). o .multiplied ≤ 8796361457664) outcome (omega (arith, sym multiplied-here, bounds .few .multiplied-low, last));
+      fits = subst (λ (o : Outcome). o .multiplied ≤ 13194407968768) outcome (omega (arith, sym multiplied-here, bounds .few .multiplied-low, last));
     }
   where
     here : Run
     here = held (size A) W (c .degree) (f .made)
 
-    outcome : close p A b here ≡ solve p A b words
+    outcome : close p A b here ≡ solve p A b words window
     outcome = ap (close p A b) (f .state)
 
     bounds : Closable p A W c
@@ -282,39 +282,39 @@ closed {p} {A} {b} {words} {B} {B′} {W} {c} {r} {vector} {polynomial} s f q =
 
 -- ---- the call
 
-module _ (p : ℕ) (A : Matrix) (b words v f B w : List ℕ) where
-  pub refused : (k : ℕ) → solverRefusal p A b words v f w ≡ k → k ≢ 0 → Solves p A b words v f B w (Refused k) v f B w
+module _ (p : ℕ) (A : Matrix) (b words : List ℕ) (window : ℕ) (v f B w : List ℕ) where
+  pub refused : (k : ℕ) → solverRefusal p A b words window v f w ≡ k → k ≢ 0 → Solves p A b words window v f B w (Refused k) v f B w
   refused k e q =
       record {
         says = (e, q);
         leaves =
             record {
-              vector-after = sym (ap (λ t. cond t (solve p A b words .vector) v) off);
-              polynomial-after = sym (ap (λ t. cond t (padded (size A + 1) (solve p A b words .polynomial)) f) off);
-              bill-after = sym (ap (λ t. cond t (billed B (solve p A b words .passes)) B) off);
+              vector-after = sym (ap (λ t. cond t (solve p A b words window .vector) v) off);
+              polynomial-after = sym (ap (λ t. cond t (padded (size A + 1) (solve p A b words window .polynomial)) f) off);
+              bill-after = sym (ap (λ t. cond t (billed B (solve p A b words window .passes)) B) off);
               kept = λ z. refl;
-              condition = condition p A b words v f w;
+              condition = condition p A b words window v f w;
               by-entry = λ z. absurd (q (sym e ∙ z));
             };
       }
     where
-      off : eqb (solverRefusal p A b words v f w) 0 ≡ false
-      off = ne-eqb (solverRefusal p A b words v f w) 0 (λ z. q (sym e ∙ z))
+      off : eqb (solverRefusal p A b words window v f w) 0 ≡ false
+      off = ne-eqb (solverRefusal p A b words window v f w) 0 (λ z. q (sym e ∙ z))
 
-  pub taken : {r : Verdict} {v′ f′ B′ w′ : List ℕ} → solverRefusal p A b words v f w ≡ 0 → Found p A b words B r v′ f′ B′ → Solves p A b words v f B w r v′ f′ B′ w′
+  pub taken : {r : Verdict} {v′ f′ B′ w′ : List ℕ} → solverRefusal p A b words window v f w ≡ 0 → Found p A b words window B r v′ f′ B′ → Solves p A b words window v f B w r v′ f′ B′ w′
   taken {r} e q =
       record {
-        says = subst (λ k. Says r k (solve p A b words)) (sym e) (q .says);
+        says = subst (λ k. Says r k (solve p A b words window)) (sym e) (q .says);
         leaves =
             record {
-              vector-after = q .vector-is ∙ sym (ap (λ t. cond t (solve p A b words .vector) v) on);
-              polynomial-after = q .polynomial-is ∙ sym (ap (λ t. cond t (padded (size A + 1) (solve p A b words .polynomial)) f) on);
-              bill-after = q .bill-is ∙ sym (ap (λ t. cond t (billed B (solve p A b words .passes)) B) on);
+              vector-after = q .vector-is ∙ sym (ap (λ t. cond t (solve p A b words window .vector) v) on);
+              polynomial-after = q .polynomial-is ∙ sym (ap (λ t. cond t (padded (size A + 1) (solve p A b words window .polynomial)) f) on);
+              bill-after = q .bill-is ∙ sym (ap (λ t. cond t (billed B (solve p A b words window .passes)) B) on);
               kept = λ z. absurd (z e);
-              condition = condition p A b words v f w;
-              by-entry = λ z. record { product = every-run-by-entry p A b words (run-passed p A b words v f w z); fits = q .fits };
+              condition = condition p A b words window v f w;
+              by-entry = λ z. record { product = every-run-by-entry p A b words window (run-passed p A b words window v f w z); fits = q .fits };
             };
       }
     where
-      on : eqb (solverRefusal p A b words v f w) 0 ≡ true
-      on = eq-eqb (solverRefusal p A b words v f w) 0 e
+      on : eqb (solverRefusal p A b words window v f w) 0 ≡ true
+      on = eq-eqb (solverRefusal p A b words window v f w) 0 e

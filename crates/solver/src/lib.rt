@@ -110,7 +110,7 @@ fn is_settled(n: usize, work: &[u32]) -> bool
 
 // Pass j, counted from 0, on the bill, if there is room for its left, degree and applications.
 fn enter(bill: &mut [u32], j: usize, q: Pass)
-    requires { ⌜ (j ≤ 8192) × (q .left ≤ 4096) × (q .degree ≤ 8192) × (q .applications ≤ 16384) ⌝ }
+    requires { ⌜ (j ≤ 8192) × (q .left ≤ 4096) × (q .degree ≤ 8192) × (q .applications ≤ 24576) ⌝ }
     ensures { λ _. ⌜ now (bill .exit) ≡ entered (now (bill .entry)) j (passOf q) ⌝ }
 {
     let left = q.left as u32;
@@ -144,19 +144,30 @@ fn run(
     values: &[u32],
     b: &[u32],
     words: &[u32],
+    window: u32,
     bill: &mut [u32],
     work: &mut [u32],
 ) -> Counts
     requires { ⌜ CheckedSystem (field .p) (matrix (now starts) (now columns) (now values)) (now b) ⌝ }
     requires { ⌜ (wordsTaken (length (now starts) - 1) (now words) ≡ true) × (16 * (length (now starts) - 1) + 16 ≤ length (now work)) ⌝ }
     ensures { λ c. ⌜ Finished (field .p) (matrix (now (starts .entry)) (now (columns .entry)) (now (values .entry)))
-        (now (b .entry)) (now (words .entry)) (now (bill .entry)) (now (bill .exit)) (now (work .exit)) c ⌝ }
+        (now (b .entry)) (now (words .entry)) window (now (bill .entry)) (now (bill .exit)) (now (work .exit)) c ⌝ }
 {
     let n = starts.len() - 1;
     let mut c = begin(b, work);
     let mut j = 0;
     while !is_settled(n, work) {
-        let answer = make_pass(field, starts, columns, values, words, j, c.degree, work);
+        let answer = make_pass(
+            field,
+            starts,
+            columns,
+            values,
+            words,
+            window,
+            j,
+            c.degree,
+            work,
+        );
         let Passed::Made(q) = answer else {
             return c;
         };
@@ -252,9 +263,9 @@ fn finish(
     Verdict::Solved(closed(c, done))
 }
 
-// Solves Ax = b, or finds a vector that is not zero and that A takes to zero, by passes with the random words and then the unit vectors. Whatever
-// the words are, kind, vector and polynomial are those of A and b. The bill gets three numbers for each pass, left, degree and applications, for as many
-// passes as it has room for; it may be empty.
+// Solves Ax = b, or finds a vector that is not zero and that A takes to zero, by passes with the random words and then the unit vectors. A pass may
+// end early after `window` discrepancies that were 0; 0 asks for none. Whatever words and window are, kind, vector and polynomial are those of A and
+// b. The bill gets three numbers for each pass, left, degree and applications, for as many passes as it has room for; it may be empty.
 pub fn solve(
     field: Field,
     starts: &[u32],
@@ -262,13 +273,14 @@ pub fn solve(
     values: &[u32],
     b: &[u32],
     words: &[u32],
+    window: u32,
     vector: &mut [u32],
     polynomial: &mut [u32],
     bill: &mut [u32],
     work: &mut [u32],
 ) -> Verdict
     ensures { λ r. ⌜ Solves (field .p) (matrix (now (starts .entry)) (now (columns .entry)) (now (values .entry))) (now (b .entry))
-        (now (words .entry)) (now (vector .entry)) (now (polynomial .entry)) (now (bill .entry)) (now (work .entry)) r
+        (now (words .entry)) window (now (vector .entry)) (now (polynomial .entry)) (now (bill .entry)) (now (work .entry)) r
         (now (vector .exit)) (now (polynomial .exit)) (now (bill .exit)) (now (work .exit)) ⌝ }
 {
     let number = solver_refusal(
@@ -278,6 +290,7 @@ pub fn solve(
         values,
         b,
         words,
+        window,
         vector,
         polynomial,
         work,
@@ -285,7 +298,7 @@ pub fn solve(
     if number != 0 {
         return Verdict::Refused(number);
     }
-    let c = run(field, starts, columns, values, b, words, bill, work);
+    let c = run(field, starts, columns, values, b, words, window, bill, work);
     finish(
         field,
         starts,

@@ -1,5 +1,5 @@
-// Makes the calls of the solver that standard input lists, after their number. A call is six lists: its modulus and the places of its vector, polynomial,
-// bill and work slices; starts, columns, values, b and words. A line of the output: the refusal's number; or 0, 1 where it solved and 0 where it found
+// Makes the calls of the solver that standard input lists, after their number. A call is six lists: its modulus, its window and the places of its vector,
+// polynomial, bill and work slices; starts, columns, values, b and words. A line of the output: the refusal's number; or 0, 1 where it solved and 0 where it found
 // the matrix singular, degree, passes, applications and entries multiplied; then the vector, polynomial and bill slices, each with two places behind
 // it; and of the work slice what a call may not change, two places behind it and, where it refuses, all. vectors.py makes calls and output.
 use solver::Counts;
@@ -40,10 +40,10 @@ fn print_verdict(verdict: Verdict, work: usize) -> usize {
 
 fn call(memory: &[u32], from: usize) {
     let head = list(memory, from, 0);
-    let places = place(head, 1);
-    let coefficients = place(head, 2);
-    let billed = place(head, 3);
-    let room = place(head, 4);
+    let places = place(head, 2);
+    let coefficients = place(head, 3);
+    let billed = place(head, 4);
+    let room = place(head, 5);
     let mut vector = test_io::lent();
     let mut polynomial = test_io::lent();
     let mut bill = test_io::lent();
@@ -55,6 +55,7 @@ fn call(memory: &[u32], from: usize) {
         list(memory, from, 3),
         list(memory, from, 4),
         list(memory, from, 5),
+        at(head, 1),
         front(&mut vector, places),
         front(&mut polynomial, coefficients),
         front(&mut bill, billed),

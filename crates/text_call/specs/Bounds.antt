@@ -46,7 +46,7 @@ pub record Small (p n : ℕ) (o : Outcome) : Type 0 where
   pub passes-few : passCount o ≤ n
   pub applications-few : applications o ≤ 33023
   pub multiplied-few : o .multiplied ≤ 4294967295
-  pub passes-within : AllWithin n (o .passes)
+  pub passes-within : AllWithin n 0 (o .passes)
   pub vector-length : length (o .vector) ≡ n
   pub vector-below : Reduced p (o .vector)
   pub polynomial-length : length (o .polynomial) ≡ o .degree + 1
@@ -74,12 +74,12 @@ module _ (p : ℕ) (h : Prime p) (A : Matrix) (b F : List ℕ) (D : ℕ) where
             reduced-table-mod p (size A) (λ i. minus p 0 (at (apply p A (drop 1 F) b) i) * inverse p (at F 0)) (omega (arith, h .two-le)),
           )
 
-module _ (p : ℕ) (A : Matrix) (b : List ℕ) (e : first (runChecks p A b []) ≡ 0) (h : size A ≤ 128) where
+module _ (p : ℕ) (A : Matrix) (b : List ℕ) (e : first (runChecks p A b [] 0) ≡ 0) (h : size A ≤ 128) where
   abbrev o : Outcome
-  o = solve p A b []
+  o = solve p A b [] 0
 
-  cost : ThirdCondition p A b [] o → passCount o ≤ size A → o .degree ≤ size A → applications o ≤ 33023
-  cost third few D = subst (λ k. k ≤ 33023) (sym (third .counted)) (go (isZero b))
+  cost : ThirdCondition p A b [] 0 o → passCount o ≤ size A → o .degree ≤ size A → applications o ≤ 33023
+  cost third few D = subst (λ k. k ≤ 33023) (sym (third .counted refl)) (go (isZero b))
     where
       go : (z : Bool) → cond z 0 (termCost (size A) (o .passes) + (2 * o .degree - 1)) ≤ 33023
       go true = omega arith
@@ -88,11 +88,11 @@ module _ (p : ℕ) (A : Matrix) (b : List ℕ) (e : first (runChecks p A b []) �
   pub run-small : Small p (size A) o
   unfolding solve close begin
   run-small =
-      let a = accepted p A b [] e in
-      let third = everyRun p A b [] e in
-      let c = run p A (projections p (size A) []) (begin b) in
+      let a = accepted p A b [] 0 e in
+      let third = everyRun p A b [] 0 e in
+      let c = run p A 0 (projections p (size A) []) (begin b) in
       let v = verdict-vector p (a .prime) A b (c .factor) (c .found) in
-      let D : o .degree ≤ size A = run-found p (a .prime) A b (a .size-b) (a .reduced-b) (projections p (size A) []) in
+      let D : o .degree ≤ size A = run-found p (a .prime) A b (a .size-b) (a .reduced-b) 0 (projections p (size A) []) in
       let few : passCount o ≤ size A = omega (arith, third .few, vectorCount-nil (size A)) in
       let applied = cost third few D in
       record {
@@ -100,8 +100,8 @@ module _ (p : ℕ) (A : Matrix) (b : List ℕ) (e : first (runChecks p A b []) �
         passes-few = few;
         applications-few = applied;
         multiplied-few =
-            omega (arith, every-run-by-entry p A b [] e, mul-le-mul applied (run-accepted p A b [] e .system .few));
-        passes-within = run-within p A (a .prime .two-le) (projections p (size A) []) (begin b) tt;
+            omega (arith, every-run-by-entry p A b [] 0 e, mul-le-mul applied (run-accepted p A b [] 0 e .system .few));
+        passes-within = run-within p A (a .prime .two-le) 0 (projections p (size A) []) (begin b) tt;
         vector-length = v .0;
         vector-below = v .1;
         polynomial-length = monic-length p (o .degree) (o .polynomial) (third .monic);
@@ -143,13 +143,13 @@ length-pass w a b c d e ha hb hc hd =
       decimal-short 2 d (omega arith),
     )
 
-length-passes : (k n : ℕ) (qs : List Pass) → n ≤ 128 → k + length qs ≤ 1000 → AllWithin n qs → length (passLines k qs) ≤ 21 * length qs
+length-passes : (k n : ℕ) (qs : List Pass) → n ≤ 128 → k + length qs ≤ 1000 → AllWithin n 0 qs → length (passLines k qs) ≤ 21 * length qs
 unfolding passLines bytes
 length-passes k n [] hn hk w = omega arith
 length-passes k n (q ∷ qs) hn hk w =
     let left : q .left ≤ 128 = omega (arith, w .0 .left-low) in
     let t : q .degree ≤ 256 = omega (arith, w .0 .degree-low) in
-    let cost : q .applications < 1000 = omega (arith, w .0 .cost) in
+    let cost : q .applications < 1000 = omega (arith, w .0 .cost refl) in
     let this = line (bytes "pass" ∷ decimal k ∷ map decimal (charge q)) in
     omega (
       arith,

@@ -25,7 +25,7 @@ use borrow.Author.Tests.{leb-true, le-leb, lt-leb, eq-eqb, ne-eqb}
 use Rattle.meaning.specs.List.{every, select, overwrite}
 use Rattle.meaning.specs.Matrix.{Matrix, size}
 use Rattle.meaning.specs.Text.{Document, document, System, system, row}
-use Rattle.meaning.specs.Refusal.{Check, check, first, unlessRefused, documentChecks, wordsTaken}
+use Rattle.meaning.specs.Refusal.{Check, check, first, unlessRefused, documentChecks, wordsTaken, windowTaken}
 use Rattle.meaning.specs.Solver.{solve}
 use Rattle.meaning.specs.Answer.{AddsUp}
 use Rattle.meaning.specs.Calls.{systemChecks, runChecks, textChecks, readerRefusal, textRefusal, solvedText, textAnswer, textAfter}
@@ -150,11 +150,11 @@ module _ (text : List ℕ) (room r : ℕ) where
 
 -- ---- what is taken
 
-pub run-checked : (p : ℕ) (A : Matrix) (b : List ℕ) → first (systemChecks p A b) ≡ 0 → first (runChecks p A b []) ≡ 0
+pub run-checked : (p : ℕ) (A : Matrix) (b : List ℕ) → first (systemChecks p A b) ≡ 0 → first (runChecks p A b [] 0) ≡ 0
 unfolding runChecks
 run-checked p A b e =
-    first-append-none (systemChecks p A b) (check 10 (not (wordsTaken (size A) [])) ∷ []) (numbered-system p A b) e
-    ∙ first-pass 10 (wordsTaken (size A) []) [] (no-words (size A)) first-nil
+    first-append-none (systemChecks p A b) (check 10 (not (wordsTaken (size A) [])) ∷ check 13 (not (windowTaken 0)) ∷ []) (numbered-system p A b) e
+    ∙ first-pass 10 (wordsTaken (size A) []) _ (no-words (size A)) (first-pass 13 (windowTaken 0) [] refl first-nil)
 
 pub record TextTaken (text : List ℕ) : Type 0 where
   pub fits : length text ≤ 24576
@@ -192,7 +192,7 @@ module _ (text : List ℕ) (t : TextTaken text) where
   pub system-checked : first (systemChecks (s .modulus) (s .matrix) (s .right)) ≡ 0
   system-checked = read-and-written text (t .read) .accepted
 
-  pub solved-small : Small (s .modulus) (size (s .matrix)) (solve (s .modulus) (s .matrix) (s .right) [])
+  pub solved-small : Small (s .modulus) (size (s .matrix)) (solve (s .modulus) (s .matrix) (s .right) [] 0)
   solved-small =
       run-small (s .modulus) (s .matrix) (s .right) (run-checked (s .modulus) (s .matrix) (s .right) system-checked)
       (omega (arith, size-system (document text), t .rows))
@@ -200,13 +200,13 @@ module _ (text : List ℕ) (t : TextTaken text) where
   pub solved-fits : length (solvedText text) ≤ 7168
   unfolding solvedText
   solved-fits =
-      answer-fits (solve (s .modulus) (s .matrix) (s .right) []) (s .modulus) (size (s .matrix)) solved-small
+      answer-fits (solve (s .modulus) (s .matrix) (s .right) [] 0) (s .modulus) (size (s .matrix)) solved-small
       (modulus-high (s .modulus) (system-accepted (s .modulus) (s .matrix) (s .right) system-checked .prime))
       (omega (arith, size-system (document text), t .rows))
 
 pub solved-long : (text : List ℕ) → 18 < length (solvedText text)
 unfolding solvedText
-solved-long text = answer-long (solve (systemOf text .modulus) (systemOf text .matrix) (systemOf text .right) [])
+solved-long text = answer-long (solve (systemOf text .modulus) (systemOf text .matrix) (systemOf text .right) [] 0)
 
 -- ---- the number returned says which it is
 
@@ -251,7 +251,7 @@ pub record Called (text answer : List ℕ) (r : ℕ) (after : List ℕ) : Type 0
 
 solved-adds-up : (text : List ℕ) → AddsUp (solvedText text)
 unfolding solvedText
-solved-adds-up text = answer-adds-up (solve (systemOf text .modulus) (systemOf text .matrix) (systemOf text .right) [])
+solved-adds-up text = answer-adds-up (solve (systemOf text .modulus) (systemOf text .matrix) (systemOf text .right) [] 0)
 
 pub called : (text answer : List ℕ) (r : ℕ) (after : List ℕ) → (r ≡ textAnswer text (length answer)) × (after ≡ textAfter text answer) → Called text answer r after
 called text answer r after e =

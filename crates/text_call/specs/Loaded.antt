@@ -47,7 +47,7 @@ abbrev pub loadedMatrix : ℕ → ℕ → List ℕ → List ℕ → List ℕ →
 loadedMatrix n count starts columns values = matrix (take (n + 1) starts) (take count columns) (take count values)
 
 abbrev pub outcomeOf : ℕ → ℕ → ℕ → List ℕ → List ℕ → List ℕ → List ℕ → Outcome
-outcomeOf p n count starts columns values right = solve p (loadedMatrix n count starts columns values) (take n right) []
+outcomeOf p n count starts columns values right = solve p (loadedMatrix n count starts columns values) (take n right) [] 0
 
 -- the answer's text of its run
 abbrev pub loadedText : ℕ → ℕ → ℕ → List ℕ → List ℕ → List ℕ → List ℕ → List ℕ
@@ -178,8 +178,8 @@ module _ (text starts columns values right : List ℕ) (e : readerRefusal text s
       pub read-outcome : answerText (outcomeOf p n count starts′ columns′ values′ right′) ≡ solvedText text
       unfolding solvedText
       read-outcome =
-          ap₂ (λ q M. answerText (solve q M (take n right′) [])) same-modulus same-matrix
-          ∙ ap (λ b. answerText (solve (systemOf text .modulus) A b [])) same-right
+          ap₂ (λ q M. answerText (solve q M (take n right′) [] 0)) same-modulus same-matrix
+          ∙ ap (λ b. answerText (solve (systemOf text .modulus) A b [] 0)) same-right
 
 -- where the reader answers no modulus, its number is a refusal's
 pub refused-number : (text starts columns values right : List ℕ) (number : ℕ) → number ≡ readerRefusal text starts columns values right
@@ -281,13 +281,13 @@ module _ (p n count : ℕ) (starts columns values right : List ℕ) (l : Loaded 
 
   -- nothing is refused where the vector, the polynomial and the work slice are as long as stated
   pub loaded-taken : (vector polynomial work : List ℕ) → length vector ≡ n → length polynomial ≡ n + 1 → 16 * n + 16 ≤ length work
-      → solverRefusal p (loadedMatrix n count starts columns values) (take n right) [] vector polynomial work ≡ 0
+      → solverRefusal p (loadedMatrix n count starts columns values) (take n right) [] 0 vector polynomial work ≡ 0
   unfolding solverRefusal
   loaded-taken vector polynomial work ev ef ew =
       let A = loadedMatrix n count starts columns values in
-      first-append-none (runChecks p A (take n right) [])
+      first-append-none (runChecks p A (take n right) [] 0)
       (check 11 (not (eqb (length vector) (size A) && eqb (length polynomial) (size A + 1) && leb (16 * size A + 16) (length work))) ∷ [])
-      (numbered-run p A (take n right) [])
+      (numbered-run p A (take n right) [] 0)
       (run-checked p A (take n right) (l .checked))
       ∙ first-pass 11 (eqb (length vector) (size A) && eqb (length polynomial) (size A + 1) && leb (16 * size A + 16) (length work)) []
       (and-both
@@ -296,24 +296,24 @@ module _ (p n count : ℕ) (starts columns values right : List ℕ) (l : Loaded 
       first-nil
 
   -- so a call of the solver on the arrays' leading parts gives the outcome
-  pub loaded-solved : {t k u b words v f B w v′ f′ B′ w′ : List ℕ} {r : Verdict} → Solves p (matrix t k u) b words v f B w r v′ f′ B′ w′
+  pub loaded-solved : {t k u b words v f B w v′ f′ B′ w′ : List ℕ} {r : Verdict} → Solves p (matrix t k u) b words 0 v f B w r v′ f′ B′ w′
       → t ≡ take (n + 1) starts → k ≡ take count columns → u ≡ take count values → b ≡ take n right → words ≡ []
       → length v ≡ n → length f ≡ n + 1 → length B ≡ 384 → 16 * n + 16 ≤ length w
       → Says r 0 o × (v′ ≡ o .vector) × (f′ ≡ padded (n + 1) (o .polynomial)) × (billLines B′ (passCount o) ≡ passLines 1 (o .passes))
   loaded-solved {t} {k} {u} {b} {words} {v} {f} {B} {w} {v′} {f′} {B′} {w′} {r} h et ek eu eb ew lv lf lb lw =
       let A = loadedMatrix n count starts columns values in
-      let on-starts = subst (λ x. Solves p (matrix x k u) b words v f B w r v′ f′ B′ w′) et h in
-      let on-columns = subst (λ x. Solves p (matrix (take (n + 1) starts) x u) b words v f B w r v′ f′ B′ w′) ek on-starts in
-      let on-values = subst (λ x. Solves p (matrix (take (n + 1) starts) (take count columns) x) b words v f B w r v′ f′ B′ w′) eu on-columns in
-      let on-right = subst (λ x. Solves p A x words v f B w r v′ f′ B′ w′) eb on-values in
-      let call = subst (λ x. Solves p A (take n right) x v f B w r v′ f′ B′ w′) ew on-right in
+      let on-starts = subst (λ x. Solves p (matrix x k u) b words 0 v f B w r v′ f′ B′ w′) et h in
+      let on-columns = subst (λ x. Solves p (matrix (take (n + 1) starts) x u) b words 0 v f B w r v′ f′ B′ w′) ek on-starts in
+      let on-values = subst (λ x. Solves p (matrix (take (n + 1) starts) (take count columns) x) b words 0 v f B w r v′ f′ B′ w′) eu on-columns in
+      let on-right = subst (λ x. Solves p A x words 0 v f B w r v′ f′ B′ w′) eb on-values in
+      let call = subst (λ x. Solves p A (take n right) x 0 v f B w r v′ f′ B′ w′) ew on-right in
       let none = loaded-taken v f w lv lf lw in
       let room : 3 * passCount o ≤ length B = omega (arith, loaded-small .passes-few, l .rows, lb) in (
         subst (λ z. Says r z o) none (call .says),
-        call .leaves .vector-after ∙ unlessRefused-none (solverRefusal p A (take n right) [] v f w) (o .vector) v none,
-        call .leaves .polynomial-after ∙ unlessRefused-none (solverRefusal p A (take n right) [] v f w) (padded (size A + 1) (o .polynomial)) f none
+        call .leaves .vector-after ∙ unlessRefused-none (solverRefusal p A (take n right) [] 0 v f w) (o .vector) v none,
+        call .leaves .polynomial-after ∙ unlessRefused-none (solverRefusal p A (take n right) [] 0 v f w) (padded (size A + 1) (o .polynomial)) f none
             ∙ ap (λ z. padded (z + 1) (o .polynomial)) loaded-rows,
         ap (λ x. billLines x (passCount o))
-            (call .leaves .bill-after ∙ unlessRefused-none (solverRefusal p A (take n right) [] v f w) (billed B (o .passes)) B none ∙ billed-all B (o .passes) room)
+            (call .leaves .bill-after ∙ unlessRefused-none (solverRefusal p A (take n right) [] 0 v f w) (billed B (o .passes)) B none ∙ billed-all B (o .passes) room)
             ∙ bill-lines (o .passes) (drop (3 * passCount o) B),
       )

@@ -40,6 +40,7 @@ fn run(
         &values[z..count],
         &right[z..n],
         &[],
+        0,
         &mut vector[z..n],
         &mut polynomial[z..m],
         bill,

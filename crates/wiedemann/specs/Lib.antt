@@ -6,3 +6,4 @@ pub mod Answers
 pub mod Projection
 pub mod Turns
 pub mod Pass
+pub mod Window

@@ -2,26 +2,33 @@
 -- that no run led to finds a degree of up to 2 × left.
 --     generatorAt          where f stands after the recurrence of 2 × left terms
 --     held                 the run that a work slice holds, its degree D and its passes being known
---     passOf, passed       the meaning's record of a pass; the code's, by A, left and t: 2 × left − 1 products and t
+--     passOf, passed       the meaning's record of a pass; the code's, by A, left, t and the products made beside f(A)r's
+--     Rule                 the terms that a pass ends with, and its products beside f(A)r's, by the meaning's `pass`: rule-whole, rule-early, rule-on, as
+--                          there was no test, it found f(A)r zero, or not; rule-present: w = 0
+--     Shortened            terms, recurrence and f(A)r, in a slice of which the places from `base` on are r's and the first `kept` stay:
+--                          shortened, shortened-lent, shortened-window
 --     Makes, Answers       what a pass leaves; what each case of an answer says
 --     Passes               what a call answers and leaves: the meaning's `pass` of what was held
---     Narrowed, narrowed, narrowed-from      terms, recurrence and f(A)r in the slice's part from r on; F stays
---     narrowed-factors     F and f are what the product asks
+--     shortened-factors    F and f are what the product asks
 --     made                 with F × f: a pass
 --     makes-passed, makes-modulus      .. its record counted together; the modulus by its other name
 use mathlib.Core.Path.{_≡_, refl, sym, ap, ap₂, _∙_, subst}
 use mathlib.Core.Logic.{_≢_}
+use mathlib.Core.Bool.{true, false}
 use mathlib.Core.List.{List, [], _∷_, _++_}
 use Prim.Native.Nat.{ℕ, _+_, _-_, _*_, _≤_, _<_}
 use native.Mathlib.Nat.{zero-add, add-zero}
 use native.Mathlib.Omega.{arith}
 use lib.ListN.{length, take, getD}
-use Rattle.meaning.specs.List.{at}
+use lib.Seq.{take-take}
+use Rattle.meaning.specs.List.{at, isZero}
 use Rattle.meaning.specs.Matrix.{Matrix, size, apply, multiplied}
 use Rattle.meaning.specs.Recurrence.{degree, generator}
-use Rattle.meaning.specs.Solver.{Pass, Run, projections, terms, multiply, passTerms, pass}
+use Rattle.meaning.specs.Solver.{Pass, Run, projections, terms, multiply, passTerms, testAt, endPass, pass}
 use Rattle.residue.specs.Prime.{Prime}
+use Rattle.laws.specs.List.{length-table}
 use Rattle.laws.specs.Recurrence.{generator-below}
+use Rattle.laws.specs.Solver.{test-none, pass-whole, pass-early, pass-on}
 use Rattle.checks.specs.Valid.{Vector}
 use Rattle.checks.specs.Pass.{residualAt, passRefusal}
 use Rattle.wiedemann.specs.declared.pass.Pass.{Pass as CodePass}
@@ -29,7 +36,7 @@ use Rattle.wiedemann.specs.declared.pass.Passed.{Passed}
 use Rattle.wiedemann.specs.declared.pass.Passed.the-variants.{Made, Refused}
 use Rattle.laws.specs.Part.{part, length-part, at-part}
 use Rattle.laws.specs.Lent.{lent, length-lent, take-lent, inner-lent, part-at, part-of-part, same-take, same-drop}
-use Rattle.wiedemann.specs.Turns.{Shortened}
+use Rattle.wiedemann.specs.Turns.{Sequenced, Generated, Applied}
 use Rattle.recurrence.specs.Factor.{Factors, Multiplied}
 
 abbrev pub generatorAt : ℕ → ℕ → ℕ
@@ -41,72 +48,150 @@ held n W D qs = record { residual = part (residualAt n) n W; factor = part 0 (D 
 abbrev pub passOf : CodePass → Pass
 passOf q = record { left = q .left; degree = q .degree; applications = q .applications }
 
-abbrev pub passed : Matrix → ℕ → ℕ → CodePass
-passed A left t = record { left = left; degree = t; applications = 2 * left - 1 + t; multiplied = multiplied (2 * left - 1 + t) A }
+abbrev pub passed : Matrix → ℕ → ℕ → ℕ → CodePass
+passed A left t made = record { left = left; degree = t; applications = made + t; multiplied = multiplied (made + t) A }
 
--- the meaning's `pass` of what was held; its products are counted by entry too
-pub record Makes (p : ℕ) (A : Matrix) (u : List ℕ) (D : ℕ) (W : List ℕ) (q : CodePass) (W′ : List ℕ) : Type 0 where
+-- ---- how a pass ends
+
+abbrev pub Rule : ℕ → Matrix → ℕ → List ℕ → ℕ → List ℕ → List ℕ → ℕ → Type 0
+Rule p A w u left r taken made = (c : Run) → size A - c .found ≡ left → c .residual ≡ r → pass p A w u c ≡ endPass p A taken made c
+
+module _ (p : ℕ) (A : Matrix) (w : ℕ) (u : List ℕ) (left : ℕ) (r : List ℕ) where
+  abbrev s : List ℕ
+  s = terms p A left u r
+
+  pub length-terms : length (terms p A left u r) ≡ 2 * left
+  unfolding terms
+  length-terms = length-table (2 * left) _
+
+  -- the terms of a run that stands there
+  same-terms : (c : Run) → size A - c .found ≡ left → c .residual ≡ r → passTerms p A u c ≡ terms p A left u r
+  unfolding passTerms
+  same-terms c e f = ap₂ (λ l v. terms p A l u v) e f
+
+  pub rule-whole : length (terms p A left u r) ≤ testAt p w (terms p A left u r) → Rule p A w u left r (terms p A left u r) (2 * left - 1)
+  rule-whole l c e f =
+      let t = same-terms c e f in
+      pass-whole p A w u c (testAt p w (passTerms p A u c)) refl (subst (λ x. length x ≤ testAt p w x) (sym t) l)
+      ∙ ap₂ (λ x k. endPass p A x (2 * k - 1) c) t e
+
+  module _ (i : ℕ) (at-i : testAt p w (terms p A left u r) ≡ i) (l : i < 2 * left) where
+    at-c : (c : Run) → passTerms p A u c ≡ terms p A left u r → testAt p w (passTerms p A u c) ≡ i
+    at-c c t = ap (testAt p w) t ∙ at-i
+
+    low-c : (c : Run) → passTerms p A u c ≡ terms p A left u r → i < length (passTerms p A u c)
+    low-c c t = subst (λ x. i < length x) (sym t) (omega (arith, l, length-terms))
+
+    pub rule-early : isZero (apply p A (generator p (take i (terms p A left u r))) r) ≡ true → Rule p A w u left r (take i (terms p A left u r)) (i - 1)
+    rule-early z c e f =
+        let t = same-terms c e f in
+        pass-early p A w u c i (at-c c t) (low-c c t) (ap₂ (λ x v. isZero (apply p A (generator p (take i x)) v)) t f ∙ z)
+        ∙ ap (λ x. endPass p A (take i x) (i - 1) c) t
+
+    pub rule-on : isZero (apply p A (generator p (take i (terms p A left u r))) r) ≡ false
+        → Rule p A w u left r (terms p A left u r) (2 * left - 1 + degree p (take i (terms p A left u r)))
+    rule-on z c e f =
+        let t = same-terms c e f in
+        pass-on p A w u c i (at-c c t) (low-c c t) (ap₂ (λ x v. isZero (apply p A (generator p (take i x)) v)) t f ∙ z)
+        ∙ ap₂ (λ x k. endPass p A x (2 * k - 1 + degree p (take i x)) c) t e
+
+pub rule-present : (p : ℕ) (A : Matrix) (u : List ℕ) (left : ℕ) (r : List ℕ) → Rule p A 0 u left r (terms p A left u r) (2 * left - 1)
+rule-present p A u left r = rule-whole p A 0 u left r (omega (arith, test-none p (terms p A left u r)))
+
+-- ---- terms, recurrence and f(A)r
+
+pub record Shortened (p : ℕ) (A : Matrix) (w : ℕ) (u : List ℕ) (left kept base : ℕ) (W : List ℕ) (q : CodePass) (W′ : List ℕ) : Type 0 where
+  pub taken : List ℕ
+  pub made : ℕ
+  pub rule : Rule p A w u left (part base (size A) W) taken made
+  pub counted : q ≡ passed A left (q .degree) made
   pub same-length : length W′ ≡ length W
-  pub run : (qs : List Pass) → held (size A) W′ (D + q .degree) (qs ++ (passOf q ∷ [])) ≡ pass p A u (held (size A) W D qs)
-  pub by-entry : q .multiplied ≡ multiplied (q .applications) A
+  pub front : take kept W′ ≡ take kept W
+  pub answer : q .degree ≡ degree p taken
+  pub short : q .degree ≤ 2 * left
+  pub residual : part base (size A) W′ ≡ apply p A (generator p taken) (part base (size A) W)
+  pub f : part (base + (3 * size A + (2 * left + 2))) (q .degree + 1) W′ ≡ generator p taken
 
--- "a refusal returns its number and no other answer .. and every lent slice keeps its contents"
-abbrev pub Answers : ℕ → Matrix → List ℕ → ℕ → List ℕ → ℕ → Passed → List ℕ → Type 0
-Answers p A u D W number (Made q) W′ = (number ≡ 0) × Makes p A u D W q W′
-Answers p A u D W number (Refused k) W′ = (number ≡ k) × (k ≢ 0) × (W′ ≡ W)
-
-abbrev pub Passes : ℕ → Matrix → List ℕ → ℕ → ℕ → List ℕ → Passed → List ℕ → Type 0
-Passes p A words j D W r W′ = Answers p A (getD (projections p (size A) words) j []) D W (passRefusal p A words D W) r W′
-
--- ---- terms, recurrence and f(A)r, seen from the whole slice
-
-pub record Narrowed (p : ℕ) (A : Matrix) (left : ℕ) (u W W′ : List ℕ) (t : ℕ) : Type 0 where
-  pub same-length : length W′ ≡ length W
-  pub front : take (residualAt (size A)) W′ ≡ take (residualAt (size A)) W
-  pub answer : t ≡ degree p (terms p A left u (part (residualAt (size A)) (size A) W))
-  pub short : t ≤ 2 * left
-  pub residual :
-      part (residualAt (size A)) (size A) W′
-      ≡ apply p A (generator p (terms p A left u (part (residualAt (size A)) (size A) W))) (part (residualAt (size A)) (size A) W)
-  pub f : part (generatorAt (size A) left) (t + 1) W′ ≡ generator p (terms p A left u (part (residualAt (size A)) (size A) W))
-
-pub narrowed : {p : ℕ} {A : Matrix} {left : ℕ} {u W : List ℕ} (m : ℕ) {Y : List ℕ} {t : ℕ} → residualAt (size A) + m ≤ length W
-    → 3 * size A + (8 * left + 8) ≤ m → length Y ≡ m → Shortened p A left u (part (residualAt (size A)) m W) Y t
-    → Narrowed p A left u W (lent W (residualAt (size A)) m Y) t
-narrowed {p} {A} {left} {u} {W} m {Y} {t} fits room same s =
+pub shortened : {p : ℕ} {A : Matrix} {left : ℕ} {u W W₁ W₂ W₃ : List ℕ} {q : CodePass} → 3 * size A ≤ length W → Sequenced p A left u W W₁
+    → Generated p W₁ (3 * size A) (2 * left) W₂ (q .degree) → Applied p A W₂ (3 * size A + (2 * left + 2)) (q .degree) W₃
+    → q ≡ passed A left (q .degree) (2 * left - 1) → Shortened p A 0 u left 0 0 W q W₃
+shortened {p} {A} {left} {u} {W} {W₁} {W₂} {W₃} {q} l s g a e =
     record {
-      same-length = length-lent W a m Y fits same;
-      front = take-lent W a m Y fits same;
-      answer = s .answer ∙ ap (λ r. degree p (terms p A left u r)) old;
+      taken = terms p A left u (part 0 (size A) W);
+      made = 2 * left - 1;
+      rule = rule-present p A u left (part 0 (size A) W);
+      counted = e;
+      same-length = a .same-length ∙ g .same-length ∙ s .same-length;
+      front = refl;
+      answer = g .answer ∙ ap (degree p) (s .terms);
+      short = g .short;
+      residual = a .holds ∙ ap₂ (λ f r. apply p A f r) (g .f ∙ ap (generator p) (s .terms)) first;
+      f =
+          part-at W₃ (0 + (3 * size A + (2 * left + 2))) (q .degree + 1) (3 * size A + (2 * left + 2)) (q .degree + 1) (omega arith) refl
+          ∙ same-drop (2 * left + 2) (q .degree + 1) (3 * size A) W₂ W₃ (a .rest) ∙ g .f ∙ ap (generator p) (s .terms);
+    }
+  where
+    first : part 0 (size A) W₂ ≡ part 0 (size A) W
+    first = same-take 0 (size A) (3 * size A) W₁ W₂ (omega arith) (omega (arith, l, s .same-length)) (g .same-length) (g .before) ∙ s .front
+
+-- the window by its other name
+pub shortened-window : {p : ℕ} {A : Matrix} {w w′ : ℕ} {u : List ℕ} {left kept base : ℕ} {W : List ℕ} {q : CodePass} {W′ : List ℕ} → w ≡ w′
+    → Shortened p A w u left kept base W q W′ → Shortened p A w′ u left kept base W q W′
+shortened-window {p} {A} {u} {left} {kept} {base} {W} {q} {W′} e s = subst (λ w. Shortened p A w u left kept base W q W′) e s
+
+-- in the m places from a on, which were lent, in the end from a slice W₀ whose first `kept` places are W's
+pub shortened-lent : {p : ℕ} {A : Matrix} {w : ℕ} {u : List ℕ} {left base : ℕ} {W : List ℕ} (kept a b m : ℕ) (W₀ : List ℕ) {q : CodePass} {Y : List ℕ} → kept ≤ a
+    → length W₀ ≡ length W → take kept W₀ ≡ take kept W → a + base ≡ b → a + m ≤ length W → base + (3 * size A + (8 * left + 8)) ≤ m → length Y ≡ m
+    → Shortened p A w u left 0 base (part a m W) q Y → Shortened p A w u left kept b W q (lent W₀ a m Y)
+shortened-lent {p} {A} {w} {u} {left} {base} {W} kept a b m W₀ {q} {Y} low long stays e fits room same s =
+    record {
+      taken = s .taken;
+      made = s .made;
+      rule = subst (λ r. Rule p A w u left r (s .taken) (s .made)) old (s .rule);
+      counted = s .counted;
+      same-length = length-lent W₀ a m Y fits₀ same ∙ long;
+      front =
+          sym (take-take kept a W′ low) ∙ ap (take kept) (take-lent W₀ a m Y fits₀ same) ∙ take-take kept a W₀ low ∙ stays;
+      answer = s .answer;
       short = s .short;
       residual =
-          part-at W′ a n (a + 0) n (sym (add-zero a)) refl ∙ inner-lent W a m Y fits same 0 n (omega (arith, room)) ∙ s .residual
-          ∙ ap (λ r. apply p A (generator p (terms p A left u r)) r) old;
+          part-at W′ b n (a + base) n (sym e) refl ∙ inner-lent W₀ a m Y fits₀ same base n (omega (arith, room)) ∙ s .residual
+          ∙ ap (apply p A (generator p (s .taken))) old;
       f =
-          inner-lent W a m Y fits same (3 * n + (2 * left + 2)) (t + 1) (omega (arith, room, s .short)) ∙ s .f
-          ∙ ap (λ r. generator p (terms p A left u r)) old;
+          part-at W′ (b + (3 * n + (2 * left + 2))) (t + 1) (a + (base + (3 * n + (2 * left + 2)))) (t + 1) (omega (arith, e)) refl
+          ∙ inner-lent W₀ a m Y fits₀ same (base + (3 * n + (2 * left + 2))) (t + 1) (omega (arith, room, s .short)) ∙ s .f;
     }
   where
     n : ℕ
     n = size A
 
-    a : ℕ
-    a = residualAt (size A)
+    t : ℕ
+    t = q .degree
 
     W′ : List ℕ
-    W′ = lent W (residualAt (size A)) m Y
+    W′ = lent W₀ a m Y
 
-    old : part 0 n (part a m W) ≡ part a n W
-    old = part-of-part 0 n a m W (omega (arith, room)) fits ∙ part-at W (a + 0) n a n (add-zero a) refl
+    fits₀ : a + m ≤ length W₀
+    fits₀ = omega (arith, fits, long)
 
--- the offset is worked out by the code
-pub narrowed-from : {p : ℕ} {A : Matrix} {left : ℕ} {u W : List ℕ} (a m : ℕ) {Y : List ℕ} {t : ℕ} → a ≡ residualAt (size A) → a + m ≤ length W
-    → 3 * size A + (8 * left + 8) ≤ m → length Y ≡ m → Shortened p A left u (part a m W) Y t → Narrowed p A left u W (lent W a m Y) t
-narrowed-from {p} {A} {left} {u} {W} a m {Y} {t} e fits room same s =
-    subst (λ b. b + m ≤ length W → Shortened p A left u (part b m W) Y t → Narrowed p A left u W (lent W b m Y) t) (sym e)
-    (λ f h. narrowed m f room same h) fits s
+    old : part base n (part a m W) ≡ part b n W
+    old = part-of-part base n a m W (omega (arith, room)) fits ∙ part-at W (a + base) n b n e refl
 
 -- ---- a pass
+
+-- the meaning's `pass` of what was held; its products are counted by entry too
+pub record Makes (p : ℕ) (A : Matrix) (w : ℕ) (u : List ℕ) (D : ℕ) (W : List ℕ) (q : CodePass) (W′ : List ℕ) : Type 0 where
+  pub same-length : length W′ ≡ length W
+  pub run : (qs : List Pass) → held (size A) W′ (D + q .degree) (qs ++ (passOf q ∷ [])) ≡ pass p A w u (held (size A) W D qs)
+  pub by-entry : q .multiplied ≡ multiplied (q .applications) A
+
+-- "a refusal returns its number and no other answer .. and every lent slice keeps its contents"
+abbrev pub Answers : ℕ → Matrix → ℕ → List ℕ → ℕ → List ℕ → ℕ → Passed → List ℕ → Type 0
+Answers p A w u D W number (Made q) W′ = (number ≡ 0) × Makes p A w u D W q W′
+Answers p A w u D W number (Refused k) W′ = (number ≡ k) × (k ≢ 0) × (W′ ≡ W)
+
+abbrev pub Passes : ℕ → Matrix → List ℕ → ℕ → ℕ → ℕ → List ℕ → Passed → List ℕ → Type 0
+Passes p A words w j D W r W′ = Answers p A w (getD (projections p (size A) words) j []) D W (passRefusal p A words D W) r W′
 
 same-held : {r r′ F F′ : List ℕ} {D D′ : ℕ} {qs qs′ : List Pass} → r ≡ r′ → F ≡ F′ → D ≡ D′ → qs ≡ qs′
     → _≡_ {A = Run} (record { residual = r; factor = F; found = D; passes = qs }) (record { residual = r′; factor = F′; found = D′; passes = qs′ })
@@ -116,82 +201,78 @@ same-held {r} {r′} {F} {F′} {D} {D′} {qs} {qs′} a b c d =
     ∙ ap {B = Run} (λ x. record { residual = r′; factor = F′; found = x; passes = qs }) c
     ∙ ap {B = Run} (λ x. record { residual = r′; factor = F′; found = D′; passes = x }) d
 
--- F's coefficients passed check 9, f's are a generator's
-pub narrowed-factors : {p : ℕ} {A : Matrix} {u W W₁ : List ℕ} (D t : ℕ) → Prime p → size A ≤ 4096 → D < size A → Vector p (D + 1) (part 0 (D + 1) W)
-    → Narrowed p A (size A - D) u W W₁ t → (f m : ℕ) → f ≡ generatorAt (size A) (size A - D) → f + t < m → m ≤ length W → Factors p (part 0 m W₁) D f t
-narrowed-factors {p} {A} {u} {W} {W₁} D t prime sized below F a f m e inside fits =
-    record {
-      few = omega (arith, within, sized);
-      below = omega (arith, within, e);
-      room = omega (arith, length-part 0 m W₁ long, inside);
-      left =
-          λ i l.
-          subst (λ x. x < p)
-          (ap (λ g. at g i) (sym front) ∙ at-part 0 (D + 1) W₁ i (omega (arith, l)) ∙ sym (at-part 0 m W₁ i (omega (arith, l, within, e, inside))))
-          (F .below i (omega (arith, l)));
-      right =
-          λ i l.
-          subst (λ x. x < p)
-          (ap (λ g. at g i) (sym (part-at W₁ f (t + 1) (generatorAt n (n - D)) (t + 1) e refl ∙ a .f)) ∙ at-part f (t + 1) W₁ i (omega (arith, l))
-          ∙ sym (at-part 0 m W₁ (f + i) (omega (arith, l, inside)) ∙ ap (at W₁) (zero-add (f + i))))
-          (generator-below p (prime .two-le) s i);
-    }
-  where
-    n : ℕ
-    n = size A
+module _ {p : ℕ} {A : Matrix} {w : ℕ} {u W W₁ : List ℕ} {q : CodePass} (D : ℕ) (below : D < size A)
+    (a : Shortened p A w u (size A - D) (2 * size A + 1) (residualAt (size A)) W q W₁) where
+  abbrev n : ℕ
+  n = size A
 
-    s : List ℕ
-    s = terms p A (size A - D) u (part (residualAt (size A)) (size A) W)
+  abbrev t : ℕ
+  t = q .degree
 
-    within : D + t ≤ 2 * n
-    within = omega (arith, a .short, below)
+  within : D + t ≤ 2 * n
+  within = omega (arith, a .short, below)
 
-    long : 0 + m ≤ length W₁
-    long = omega (arith, fits, a .same-length)
+  -- F's coefficients passed check 9, f's are a generator's
+  pub shortened-factors : Prime p → size A ≤ 4096 → Vector p (D + 1) (part 0 (D + 1) W)
+      → (f m : ℕ) → f ≡ generatorAt (size A) (size A - D) → f + q .degree < m → m ≤ length W → Factors p (part 0 m W₁) D f (q .degree)
+  shortened-factors prime sized F f m e inside fits =
+      record {
+        few = omega (arith, within, sized);
+        below = omega (arith, within, e);
+        room = omega (arith, length-part 0 m W₁ long, inside);
+        left =
+            λ i l.
+            subst (λ x. x < p)
+            (ap (λ g. at g i) (sym front) ∙ at-part 0 (D + 1) W₁ i (omega (arith, l)) ∙ sym (at-part 0 m W₁ i (omega (arith, l, within, e, inside))))
+            (F .below i (omega (arith, l)));
+        right =
+            λ i l.
+            subst (λ x. x < p)
+            (ap (λ g. at g i) (sym (part-at W₁ f (t + 1) (generatorAt n (n - D)) (t + 1) e refl ∙ a .f)) ∙ at-part f (t + 1) W₁ i (omega (arith, l))
+            ∙ sym (at-part 0 m W₁ (f + i) (omega (arith, l, inside)) ∙ ap (at W₁) (zero-add (f + i))))
+            (generator-below p (prime .two-le) (a .taken) i);
+      }
+    where
+      long : 0 + m ≤ length W₁
+      long = omega (arith, fits, a .same-length)
 
-    front : part 0 (D + 1) W₁ ≡ part 0 (D + 1) W
-    front = same-take 0 (D + 1) (residualAt n) W W₁ (omega (arith, below)) (omega (arith, fits, inside, e)) (a .same-length) (a .front)
+      front : part 0 (D + 1) W₁ ≡ part 0 (D + 1) W
+      front = same-take 0 (D + 1) (2 * n + 1) W W₁ (omega (arith, below)) (omega (arith, fits, inside, e)) (a .same-length) (a .front)
 
-pub made : {p : ℕ} {A : Matrix} {u W W₁ W₂ : List ℕ} (D t : ℕ) → D < size A → 16 * size A + 16 ≤ length W → Narrowed p A (size A - D) u W W₁ t
-    → (f : ℕ) → f ≡ generatorAt (size A) (size A - D) → Multiplied p W₁ D f t W₂ → (qs : List Pass)
-    → held (size A) W₂ (D + t) (qs ++ (passOf (passed A (size A - D) t) ∷ [])) ≡ pass p A u (held (size A) W D qs)
-unfolding pass passTerms
-made {p} {A} {u} {W} {W₁} {W₂} D t below room a f e m qs =
-    same-held residual factor (ap (λ k. D + k) (a .answer))
-    (ap {B = List Pass} (λ k. qs ++ (record { left = n - D; degree = k; applications = 2 * (n - D) - 1 + k } ∷ [])) (a .answer))
-  where
-    n : ℕ
-    n = size A
+  pub made : {W₂ : List ℕ} → 16 * size A + 16 ≤ length W → (f : ℕ) → f ≡ generatorAt (size A) (size A - D) → Multiplied p W₁ D f (q .degree) W₂
+      → (qs : List Pass) → held (size A) W₂ (D + q .degree) (qs ++ (passOf (passed A (size A - D) (q .degree) (a .made)) ∷ [])) ≡ pass p A w u (held (size A) W D qs)
+  unfolding endPass
+  made {W₂} room f e m qs =
+      same-held residual factor (ap (λ k. D + k) (a .answer))
+      (ap {B = List Pass} (λ k. qs ++ (record { left = n - D; degree = k; applications = a .made + k } ∷ [])) (a .answer))
+      ∙ sym (a .rule (held n W D qs) refl refl)
+    where
+      residual : part (residualAt n) n W₂ ≡ apply p A (generator p (a .taken)) (part (residualAt n) n W)
+      residual =
+          part-at W₂ (residualAt n) n (D + t + 1 + (5 * n - (D + t))) n place refl ∙ same-drop (5 * n - (D + t)) n (D + t + 1) W₁ W₂ (m .rest)
+          ∙ part-at W₁ (D + t + 1 + (5 * n - (D + t))) n (residualAt n) n (sym place) refl ∙ a .residual
+        where
+          place : residualAt n ≡ D + t + 1 + (5 * n - (D + t))
+          place = omega (arith, within)
 
-    within : D + t ≤ 2 * n
-    within = omega (arith, a .short, below)
-
-    residual : part (residualAt n) n W₂ ≡ apply p A (generator p (terms p A (n - D) u (part (residualAt n) n W))) (part (residualAt n) n W)
-    residual =
-        part-at W₂ (residualAt n) n (D + t + 1 + (2 * n - (D + t))) n place refl ∙ same-drop (2 * n - (D + t)) n (D + t + 1) W₁ W₂ (m .rest)
-        ∙ part-at W₁ (D + t + 1 + (2 * n - (D + t))) n (residualAt n) n (sym place) refl ∙ a .residual
-      where
-        place : residualAt n ≡ D + t + 1 + (2 * n - (D + t))
-        place = omega (arith, within)
-
-    factor : part 0 (D + t + 1) W₂ ≡ multiply p (part 0 (D + 1) W) (generator p (terms p A (n - D) u (part (residualAt n) n W)))
-    factor =
-        m .product
-        ∙ ap₂ (multiply p) (same-take 0 (D + 1) (residualAt n) W W₁ (omega (arith, below)) (omega (arith, room)) (a .same-length) (a .front))
-        (part-at W₁ f (t + 1) (generatorAt n (n - D)) (t + 1) e refl ∙ a .f)
+      factor : part 0 (D + t + 1) W₂ ≡ multiply p (part 0 (D + 1) W) (generator p (a .taken))
+      factor =
+          m .product
+          ∙ ap₂ (multiply p) (same-take 0 (D + 1) (2 * n + 1) W W₁ (omega (arith, below)) (omega (arith, room)) (a .same-length) (a .front))
+          (part-at W₁ f (t + 1) (generatorAt n (n - D)) (t + 1) e refl ∙ a .f)
 
 -- the record that was counted together
-pub makes-passed : {p : ℕ} {A : Matrix} {u W W′ : List ℕ} {D left : ℕ} {q : CodePass} → q ≡ passed A left (q .degree) → length W′ ≡ length W
-    → ((qs : List Pass) → held (size A) W′ (D + q .degree) (qs ++ (passOf (passed A left (q .degree)) ∷ [])) ≡ pass p A u (held (size A) W D qs))
-    → Makes p A u D W q W′
-makes-passed {p} {A} {u} {W} {W′} {D} {left} {q} e long run =
+pub makes-passed : {p : ℕ} {A : Matrix} {w : ℕ} {u W W′ : List ℕ} {D left : ℕ} {q : CodePass} (k : ℕ) → q ≡ passed A left (q .degree) k → length W′ ≡ length W
+    → ((qs : List Pass) → held (size A) W′ (D + q .degree) (qs ++ (passOf (passed A left (q .degree) k) ∷ [])) ≡ pass p A w u (held (size A) W D qs))
+    → Makes p A w u D W q W′
+makes-passed {p} {A} {w} {u} {W} {W′} {D} {left} {q} k e long run =
     record {
       same-length = long;
-      run = λ qs. ap {B = Run} (λ k. held (size A) W′ (D + q .degree) (qs ++ (passOf k ∷ []))) e ∙ run qs;
-      by-entry = ap (λ (k : CodePass). k .multiplied) e ∙ ap (λ (k : CodePass). multiplied (k .applications) A) (sym e);
+      run = λ qs. ap {B = Run} (λ x. held (size A) W′ (D + q .degree) (qs ++ (passOf x ∷ []))) e ∙ run qs;
+      by-entry = ap (λ (x : CodePass). x .multiplied) e ∙ ap (λ (x : CodePass). multiplied (x .applications) A) (sym e);
     }
 
 -- the modulus by its other name
-pub makes-modulus : {m p : ℕ} {A : Matrix} (words : List ℕ) (j : ℕ) {D : ℕ} {W : List ℕ} {q : CodePass} {W′ : List ℕ} → m ≡ p
-    → Makes m A (getD (projections m (size A) words) j []) D W q W′ → Makes p A (getD (projections p (size A) words) j []) D W q W′
-makes-modulus {A} words j {D} {W} {q} {W′} e h = subst (λ p. Makes p A (getD (projections p (size A) words) j []) D W q W′) e h
+pub makes-modulus : {m p : ℕ} {A : Matrix} {w : ℕ} (words : List ℕ) (j : ℕ) {D : ℕ} {W : List ℕ} {q : CodePass} {W′ : List ℕ} → m ≡ p
+    → Makes m A w (getD (projections m (size A) words) j []) D W q W′ → Makes p A w (getD (projections p (size A) words) j []) D W q W′
+makes-modulus {A} {w} words j {D} {W} {q} {W′} e h = subst (λ p. Makes p A w (getD (projections p (size A) words) j []) D W q W′) e h

@@ -6,10 +6,9 @@
 --     Advanced               what it leaves: Horner's step with r
 --     regions, advanced, advanced-at      the step within the part that r and its iterates have is that
 --     Iterated               the terms of a sequence up to i, and Aⁱr in a region: iterated-none, iterated-more, iterated-from; Sequenced: all of
---                            them, iterated-all
+--                            them, iterated-all; iterated-kept: what stands behind the terms is not asked
 --     Applying               Horner's rule down to coefficient i: applying-none, applying-more; Applied: all of it, r replaced, applied-all
 --     Generated              the shortest recurrence of a part: generated
---     Shortened              terms, recurrence, and r replaced by f(A)r: shortened
 --     vector-power, vector-terms, apply-unit      Aⁱv and the terms have elements below p; 1(A)v is v
 use mathlib.Core.Path.{_≡_, refl, sym, ap, ap₂, _∙_, subst}
 use mathlib.Core.Logic.{_≢_, _⊎_, inl, inr}
@@ -21,7 +20,7 @@ use native.Mathlib.Decide.{ℕ-discrete}
 use native.Mathlib.Numerals.{add-one}
 use native.Mathlib.Omega.{arith}
 use lib.ListN.{length, take, drop, set, length-set}
-use lib.Seq.{getD-set-same, getD-set-other, getD-drop, take-set-le, take-take}
+use lib.Seq.{getD-set-same, getD-set-other, getD-take, take-set-le, take-take}
 use lib.Dec.{eqb}
 use borrow.Author.Tests.{eq-eqb, ne-eqb}
 use Rattle.meaning.specs.List.{at, sum, padded}
@@ -41,7 +40,7 @@ use Rattle.laws.specs.Part as region
 use Rattle.wiedemann.specs.Horner.{step, stepAt, table-step, step-product, power-zero, power-suc, apply-one, apply-cons, vector-product}
 use Rattle.checks.specs.Valid.{vector-table}
 use Rattle.recurrence.specs.Recurrence.{HoldsGenerator}
-use Rattle.laws.specs.Lent.{part-at, part-cons, part-of-part, lent, length-lent, take-lent, inner-lent, same-take, same-drop, written-take, written-drop, written-inner, take-padded}
+use Rattle.laws.specs.Lent.{part-at, part-cons, part-of-part, lent, length-lent, take-lent, inner-lent, same-take, same-drop, same-after, written-take, written-drop, written-inner, take-padded}
 
 pub data Seat (n a : ℕ) : Type 0 where
   origin : a ≡ 0 → Seat n a
@@ -213,9 +212,6 @@ iterated-none p A u W v l e =
         ap (λ m. at (set W (3 * size A + 0) v) (3 * size A + m)) q ∙ getD-set-same W (3 * size A + 0) v 0 (omega (arith, l)) ∙ e
         ∙ ap (dot p u) (sym (power-zero p A (part 0 (size A) W)) ∙ ap (λ m. power p A m (part 0 (size A) W)) (sym q))
 
-at-rest : (m k : ℕ) (W W′ : List ℕ) → drop m W′ ≡ drop m W → at W′ (m + k) ≡ at W (m + k)
-at-rest m k W W′ e = sym (getD-drop m W′ k 0) ∙ ap (λ l. at l k) e ∙ getD-drop m W k 0
-
 pub iterated-more : {p : ℕ} {A : Matrix} {u W : List ℕ} {i from to : ℕ} {W₁ W₂ : List ℕ} (j v : ℕ) → j ≡ i + 1 → Iterated p A u W i from W₁
     → Advanced p A 0 W₁ from W₂ to → 3 * size A + j < length W → v ≡ dot p u (part to (size A) W₂) → Iterated p A u W j to (set W₂ (3 * size A + j) v)
 iterated-more {p} {A} {u} {W} {i} {from} {to} {W₁} {W₂} j v following w a below e =
@@ -250,7 +246,7 @@ iterated-more {p} {A} {u} {W} {i} {from} {to} {W₁} {W₂} j v following w a be
         ap (λ m. at (set W₂ (n3 + (i + 1)) v) (n3 + m)) q ∙ getD-set-same W₂ (n3 + (i + 1)) v 0 (omega (arith, long, l)) ∙ e
         ∙ ap (dot p u) (next ∙ ap (λ m. power p A m (part 0 n W)) (sym q))
     go k (inr q) =
-        getD-set-other W₂ (n3 + (i + 1)) (n3 + k) v 0 (λ r. omega (arith, r, q)) ∙ at-rest n3 k W₁ W₂ (a .rest) ∙ w .terms k (omega (arith, q))
+        getD-set-other W₂ (n3 + (i + 1)) (n3 + k) v 0 (λ r. omega (arith, r, q)) ∙ same-after n3 (n3 + k) W₁ W₂ (a .rest) (omega arith) ∙ w .terms k (omega (arith, q))
 
 pub vector-terms : (p : ℕ) (A : Matrix) (left : ℕ) (u r : List ℕ) → 0 < p → Vector p (2 * left) (terms p A left u r)
 unfolding terms dot
@@ -281,6 +277,21 @@ iterated-from {p} {A} {u} {W} {W₁} {i} {from} {W′} e f w =
       holds = w .holds ∙ ap (power p A i) f;
       terms = λ k h. w .terms k h ∙ ap (λ r. dot p u (power p A k r)) f;
     }
+
+-- what stands behind the terms may change
+pub iterated-kept : {p : ℕ} {A : Matrix} {u W : List ℕ} {i from : ℕ} {W₁ W₂ : List ℕ} (m : ℕ) → 3 * size A + i < m → m ≤ length W₁
+    → length W₂ ≡ length W₁ → take m W₂ ≡ take m W₁ → Iterated p A u W i from W₁ → Iterated p A u W i from W₂
+iterated-kept {p} {A} {u} {W} {i} {from} {W₁} {W₂} m l fits same front w =
+    record {
+      seat = w .seat;
+      same-length = same ∙ w .same-length;
+      front = same-take 0 (size A) m W₁ W₂ (omega (arith, l)) fits same front ∙ w .front;
+      holds = same-take from (size A) m W₁ W₂ (omega (arith, l, seat-low (w .seat))) fits same front ∙ w .holds;
+      terms = λ k h. same-at (3 * size A + k) (omega (arith, l, h)) ∙ w .terms k h;
+    }
+  where
+    same-at : (k : ℕ) → k < m → at W₂ k ≡ at W₁ k
+    same-at k h = sym (getD-take m W₂ k 0 h) ∙ ap (λ x. at x k) front ∙ getD-take m W₁ k 0 h
 
 -- ---- Horner's rule
 
@@ -341,11 +352,7 @@ applying-more {p} {A} {W} {f} {t} {i} {from} {to} {W₁} {W₂} c valid h w l e 
     n = size A
 
     coefficient : at W₁ (f + i) ≡ at W (f + i)
-    coefficient =
-        ap (at W₁) place ∙ at-rest (3 * n) (f + i - 3 * n) W W₁ (w .rest) ∙ ap (at W) (sym place)
-      where
-        place : f + i ≡ 3 * n + (f + i - 3 * n)
-        place = omega (arith, h .above)
+    coefficient = same-after (3 * n) (f + i) W W₁ (w .rest) (omega (arith, h .above))
 
     split : part (f + i) (t + 1 - i) W ≡ at W (f + i) ∷ part (f + (i + 1)) (t + 1 - (i + 1)) W
     split =
@@ -428,24 +435,3 @@ generated p W from count m Y t modulus e l same found =
       where
         long : length (generator p s) ≡ t + 1
         long = length-generator p s ∙ ap (λ k. k + 1) (sym answer)
-
-pub record Shortened (p : ℕ) (A : Matrix) (left : ℕ) (u W W′ : List ℕ) (t : ℕ) : Type 0 where
-  pub same-length : length W′ ≡ length W
-  pub answer : t ≡ degree p (terms p A left u (part 0 (size A) W))
-  pub short : t ≤ 2 * left
-  pub residual : part 0 (size A) W′ ≡ apply p A (generator p (terms p A left u (part 0 (size A) W))) (part 0 (size A) W)
-  pub f : part (3 * size A + (2 * left + 2)) (t + 1) W′ ≡ generator p (terms p A left u (part 0 (size A) W))
-
-pub shortened : {p : ℕ} {A : Matrix} {left : ℕ} {u W W₁ W₂ W₃ : List ℕ} {t : ℕ} → 3 * size A ≤ length W → Sequenced p A left u W W₁
-    → Generated p W₁ (3 * size A) (2 * left) W₂ t → Applied p A W₂ (3 * size A + (2 * left + 2)) t W₃ → Shortened p A left u W W₃ t
-shortened {p} {A} {left} {u} {W} {W₁} {W₂} {W₃} {t} l s g a =
-    record {
-      same-length = a .same-length ∙ g .same-length ∙ s .same-length;
-      answer = g .answer ∙ ap (degree p) (s .terms);
-      short = g .short;
-      residual = a .holds ∙ ap₂ (λ f r. apply p A f r) (g .f ∙ ap (generator p) (s .terms)) first;
-      f = same-drop (2 * left + 2) (t + 1) (3 * size A) W₂ W₃ (a .rest) ∙ g .f ∙ ap (generator p) (s .terms);
-    }
-  where
-    first : part 0 (size A) W₂ ≡ part 0 (size A) W
-    first = same-take 0 (size A) (3 * size A) W₁ W₂ (omega arith) (omega (arith, l, s .same-length)) (g .same-length) (g .before) ∙ s .front

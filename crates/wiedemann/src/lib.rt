@@ -3,3 +3,4 @@ pub mod matrix;
 pub mod offered;
 pub mod pass;
 mod projection;
+mod window;

@@ -1,5 +1,6 @@
-// A pass of a run, in the run's work slice: F at the front, 2n + 1 places; r and two regions for its iterates Aⁱr, n places each; the recurrence's
-// part, 8 × left + 8 places; the rest is free. What needs no F runs in the `area` from r on.
+// A pass of a run, in the run's work slice: F at the front, 2n + 1 places; a copy of r and two regions for its iterates, n places each, in which a pass
+// with a window makes its test; r and two regions for its iterates Aⁱr, n places each; the recurrence's part, 8 × left + 8 places; the rest is free. What
+// needs no F runs in the `area` from r on, or from the test's places on.
 ghost use mathlib.Core.Path.{_≡_};
 ghost use mathlib.Core.Bool.{true};
 ghost use mathlib.Core.List.{[]};
@@ -12,14 +13,15 @@ ghost use Rattle.modular.specs.Modulus.{Modular};
 ghost use Rattle.checks.specs.Valid.{Valid, Vector};
 ghost use Rattle.laws.specs.Part.{part};
 ghost use Rattle.wiedemann.specs.Projection.{Words};
-ghost use Rattle.wiedemann.specs.Turns.{regionAt, Turning, Advanced, Sequenced, Leading, Applied, Generated, Shortened};
-ghost use Rattle.wiedemann.specs.Pass.{generatorAt, passed, Makes, Passes};
+ghost use Rattle.wiedemann.specs.Turns.{regionAt, Turning, Advanced, Sequenced, Leading, Applied, Generated};
+ghost use Rattle.wiedemann.specs.Pass.{generatorAt, Shortened, Makes, Passes};
 ghost use Rattle.checks.specs.Pass.{State};
 ghost use Rattle.checks.specs.Products.{Few, added, productsWith};
 use crate::matrix::plus;
 use crate::matrix::step_within;
 use crate::projection::Projection;
 use crate::projection::projected;
+use crate::window::factor_by_window;
 use checks::Products;
 use checks::pass_refusal;
 use checks::residual_at;
@@ -29,10 +31,9 @@ use recurrence::Answer;
 use recurrence::factor::multiply;
 use recurrence::generate;
 use slices::copy_within;
-use slices::put;
 
 // Where the iterate of r after i products stands: r at the front, the others by turns in the two regions behind it.
-fn region(n: usize, i: usize) -> usize
+pub(crate) fn region(n: usize, i: usize) -> usize
     requires { ⌜ n ≤ 4096 ⌝ }
     ensures { λ r. ⌜ r ≡ regionAt n i ⌝ }
 {
@@ -44,7 +45,7 @@ fn region(n: usize, i: usize) -> usize
 
 // Horner's step after some products: c × r plus A times the iterate, into the next region. r and the iterates are lent to it. The answer is the
 // products that there are then.
-fn advance(
+pub(crate) fn advance(
     m: Modulus,
     c: u32,
     starts: &[u32],
@@ -79,20 +80,24 @@ fn advance(
     plus(done, more)
 }
 
-// Term i of the 2 × left: the projection's dot product with the iterate Aⁱr.
-fn term(m: Modulus, words: &[u32], u: Projection, n: usize, area: &mut [u32], i: usize, left: usize)
-    requires { ⌜ Modular m × (n ≤ 4096) × (left ≤ 4096) × Words n (u .vectors) (now words) ⌝ }
-    requires { ⌜ (regionAt n i + n ≤ length (now area)) × (3 * n + 2 * left ≤ length (now area)) × (i < 2 * left)
-        × Vector (m .p) n (part (regionAt n i) n (now area)) ⌝ }
+// Term i, where the recurrence has it: the projection's dot product with the iterate Aⁱr, which stands at `from`.
+pub(crate) fn term(
+    m: Modulus,
+    words: &[u32],
+    u: Projection,
+    n: usize,
+    area: &mut [u32],
+    from: usize,
+    i: usize,
+)
+    requires { ⌜ Modular m × (n ≤ 4096) × Words n (u .vectors) (now words) ⌝ }
+    requires { ⌜ (from + n ≤ length (now area)) × (3 * n + i < length (now area)) × Vector (m .p) n (part from n (now area)) ⌝ }
     ensures { λ _. ⌜ now (area .exit) ≡ set (now (area .entry)) (3 * n + i)
-        (dot (m .p) (getD (projections (m .p) n (now (words .entry))) (u .index) []) (part (regionAt n i) n (now (area .entry)))) ⌝ }
+        (dot (m .p) (getD (projections (m .p) n (now (words .entry))) (u .index) []) (part from n (now (area .entry)))) ⌝ }
 {
-    let from = region(n, i);
     let to = from + n;
     let value = projected(m, words, u, &area[from..to]);
-    let first = 3 * n;
-    let end = first + 2 * left;
-    put(&mut area[first..end], i, value);
+    area[3 * n + i] = value;
 }
 
 // The 2 × left terms u·r, u·Ar, u·A²r, .. where the recurrence begins; the answer is the products that they took.
@@ -120,10 +125,10 @@ fn terms(
         made: 0,
         multiplied: 0,
     };
-    term(m, words, u, n, area, done.made, left);
+    term(m, words, u, n, area, region(n, done.made), done.made);
     while done.made + 1 < 2 * left {
         done = advance(m, 0, starts, columns, values, area, done);
-        term(m, words, u, n, area, done.made, left);
+        term(m, words, u, n, area, region(n, done.made), done.made);
     }
     done
 }
@@ -143,7 +148,7 @@ fn recurrence_of_terms(m: Modulus, area: &mut [u32], from: usize, count: usize) 
 }
 
 // r becomes f(A)r by Horner's rule, for the monic f of degree t at `f`; the answer is the products that this took.
-fn apply_within(
+pub(crate) fn apply_within(
     m: Modulus,
     starts: &[u32],
     columns: &[u32],
@@ -183,8 +188,8 @@ pub struct Pass {
     pub multiplied: u64,
 }
 
-// The terms with the projection, their generator f, which stands behind them, and f(A)r in r's place. Every product that was made is counted.
-fn take_factor(
+// All 2 × left terms with the projection, their generator f, which stands behind them, and f(A)r in r's place. Every product that was made is counted.
+fn factor_of_terms(
     m: Modulus,
     starts: &[u32],
     columns: &[u32],
@@ -198,10 +203,9 @@ fn take_factor(
     requires { ⌜ Modular m × (0 < left) × (left ≤ 4096) × Words (length (now starts) - 1) (u .vectors) (now words) ⌝ }
     requires { ⌜ (3 * (length (now starts) - 1) + (8 * left + 8) ≤ length (now area))
         × Vector (m .p) (length (now starts) - 1) (part 0 (length (now starts) - 1) (now area)) ⌝ }
-    ensures { λ q. ⌜ (q ≡ passed (matrix (now (starts .entry)) (now (columns .entry)) (now (values .entry))) left (q .degree))
-        × Shortened (m .p) (matrix (now (starts .entry)) (now (columns .entry)) (now (values .entry))) left
-        (getD (projections (m .p) (length (now (starts .entry)) - 1) (now (words .entry))) (u .index) [])
-        (now (area .entry)) (now (area .exit)) (q .degree) ⌝ }
+    ensures { λ q. ⌜ Shortened (m .p) (matrix (now (starts .entry)) (now (columns .entry)) (now (values .entry))) 0
+        (getD (projections (m .p) (length (now (starts .entry)) - 1) (now (words .entry))) (u .index) []) left 0 0
+        (now (area .entry)) q (now (area .exit)) ⌝ }
 {
     let n = starts.len() - 1;
     let first = terms(m, starts, columns, values, words, u, area, left);
@@ -214,6 +218,33 @@ fn take_factor(
         applications: done.made as u64,
         multiplied: done.multiplied,
     }
+}
+
+// A pass's factor f, with the window; 0 asks for no test. The area begins with the test's places.
+fn take_factor(
+    m: Modulus,
+    starts: &[u32],
+    columns: &[u32],
+    values: &[u32],
+    words: &[u32],
+    u: Projection,
+    area: &mut [u32],
+    left: usize,
+    window: u32,
+) -> Pass
+    requires { ⌜ Valid (m .p) (matrix (now starts) (now columns) (now values)) × (isModulus (m .p) ≡ true) ⌝ }
+    requires { ⌜ Modular m × (0 < left) × (left ≤ 4096) × Words (length (now starts) - 1) (u .vectors) (now words) ⌝ }
+    requires { ⌜ (6 * (length (now starts) - 1) + (8 * left + 8) ≤ length (now area))
+        × Vector (m .p) (length (now starts) - 1) (part (3 * (length (now starts) - 1)) (length (now starts) - 1) (now area)) ⌝ }
+    ensures { λ q. ⌜ Shortened (m .p) (matrix (now (starts .entry)) (now (columns .entry)) (now (values .entry))) window
+        (getD (projections (m .p) (length (now (starts .entry)) - 1) (now (words .entry))) (u .index) []) left 0 (3 * (length (now (starts .entry)) - 1))
+        (now (area .entry)) q (now (area .exit)) ⌝ }
+{
+    if window == 0 {
+        let r = 3 * (starts.len() - 1);
+        return factor_of_terms(m, starts, columns, values, words, u, &mut area[r..], left);
+    }
+    factor_by_window(m, starts, columns, values, words, u, area, left, window)
 }
 
 // ---- the call
@@ -240,18 +271,19 @@ fn pass_of_state(
     columns: &[u32],
     values: &[u32],
     words: &[u32],
+    window: u32,
     j: usize,
     d: usize,
     work: &mut [u32],
 ) -> Pass
     requires { ⌜ Valid (m .p) (matrix (now starts) (now columns) (now values)) × (isModulus (m .p) ≡ true) × Modular m ⌝ }
     requires { ⌜ State (m .p) (length (now starts) - 1) d (now words) (now work) ⌝ }
-    ensures { λ q. ⌜ Makes (m .p) (matrix (now (starts .entry)) (now (columns .entry)) (now (values .entry)))
+    ensures { λ q. ⌜ Makes (m .p) (matrix (now (starts .entry)) (now (columns .entry)) (now (values .entry))) window
         (getD (projections (m .p) (length (now (starts .entry)) - 1) (now (words .entry))) j []) d (now (work .entry)) q (now (work .exit)) ⌝ }
 {
     let n = starts.len() - 1;
     let left = n - d;
-    let first = residual_at(n as u32);
+    let first = 2 * n + 1;
     let u = Projection {
         vectors: words.len() / n,
         index: j,
@@ -265,6 +297,7 @@ fn pass_of_state(
         u,
         &mut work[first..],
         left,
+        window,
     );
     let front: usize = 0;
     let f = generator_at(n, left);
@@ -273,25 +306,26 @@ fn pass_of_state(
     q
 }
 
-// A pass with projection j of the run whose r and F, of degree d, stand in the work slice. It asks nothing of how the run came there, and refuses
-// what is no such state.
+// A pass with projection j and the window of the run whose r and F, of degree d, stand in the work slice. It asks nothing of how the run came there, and
+// refuses what is no such state; any window is one.
 pub fn make_pass(
     field: Field,
     starts: &[u32],
     columns: &[u32],
     values: &[u32],
     words: &[u32],
+    window: u32,
     j: usize,
     d: usize,
     work: &mut [u32],
 ) -> Passed
     ensures { λ r. ⌜ Passes (field .p) (matrix (now (starts .entry)) (now (columns .entry)) (now (values .entry)))
-        (now (words .entry)) j d (now (work .entry)) r (now (work .exit)) ⌝ }
+        (now (words .entry)) window j d (now (work .entry)) r (now (work .exit)) ⌝ }
 {
     let number = pass_refusal(field.p, starts, columns, values, words, d, work);
     if number != 0 {
         return Passed::Refused(number);
     }
     let m = Modulus::of(field.p);
-    Passed::Made(pass_of_state(m, starts, columns, values, words, j, d, work))
+    Passed::Made(pass_of_state(m, starts, columns, values, words, window, j, d, work))
 }

@@ -18,10 +18,10 @@ use Rattle.solver.proofs.run.Statement.{statement}
 use Rattle.solver.proofs.run.Tie as tie
 
 abbrev Inv-loop : tie.InvT-loop
-Inv-loop field starts columns values b words bill₀ work₀ n c₀ j₀ bill work c j = Midway (field .p) (matrix starts columns values) b words bill₀ bill work j c × (length work ≡ length work₀)
+Inv-loop field starts columns values b words window bill₀ work₀ n c₀ j₀ bill work c j = Midway (field .p) (matrix starts columns values) b words window bill₀ bill work j c × (length work ≡ length work₀)
 
 abbrev μ-loop : tie.MeasureT-loop
-μ-loop field starts columns values b words bill₀ work₀ n c₀ j₀ bill work c j = length (projections (field .p) (length starts - 1) words) - j
+μ-loop field starts columns values b words window bill₀ work₀ n c₀ j₀ bill work c j = length (projections (field .p) (length starts - 1) words) - j
 
 -- "R from 0 to 64", and n at most 4,096
 most : (p n : ℕ) (words : List ℕ) → wordsTaken n words ≡ true → n ≤ 4096 → length (projections p n words) ≤ 8192
@@ -41,7 +41,7 @@ loop-holds c =
     let pre = c .before .before .before .before .before .before .before .before .before .before .before .pre in
     let e = c .before .before .begin .ensures in
     let X = c .before .before .begin .last .1 .0 in (
-      subst (λ k. Midway (a .field .p) (matrix (now (a .starts)) (now (a .columns)) (now (a .values))) (now (a .b)) (now (a .words)) (now (a .bill)) (now (a .bill)) X 0 k) (sym (e .0))
+      subst (λ k. Midway (a .field .p) (matrix (now (a .starts)) (now (a .columns)) (now (a .values))) (now (a .b)) (now (a .words)) (a .window) (now (a .bill)) (now (a .bill)) X 0 k) (sym (e .0))
           (midway-begin (pre .0) (omega (arith, e .1, pre .1 .1)) (subst (λ k. held k X 0 [] ≡ begin (now (a .b))) (pre .0 .accepted .size-b) (e .2))),
       refl,
     )
@@ -67,7 +67,7 @@ never c =
     let m = c .before .before .before .before .before .before .before .before .before .loop .inv .0 in
     let z = sym (c .before .before .before .before .before .before .before .is-settled .ensures) ∙ not-true _ (c .before .before .before .before .before .before .if1 .taken) in
     let answer = c .before .before .before .before .make-pass in
-    midway-made (pre .0) few m z (pre .1 .0) _ (answer .last .1 .1 .1 .1 .1 .1 .1 .0) (answer .result) _ (c .enum-told .given .1) (answer .ensures)
+    midway-made (pre .0) few m z (pre .1 .0) _ (answer .last .1 .1 .1 .1 .1 .1 .1 .1 .0) (answer .result) _ (c .enum-told .given .1) (answer .ensures)
 
 same-length : tie.Need-same-length Inv-loop μ-loop
 same-length c = absurd (never c)
@@ -86,7 +86,7 @@ count-requires c κs =
     let m = c .before .before .before .before .before .before .before .before .before .before .loop .inv .0 in
     let z = sym (c .before .before .before .before .before .before .before .before .is-settled .ensures) ∙ not-true _ (c .before .before .before .before .before .before .before .if1 .taken) in
     let answer = c .before .before .before .before .before .make-pass in
-    midway-fits (pre .0) few m z _ (answer .last .1 .1 .1 .1 .1 .1 .1 .0) (answer .result) _ (c .before .answer .given .1) (answer .ensures)
+    midway-fits (pre .0) few m z _ (answer .last .1 .1 .1 .1 .1 .1 .1 .1 .0) (answer .result) _ (c .before .answer .given .1) (answer .ensures)
 
 enter-requires : tie.Need-enter-requires Inv-loop μ-loop
 enter-requires c κs =
@@ -96,7 +96,7 @@ enter-requires c κs =
     let m = c .before .before .before .before .before .before .before .before .before .before .before .before .loop .inv .0 in
     let z = sym (c .before .before .before .before .before .before .before .before .before .before .is-settled .ensures) ∙ not-true _ (c .before .before .before .before .before .before .before .before .before .if1 .taken) in
     let answer = c .before .before .before .before .before .before .before .make-pass in
-    let fits = midway-fits (pre .0) few m z _ (answer .last .1 .1 .1 .1 .1 .1 .1 .0) (answer .result) _ (c .before .before .before .answer .given .1) (answer .ensures) in
+    let fits = midway-fits (pre .0) few m z _ (answer .last .1 .1 .1 .1 .1 .1 .1 .1 .0) (answer .result) _ (c .before .before .before .answer .given .1) (answer .ensures) in
     (omega (arith, midway-less (pre .0) few m z, few), fits .left-low, fits .found-low, fits .cost-low)
 
 add-j : tie.Need-add-j Inv-loop μ-loop
@@ -127,7 +127,7 @@ loop-again c =
     let loop = c .before .before .before .before .before .before .before .before .before .before .before .before .before .before .before .loop in
     let z = sym (c .before .before .before .before .before .before .before .before .before .before .before .before .before .is-settled .ensures) ∙ not-true _ (c .before .before .before .before .before .before .before .before .before .before .before .before .if1 .taken) in
     let answer = c .before .before .before .before .before .before .before .before .before .before .make-pass in
-    let next = midway-next (pre .0) few (loop .inv .0) z (answer .last .1 .1 .1 .1 .1 .1 .1 .0) (answer .result) _ (c .before .before .before .before .before .before .answer .given .1) (answer .ensures) in
+    let next = midway-next (pre .0) few (loop .inv .0) z (answer .last .1 .1 .1 .1 .1 .1 .1 .1 .0) (answer .result) _ (c .before .before .before .before .before .before .answer .given .1) (answer .ensures) in
     (rw (c .before .before .before .before .count .ensures, c .before .before .enter .ensures) (next .1), next .0 ∙ loop .inv .1)
 
 same-length-3 : tie.Need-same-length-3 Inv-loop μ-loop

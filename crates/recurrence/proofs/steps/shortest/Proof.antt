@@ -1,88 +1,102 @@
--- `recurrence::steps::shortest` meets its contract. The loop's invariant says what stands after each r: d, q, t, L and e are those of document 01's
--- steps for 1 to r, of the first r terms. (work₀ is the slice as `start` left it: the terms in it are those that the function got.)
-use mathlib.Core.Path.{_≡_}
-use Prim.Native.Nat.{_+_, _-_, _≤_}
+-- `recurrence::steps::shortest` meets its contract: the steps for 1 to `count` follow document 01's from its start.
+use mathlib.Core.Path.{_≡_, refl}
+use Prim.Native.Nat.{_+_, _-_, _*_, _≤_}
 use native.Mathlib.Omega.{arith}
-use borrow.Author.Needs.{needs}
-use lib.ListN.{take}
-use Rattle.recurrence.specs.Steps.{FollowsSteps, represented, Laid, TermsStay}
-use Rattle.recurrence.proofs.Represented.{follows-within, follows-before, follows-after, stay-same, stay-both}
-use Rattle.recurrence.proofs.Stepping.{first-terms, before-step}
+use denote.Ref.{now}
+use lib.ListN.{length, take}
+use Rattle.recurrence.specs.Recurrence.{reversed-lent}
+use Rattle.recurrence.specs.Steps.{FollowsSteps, represented, TermsStay, sound-follows}
+use Rattle.recurrence.proofs.Represented.{follows-within, follows-before, follows-after, stay-both}
+use Rattle.recurrence.proofs.Stepping.{first-terms, still}
 use Rattle.recurrence.proofs.HoldsGenerator.{holds-generator}
+use borrow.Author.Needs.{needs}
 use Rattle.recurrence.proofs.steps.shortest.Statement.{statement}
 use Rattle.recurrence.proofs.steps.shortest.Tie as tie
 
-abbrev Inv-loop : tie.InvT-loop
-Inv-loop m count work₀ c₀ r₀ work c r =
-    (r ≤ count) × FollowsSteps (m .p) (take r work₀) r (c .d) (represented count work c) × Laid (m .p) count r c × TermsStay count work₀ work
-
-abbrev μ-loop : tie.MeasureT-loop
-μ-loop m count work₀ c₀ r₀ work c r = count - r
-
-start-requires : tie.Need-start-requires Inv-loop μ-loop
+start-requires : tie.Need-start-requires
 start-requires c κs = first-terms 0 (omega arith) (c .before .before .pre .0)
 
-loop-holds : tie.Need-loop-holds Inv-loop μ-loop
-loop-holds c =
-    let begun = c .before .before .start .ensures in
-    (omega arith, follows-after (begun .1 .1) 0 (omega arith) (begun .0), begun .1 .0, stay-same)
+make-steps-requires : tie.Need-make-steps-requires
+make-steps-requires c κs =
+    let start = c .before .before .before .before .before .before in
+    let ready = start .pre .0 in
+    let count = start .args .count in
+    let begun = c .before .before .before .start .ensures in (
+      omega arith,
+      still count (omega arith) (begun .1 .1) (first-terms count (omega arith) ready),
+      sound-follows (ready .two) (follows-after (begun .1 .1) 0 (omega arith) (begun .0)) (begun .1 .0),
+      start .pre .1,
+    )
 
-add-r : tie.Need-add-r Inv-loop μ-loop
-add-r c = omega arith
+-- the steps follow document 01's
+followed : (c : tie.After-make-steps)
+    → let a = c .before .before .before .before .before .before .before .args in
+    FollowsSteps (a .m .p) (take (a .count) (now (a .work))) (a .count) (c .make-steps .result .d) (represented (a .count) (c .make-steps .last .1 .1 .0) (c .make-steps .result))
+followed c =
+    let begun = c .before .before .before .before .start .ensures in
+    let stay = begun .1 .1 in
+    follows-before stay _ (omega arith) (c .make-steps .ensures .follows (follows-after stay 0 (omega arith) (begun .0)))
 
-step-requires : tie.Need-step-requires Inv-loop μ-loop
-step-requires c κs =
-    let loop = c .before .before in
-    let begun = loop .before .before .before in
-    let start = begun .before .before .before in
-    let stay = begun .start .ensures .1 .1 in
-    let inv = loop .loop .inv in
-    (before-step (start .pre .0) (c .before .loop-test .taken) (stay-both stay (inv .3)) (follows-before stay (loop .loop .r) (inv .0) (inv .1)) (inv .2), start .pre .1)
+stays : (c : tie.After-make-steps) → let a = c .before .before .before .before .before .before .before .args in TermsStay (a .count) (now (a .work)) (c .make-steps .last .1 .1 .0)
+stays c = stay-both (c .before .before .before .before .start .ensures .1 .1) (c .make-steps .ensures .stay)
 
-loop-less : tie.Need-loop-less Inv-loop μ-loop
-loop-less c = omega arith
+-- q's region lies in the slice
+fits : (c : tie.After-make-steps) → let a = c .before .before .before .before .before .before .before .args in (c .make-steps .result .L ≤ a .count) × (4 * a .count + 8 ≤ length (c .make-steps .last .1 .1 .0))
+fits c =
+    let ready = c .before .before .before .before .before .before .before .pre .0 in
+    (follows-within (ready .two) (followed c), omega (arith, ready .room, stays c .same-length))
 
-loop-again : tie.Need-loop-again Inv-loop μ-loop
-loop-again c =
-    let loop = c .before .before .before .before .before .loop in
-    let made = c .before .before .step .ensures in
-    (omega arith, follows-before (loop .inv .3) (loop .r + 1) (omega arith) (made .0), made .1 .0, stay-both (loop .inv .3) (made .1 .1))
+add-q : tie.Need-add-q
+add-q c = search needs
 
-add-reverse : tie.Need-add-reverse Inv-loop μ-loop
-add-reverse c = omega arith
+add-end : tie.Need-add-end
+add-end c = let known = fits (c .before .before .before) in omega (arith, known .0, known .1)
 
-reverse-requires : tie.Need-reverse-requires Inv-loop μ-loop
-reverse-requires c κs =
-    let loop = c .before .before in
-    let start = loop .before .before .before .before .before .before in
-    omega (arith, follows-within (start .pre .0 .two) (loop .loop .inv .1), loop .loop .inv .0)
+add-end-2 : tie.Need-add-end-2
+add-end-2 c = let known = fits (c .before .before .before) in omega (arith, known .0, known .1)
 
-same-length : tie.Need-same-length Inv-loop μ-loop
+mul-reverse : tie.Need-mul-reverse
+mul-reverse c = search needs
+
+sub-reverse : tie.Need-sub-reverse
+sub-reverse c = search needs
+
+part-reverse-start : tie.Need-part-reverse-start
+part-reverse-start c = let known = fits (c .before .before .before) in omega (arith, known .0, known .1)
+
+part-reverse-end : tie.Need-part-reverse-end
+part-reverse-end c = let known = fits (c .before .before .before) in omega (arith, known .0, known .1)
+
+reverse-requires : tie.Need-reverse-requires
+reverse-requires c κs = search needs
+
+same-length : tie.Need-same-length
 same-length c = search needs
 
-returns : tie.Need-returns Inv-loop μ-loop
+returns : tie.Need-returns
 returns c =
-    let loop = c .before .before .before .before .before in
-    let begun = loop .before .before .before in
-    let start = begun .before .before .before in
-    let end : loop .loop .r ≡ start .args .count = omega (arith, loop .loop .inv .0, c .before .before .before .before .loop-test .left) in
-    let stay = begun .start .ensures .1 .1 in
-    let inv = loop .loop .inv in
-    holds-generator (loop .loop .c) (start .pre .0) end (follows-before stay (loop .loop .r) (inv .0) (inv .1)) (stay-both stay (inv .3)) (c .before .before .reverse .ensures)
+    let made = c .before .before .before .before .before .before .before in
+    let start = made .before .before .before .before .before .before .before in
+    let q = start .args .count + 2 in
+    let L = made .make-steps .result .L in
+    let n : q + (L + 1) - q ≡ L + 1 = omega arith in
+    let known = fits made in
+    holds-generator (made .make-steps .result) (start .pre .0) refl (followed made) (stays made)
+    (reversed-lent (made .make-steps .last .1 .1 .0) q L (q + (L + 1) - q) _ n (omega (arith, known .0, known .1)) (c .before .before .reverse .ensures))
 
 pub shortest-spec : {M : Type 1} → statement M
 shortest-spec =
     tie.close
     (tie.spec
-    Inv-loop
-    μ-loop
     start-requires
-    loop-holds
-    add-r
-    step-requires
-    loop-less
-    loop-again
-    add-reverse
+    make-steps-requires
+    add-q
+    add-end
+    add-end-2
+    mul-reverse
+    sub-reverse
+    part-reverse-start
+    part-reverse-end
     reverse-requires
     same-length
     returns)

@@ -73,7 +73,7 @@ residue-requires c κs = search needs
 add-after : tie.Need-add-after
 add-after c =
     let ask = c .before .before .before .before .before .before .before .pre .0 in
-    omega (arith, ask .laid .short, ask .first .high, ask .first .few)
+    omega (arith, ask .sound .laid .short, ask .first .high, ask .first .few)
 
 same-length : tie.Need-same-length
 same-length c = search needs
@@ -109,7 +109,7 @@ add-from c =
 add-from-2 : tie.Need-add-from-2
 add-from-2 c =
     let ask = c .before .before .before .before .before .before .before .before .before .before .pre .0 in
-    omega (arith, ask .laid .short, ask .first .high, ask .first .few)
+    omega (arith, ask .sound .laid .short, ask .first .high, ask .first .few)
 
 subtract-requires : tie.Need-subtract-requires
 subtract-requires c κs =
@@ -135,7 +135,7 @@ inverse-modulo-requires c κs = search needs
 add-after-3 : tie.Need-add-after-3
 add-after-3 c =
     let ask = c .before .before .before .before .before .before .before .before .before .before .before .before .before .before .before .before .pre .0 in
-    omega (arith, ask .laid .short, ask .first .high, ask .first .few)
+    omega (arith, ask .sound .laid .short, ask .first .high, ask .first .few)
 
 same-length-2 : tie.Need-same-length-2
 same-length-2 c = c .before .before .before .before .before .before .subtract .ensures .same-length ∙ kept (c .before .before .before .before .before .before .before .before .before .before) .1 .copied .same-length

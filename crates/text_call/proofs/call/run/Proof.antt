@@ -135,9 +135,9 @@ returns c =
     let small = loaded-small p n count starts columns values right loaded in
     record {
       says = solved .0;
-      vector-of = take-at (call .last .1 .1 .1 .1 .1 .1 .0) _ n (ap length (solved .1) ∙ small .vector-length) ∙ solved .1;
+      vector-of = take-at (call .last .1 .1 .1 .1 .1 .1 .1 .0) _ n (ap length (solved .1) ∙ small .vector-length) ∙ solved .1;
       polynomial-of =
-          take-at (call .last .1 .1 .1 .1 .1 .1 .1 .0) _ (n + 1)
+          take-at (call .last .1 .1 .1 .1 .1 .1 .1 .1 .0) _ (n + 1)
           (ap length (solved .2) ∙ length-table (n + 1) (λ i. at (outcomeOf p n count starts columns values right .polynomial) i))
           ∙ solved .2;
       bill-of = solved .3;

@@ -1,124 +1,84 @@
-use Rattle.laws.specs.Lent.{same-take}
-use Rattle.wiedemann.specs.declared.pass.Pass.{Pass}
-use Rattle.checks.specs.declared.Products.{Products}
-use Rattle.checks.specs.Products.{products-add, products-few}
-use Rattle.wiedemann.specs.Turns.{shortened, vector-terms}
-use Rattle.checks.specs.Valid.{Vector}
-use Rattle.meaning.specs.Matrix.{matrix}
-use Rattle.meaning.specs.Solver.{projections}
-use Rattle.laws.specs.Part.{part}
-use denote.Ref.{now}
-use lib.ListN.{length, getD}
+use mathlib.Core.Path.{_≡_, refl, sym, subst, _∙_}
+use Prim.Native.Nat.{_+_, _-_, _*_, _≤_}
 use native.Mathlib.Omega.{arith}
-use mathlib.Core.List.{[]}
-use Prim.Native.Nat.{_+_, _-_, _*_}
-use mathlib.Core.Path.{refl, sym, ap, _∙_, subst}
+use denote.Ref.{now}
+use lib.ListN.{length}
+use Rattle.laws.specs.Part.{length-part}
+use Rattle.laws.specs.Lent.{part-at, part-of-part}
+use Rattle.checks.specs.Valid.{Vector}
+use Rattle.wiedemann.specs.Pass.{shortened-lent, shortened-window}
 use borrow.Author.Needs.{needs}
 use Rattle.wiedemann.proofs.pass.take_factor.Statement.{statement}
 use Rattle.wiedemann.proofs.pass.take_factor.Tie as tie
 
-sub-n : tie.Need-sub-n
-sub-n c = search needs
+sub-r : tie.Need-sub-r
+sub-r c = search needs
 
-terms-requires : tie.Need-terms-requires
-terms-requires c κs =
-    let pre = c .before .before .before .before .before .before .pre in
-    (pre .0 .0, (pre .1 .0, (omega (arith, pre .1 .1 .0), pre .1 .1 .1)))
+mul-r : tie.Need-mul-r
+mul-r c = search needs
 
-mul-recurrence-of-terms : tie.Need-mul-recurrence-of-terms
-mul-recurrence-of-terms c = search needs
+mul-factor-of-terms : tie.Need-mul-factor-of-terms
+mul-factor-of-terms c = search needs
 
-mul-recurrence-of-terms-2 : tie.Need-mul-recurrence-of-terms-2
-mul-recurrence-of-terms-2 c = search needs
+sub-factor-of-terms : tie.Need-sub-factor-of-terms
+sub-factor-of-terms c = search needs
 
-recurrence-of-terms-requires : tie.Need-recurrence-of-terms-requires
-recurrence-of-terms-requires c κs =
-    let a = c .before .before .before .before .before .before .before .before .before .before .args in
-    let pre = c .before .before .before .before .before .before .before .before .before .before .pre in
-    let A = matrix (now (a .starts)) (now (a .columns)) (now (a .values)) in
+part-factor-of-terms-start : tie.Need-part-factor-of-terms-start
+part-factor-of-terms-start c = search needs
+
+part-factor-of-terms-end : tie.Need-part-factor-of-terms-end
+part-factor-of-terms-end c = search needs
+
+factor-of-terms-requires : tie.Need-factor-of-terms-requires
+factor-of-terms-requires c κs =
+    let start = c .before .before .before .before .before .before .before in
+    let a = start .args in
+    let pre = start .pre in
+    let W = now (a .area) in
     let n = length (now (a .starts)) - 1 in
-    let u = getD (projections (a .m .p) n (now (a .words))) (a .u .index) [] in
-    let r = part 0 n (now (a .area)) in
-    let done = c .before .before .before .terms .ensures .1 in (
-      (pre .0 .1, pre .1 .0 .0, omega (arith, pre .1 .0 .2), omega (arith, pre .0 .0 .sized)),
-      (omega (arith, done .same-length, pre .1 .1 .0), rw (done .terms) (vector-terms (a .m .p) A (a .left) u r (pre .0 .0 .positive))),
-    )
-
-mul-apply-within : tie.Need-mul-apply-within
-mul-apply-within c = search needs
-
-mul-apply-within-2 : tie.Need-mul-apply-within-2
-mul-apply-within-2 c = search needs
-
-add-apply-within : tie.Need-add-apply-within
-add-apply-within c = search needs
-
-add-apply-within-2 : tie.Need-add-apply-within-2
-add-apply-within-2 c = search needs
-
-apply-within-requires : tie.Need-apply-within-requires
-apply-within-requires c κs =
-    let a = c .before .before .before .before .before .before .before .before .before .before .before .before .before .before .args in
-    let pre = c .before .before .before .before .before .before .before .before .before .before .before .before .before .before .pre in
-    let n = length (now (a .starts)) - 1 in
-    let done = c .before .before .before .before .before .before .before .terms .ensures .1 in
-    let found = c .before .before .before .recurrence-of-terms .ensures in
-    let room = pre .1 .1 .0 in
-    let long = done .same-length in (
-      pre .0 .0,
-      (
-        pre .1 .0 .0,
-        omega (arith, found .short, pre .1 .0 .2),
-        record {
-          above = omega arith;
-          room = omega (arith, found .same-length, long, found .short, room);
-          one = found .monic;
-          elements =
-              subst (λ l. Vector (a .m .p) n l) {x = part 0 n (now (a .area))}
-              (sym {b = part 0 n (now (a .area))} (_∙_ {c = part 0 n (now (a .area))} (same-take 0 n (3 * n) _ _ (omega arith) (omega (arith, long, room)) (found .same-length) (found .before)) (done .front))) (pre .1 .1 .1);
-        },
-      ),
-    )
-
-plus-requires : tie.Need-plus-requires
-plus-requires c κs =
-    let pre = c .before .before .before .before .before .before .before .before .before .before .before .before .before .before .before .before .before .pre in
-    let t = c .before .before .before .before .before .before .recurrence-of-terms .ensures .short in (
-      products-few (pre .0 .0) (omega (arith, pre .1 .0 .2)) (c .before .before .before .before .before .before .before .before .before .before .terms .ensures .0),
-      products-few (pre .0 .0) (omega (arith, t, pre .1 .0 .2)) (c .before .before .apply-within .ensures .0),
-    )
+    let m = length W - 3 * n in
+    let fits : 3 * n + m ≤ length W = omega (arith, pre .1 .1 .0) in
+    let long = length-part (3 * n) m W fits in
+    (pre .0, (pre .1 .0, (omega (arith, long, pre .1 .1 .0), subst (λ l. Vector (a .m .p) n l) (sym (part-of-part 0 n (3 * n) m W (omega (arith, pre .1 .1 .0)) fits ∙ part-at W (3 * n + 0) n (3 * n) n (omega arith) refl)) (pre .1 .1 .1))))
 
 same-length : tie.Need-same-length
 same-length c = search needs
 
 returns : tie.Need-returns
 returns c =
-    let a = c .before .before .before .before .before .before .before .before .before .before .before .before .before .before .before .before .before .before .args in
-    let pre = c .before .before .before .before .before .before .before .before .before .before .before .before .before .before .before .before .before .before .pre in
-    let A = matrix (now (a .starts)) (now (a .columns)) (now (a .values)) in
-    let first = c .before .before .before .before .before .before .before .before .before .before .before .terms .ensures in
-    let found = c .before .before .before .before .before .before .before .recurrence-of-terms in
-    let more = c .before .before .before .apply-within .ensures in
-    let t = found .result in (
-      ap {B = Pass} (λ (k : Products). record { left = a .left; degree = t; applications = k .made; multiplied = k .multiplied })
-          (c .plus .ensures ∙ products-add A (2 * a .left - 1) t (2 * a .left - 1 + t) (first .0) (more .0) refl),
-      shortened (omega (arith, pre .1 .1 .0)) (first .1) (found .ensures) (more .1),
-    )
+    let start = c .before .before .before .before .before .before .before .before .before .before in
+    let a = start .args in
+    let W = now (a .area) in
+    let n = length (now (a .starts)) - 1 in
+    let m = length W - 3 * n in
+    let room = start .pre .1 .1 .0 in
+    let fits : 3 * n + m ≤ length W = omega (arith, room) in
+    let call = c .before .before .factor-of-terms in
+    shortened-window (sym (c .before .before .before .before .if1 .taken))
+    (shortened-lent 0 (3 * n) (3 * n) m W (omega arith) refl refl (omega arith) fits (omega (arith, room)) (call .kept .1 .1 .1 .1 .1 .1 .0 ∙ length-part (3 * n) m W fits) (call .ensures))
+
+factor-by-window-requires : tie.Need-factor-by-window-requires
+factor-by-window-requires c κs = c .before .before .before .before .before .before .before .pre
+
+same-length-2 : tie.Need-same-length-2
+same-length-2 c = search needs
+
+returns-2 : tie.Need-returns-2
+returns-2 c = c .before .before .factor-by-window .ensures
 
 pub take-factor-spec : {M : Type 1} → statement M
 take-factor-spec =
     tie.close
     (tie.spec
-    sub-n
-    terms-requires
-    mul-recurrence-of-terms
-    mul-recurrence-of-terms-2
-    recurrence-of-terms-requires
-    mul-apply-within
-    mul-apply-within-2
-    add-apply-within
-    add-apply-within-2
-    apply-within-requires
-    plus-requires
+    sub-r
+    mul-r
+    mul-factor-of-terms
+    sub-factor-of-terms
+    part-factor-of-terms-start
+    part-factor-of-terms-end
+    factor-of-terms-requires
     same-length
-    returns)
+    returns
+    factor-by-window-requires
+    same-length-2
+    returns-2)

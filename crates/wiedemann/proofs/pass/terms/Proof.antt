@@ -28,35 +28,39 @@ abbrev μ-loop : tie.MeasureT-loop
 sub-n : tie.Need-sub-n Inv-loop μ-loop
 sub-n c = search needs
 
+region-requires : tie.Need-region-requires Inv-loop μ-loop
+region-requires c κs = c .before .before .before .before .before .before .pre .0 .sized
+
 term-requires : tie.Need-term-requires Inv-loop μ-loop
 term-requires c κs =
-    let pre = c .before .before .before .before .before .before .pre in
-    let n = length (now (c .before .before .before .before .before .before .args .starts)) - 1 in
-    rw (region-first n) (
-      (pre .1 .0 .0, pre .0 .sized, pre .1 .0 .2, pre .1 .0 .3),
-      (omega (arith, pre .1 .1 .0), pre .1 .1 .0, omega (arith, pre .1 .0 .1), pre .1 .1 .1),
+    let pre = c .before .before .before .before .before .before .before .pre in
+    rw (c .region .ensures ∙ region-first (length (now (c .before .before .before .before .before .before .before .args .starts)) - 1)) (
+      (pre .1 .0 .0, pre .0 .sized, pre .1 .0 .3),
+      (omega (arith, pre .1 .1 .0), omega (arith, pre .1 .1 .0, pre .1 .0 .1), pre .1 .1 .1),
     )
 
 -- the first term
 begun : (c : tie.After-term Inv-loop μ-loop)
-    → let a = c .before .before .before .before .before .before .before .args in
+    → let a = c .before .before .before .before .before .before .before .before .args in
     let n = length (now (a .starts)) - 1 in
     Iterated (a .m .p) (matrix (now (a .starts)) (now (a .columns)) (now (a .values))) (getD (projections (a .m .p) n (now (a .words))) (a .u .index) []) (now (a .area)) 0 (regionAt n 0) (c .term .last .1 .1 .1 .1 .0)
 begun c =
-    let a = c .before .before .before .before .before .before .before .args in
-    let pre = c .before .before .before .before .before .before .before .pre in
+    let a = c .before .before .before .before .before .before .before .before .args in
+    let pre = c .before .before .before .before .before .before .before .before .pre in
     let A = matrix (now (a .starts)) (now (a .columns)) (now (a .values)) in
     let n = length (now (a .starts)) - 1 in
     let W = now (a .area) in
     let u = getD (projections (a .m .p) n (now (a .words))) (a .u .index) [] in
+    let first = c .before .region .ensures ∙ region-first n in
+    let value = dot (a .m .p) u (part (c .before .region .result) n W) in
     subst (λ X. Iterated (a .m .p) A u W 0 (regionAt n 0) X) (sym (c .term .ensures))
-    (subst (λ k. Iterated (a .m .p) A u W 0 k (set W (3 * n + 0) (dot (a .m .p) u (part (regionAt n 0) n W)))) (sym (region-first n))
-    (iterated-none (a .m .p) A u W (dot (a .m .p) u (part (regionAt n 0) n W)) (omega (arith, pre .1 .1 .0, pre .1 .0 .1)) (ap (λ k. dot (a .m .p) u (part k n W)) (region-first n))))
+    (subst (λ k. Iterated (a .m .p) A u W 0 k (set W (3 * n + 0) value)) (sym (region-first n))
+    (iterated-none (a .m .p) A u W value (omega (arith, pre .1 .1 .0, pre .1 .0 .1)) (ap (λ k. dot (a .m .p) u (part k n W)) first)))
 
 loop-holds : tie.Need-loop-holds Inv-loop μ-loop
 loop-holds c =
-    let a = c .before .before .before .before .before .before .before .before .before .args in
-    let pre = c .before .before .before .before .before .before .before .before .before .pre in
+    let a = c .before .before .before .before .before .before .before .before .before .before .args in
+    let pre = c .before .before .before .before .before .before .before .before .before .before .pre in
     let n = length (now (a .starts)) - 1 in
     let first = begun (c .before .before) in (
       omega (arith, pre .1 .0 .1),
@@ -67,15 +71,15 @@ loop-holds c =
     )
 
 add-if1 : tie.Need-add-if1 Inv-loop μ-loop
-add-if1 c = omega (arith, c .before .loop .inv .0, c .before .before .before .before .before .before .before .before .before .before .before .pre .1 .0 .2)
+add-if1 c = omega (arith, c .before .loop .inv .0, c .before .before .before .before .before .before .before .before .before .before .before .before .pre .1 .0 .2)
 
 mul-if1 : tie.Need-mul-if1 Inv-loop μ-loop
-mul-if1 c = omega (arith, c .before .before .before .before .before .before .before .before .before .before .before .pre .1 .0 .2)
+mul-if1 c = omega (arith, c .before .before .before .before .before .before .before .before .before .before .before .before .pre .1 .0 .2)
 
 advance-requires : tie.Need-advance-requires Inv-loop μ-loop
 advance-requires c κs =
-    let a = c .before .before .before .before .before .before .before .before .before .before .before .before .before .args in
-    let pre = c .before .before .before .before .before .before .before .before .before .before .before .before .before .pre in
+    let a = c .before .before .before .before .before .before .before .before .before .before .before .before .before .before .args in
+    let pre = c .before .before .before .before .before .before .before .before .before .before .before .before .before .before .pre in
     let A = matrix (now (a .starts)) (now (a .columns)) (now (a .values)) in
     let loop = c .before .before .before .loop in
     let n = length (now (a .starts)) - 1 in (
@@ -91,22 +95,25 @@ advance-requires c κs =
       ),
     )
 
+region-requires-2 : tie.Need-region-requires-2 Inv-loop μ-loop
+region-requires-2 c κs = c .before .before .before .before .before .before .before .before .before .before .before .before .before .before .before .before .before .before .pre .0 .sized
+
 term-requires-2 : tie.Need-term-requires-2 Inv-loop μ-loop
 term-requires-2 c κs =
-    let a = c .before .before .before .before .before .before .before .before .before .before .before .before .before .before .before .before .before .args in
-    let pre = c .before .before .before .before .before .before .before .before .before .before .before .before .before .before .before .before .before .pre in
+    let a = c .before .before .before .before .before .before .before .before .before .before .before .before .before .before .before .before .before .before .before .args in
+    let pre = c .before .before .before .before .before .before .before .before .before .before .before .before .before .before .before .before .before .before .before .pre in
     let A = matrix (now (a .starts)) (now (a .columns)) (now (a .values)) in
-    let loop = c .before .before .before .before .before .before .before .loop in
+    let loop = c .before .before .before .before .before .before .before .before .loop in
     let n = length (now (a .starts)) - 1 in
-    let next = c .before .before .before .advance .ensures in
+    let next = c .before .before .before .before .advance .ensures in
     let low = seat-low (next .1 .seat) in
     let long = next .1 .same-length in
-    let held = loop .inv .3 .same-length in (
-      (pre .1 .0 .0, pre .0 .sized, pre .1 .0 .2, pre .1 .0 .3),
+    let held = loop .inv .3 .same-length in
+    rw (c .region2 .ensures) (
+      (pre .1 .0 .0, pre .0 .sized, pre .1 .0 .3),
       (
         omega (arith, low, long, held, loop .inv .1),
-        omega (arith, long, held, loop .inv .1),
-        omega (arith, ap (λ (x : Products). x .made) (next .0), c .before .before .before .before .before .if1 .taken),
+        omega (arith, long, held, loop .inv .1, ap (λ (x : Products). x .made) (next .0), c .before .before .before .before .before .before .if1 .taken),
         rw (next .1 .holds) (vector-step (a .m .p) A 0 (part 0 n (loop .area)) (part (regionAt n (loop .done .made)) n (loop .area)) (pre .0 .positive)),
       ),
     )
@@ -116,19 +123,20 @@ counted : (c : tie.After-advance Inv-loop μ-loop) → c .advance .result .made 
 counted c = ap (λ (x : Products). x .made) (c .advance .ensures .0)
 
 loop-less : tie.Need-loop-less Inv-loop μ-loop
-loop-less c = omega (arith, c .before .before .before .before .before .before .before .before .if1 .taken, counted (c .before .before .before .before .before .before))
+loop-less c = omega (arith, c .before .before .before .before .before .before .before .before .before .if1 .taken, counted (c .before .before .before .before .before .before .before))
 
 loop-again : tie.Need-loop-again Inv-loop μ-loop
 loop-again c =
-    let a = c .before .before .before .before .before .before .before .before .before .before .before .before .before .before .before .before .before .before .before .before .args in
-    let loop = c .before .before .before .before .before .before .before .before .before .before .loop in
-    let test = c .before .before .before .before .before .before .before .before .if1 .taken in
-    let next = c .before .before .before .before .before .before .advance in
-    let one = counted (c .before .before .before .before .before .before) in (
+    let a = c .before .before .before .before .before .before .before .before .before .before .before .before .before .before .before .before .before .before .before .before .before .before .args in
+    let loop = c .before .before .before .before .before .before .before .before .before .before .before .loop in
+    let test = c .before .before .before .before .before .before .before .before .before .if1 .taken in
+    let next = c .before .before .before .before .before .before .before .advance in
+    let one = counted (c .before .before .before .before .before .before .before) in (
       omega (arith, test, one),
       loop .inv .1,
       loop .inv .2,
-      rw (c .before .before .term2 .ensures) (iterated-more (next .result .made) _ one (loop .inv .3) (next .ensures .1) (omega (arith, test, one, loop .inv .1)) refl),
+      rw (c .before .before .term2 .ensures, c .before .before .before .region2 .ensures)
+          (iterated-more (next .result .made) _ one (loop .inv .3) (next .ensures .1) (omega (arith, test, one, loop .inv .1)) refl),
       products-next (matrix (now (a .starts)) (now (a .columns)) (now (a .values))) (loop .inv .4) (next .ensures .0),
     )
 
@@ -137,12 +145,12 @@ same-length c = c .before .before .loop .inv .3 .same-length ∙ begun (c .befor
 
 returns : tie.Need-returns Inv-loop μ-loop
 returns c =
-    let a = c .before .before .before .before .before .before .before .before .before .before .before .before .args in
+    let a = c .before .before .before .before .before .before .before .before .before .before .before .before .before .args in
     let loop = c .before .before .loop in
     let first = begun (c .before .before .before .before .before) in
     let all : loop .done .made ≡ 2 * a .left - 1 = omega (arith, loop .inv .0, c .if1 .left) in (
       loop .inv .4 ∙ ap {B = Products} (λ k. productsWith k (matrix (now (a .starts)) (now (a .columns)) (now (a .values)))) all,
-      iterated-all (a .left) (omega (arith, loop .inv .0, c .if1 .left)) (omega (arith, c .before .before .before .before .before .before .before .before .before .before .before .before .pre .1 .1 .0))
+      iterated-all (a .left) (omega (arith, loop .inv .0, c .if1 .left)) (omega (arith, c .before .before .before .before .before .before .before .before .before .before .before .before .before .pre .1 .1 .0))
           (iterated-from (first .same-length) (first .front) (loop .inv .3)),
     )
 
@@ -153,11 +161,13 @@ terms-spec =
     Inv-loop
     μ-loop
     sub-n
+    region-requires
     term-requires
     loop-holds
     add-if1
     mul-if1
     advance-requires
+    region-requires-2
     term-requires-2
     loop-less
     loop-again

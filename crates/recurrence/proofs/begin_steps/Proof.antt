@@ -1,0 +1,32 @@
+use mathlib.Core.Path.{sym, _∙_}
+use Rattle.laws.specs.Refusal.{zero-by}
+use Rattle.recurrence.specs.OneStep.{starts-made, starts-refused, room-ready}
+use borrow.Author.Needs.{needs}
+use Rattle.recurrence.proofs.begin_steps.Statement.{statement}
+use Rattle.recurrence.proofs.begin_steps.Tie as tie
+
+room-refusal-requires : tie.Need-room-refusal-requires
+room-refusal-requires c κs = search needs
+
+same-length : tie.Need-same-length
+same-length c = search needs
+
+returns : tie.Need-returns
+returns c = starts-refused (sym (c .before .room-refusal .ensures)) (c .if1 .taken)
+
+start-requires : tie.Need-start-requires
+start-requires c κs = room-ready (zero-by (c .before .before .room-refusal .ensures) (c .before .if1 .left))
+
+same-length-2 : tie.Need-same-length-2
+same-length-2 c = search needs
+
+returns-2 : tie.Need-returns-2
+returns-2 c =
+    let passed = c .before .before .before .before in
+    let start = c .before .before .start .ensures in
+    starts-made (zero-by (passed .before .room-refusal .ensures) (passed .if1 .left)) (start .0) (start .1)
+
+pub begin-steps-spec : {M : Type 1} → statement M
+begin-steps-spec =
+    tie.close
+    (tie.spec room-refusal-requires same-length returns start-requires same-length-2 returns-2)

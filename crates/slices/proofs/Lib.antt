@@ -1,0 +1,2 @@
+-- laws that only the proofs here use
+pub mod Reversing
