@@ -19,6 +19,7 @@ import systems
 import tools
 
 ANSWER = 7168
+BAD_WINDOWS = [65, 66, 128, 256, 65536, 2147483648, 4294967295]
 BAD_MODULI = [0, 1, 4, 9, 91, 561, 65536, 2147483646, 2147483648, 2147483659, 4294967291, 4294967295]
 
 
@@ -109,8 +110,8 @@ def some_vector(source, n, p):
 
 
 def some_matrix(source):
-    what, p, starts, columns, values, b, words = systems.make(source, 12)
-    return p, starts, columns, values, b, words
+    what, p, starts, columns, values, b, words, window = systems.make(source, 12)
+    return p, starts, columns, values, b, words, window
 
 
 def some_bill(source, passes, most):
@@ -120,7 +121,7 @@ def some_bill(source, passes, most):
 
 
 def right_call(source, name):
-    p, starts, columns, values, b, words = some_matrix(source)
+    p, starts, columns, values, b, words, window = some_matrix(source)
     n = len(b)
     matrix = [p, starts, columns, values]
     if name == 'field':
@@ -138,9 +139,9 @@ def right_call(source, name):
         s = some_vector(source, source.randrange(0, 30), source.choice([p, min(p, 2), min(p, 3)]))
         return Call(name, [p, s], [len(s) + 1, 4 * len(s) + 8 + source.randrange(3)])
     if name == 'solve':
-        passes = len(reference.solver_steps(*matrix, b, words)[5])
+        passes = len(reference.solver_steps(*matrix, b, words, window)[5])
         bill = some_bill(source, passes, 3 * (reference.vectors_of(n, words) + n))
-        return Call(name, matrix + [b, words], [n, n + 1, bill, 16 * n + 16 + source.randrange(3)])
+        return Call(name, matrix + [b, words, window], [n, n + 1, bill, 16 * n + 16 + source.randrange(3)])
     answer = reference.solver_steps(p, starts, columns, values, b, [])[2]
     if name == 'takes':
         return Call(name, matrix + [source.choice([answer, b, [0] * n]), b])
@@ -209,7 +210,7 @@ def spoil(source, call):
     elif isinstance(call.reads[at], list):
         call.reads[at] = edit_list(source, call.reads[at], p)
     else:
-        call.reads[at] = source.choice(BAD_MODULI if at == 0 else [0, p, p + 1, 2 ** 32 - 1])
+        call.reads[at] = source.choice(BAD_MODULI if at == 0 else BAD_WINDOWS if call.name == 'solve' else [0, p, p + 1, 2 ** 32 - 1])
 
 
 def some_call(source):
@@ -229,7 +230,7 @@ def limit_calls():
     for n in (4096, 4097):
         starts, none = list(range(n + 1)), [0] * n
         yield Call('product', [7, starts, list(range(n)), [1] * n, none], [n])
-        yield Call('solve', [7, starts, list(range(n)), [1] * n, none, []], [n, n + 1, 3 * n, 16 * n + 16])
+        yield Call('solve', [7, starts, list(range(n)), [1] * n, none, [], 64], [n, n + 1, 3 * n, 16 * n + 16])
         text = reference.system_text(7, starts, list(range(n)), [1] * n, none)
         yield Call('read', [text], [n + 1, n, n, n])
     for last in (16, 17):  # 65,536 entries, and one more
@@ -245,10 +246,17 @@ def limit_calls():
     for terms in (8192, 8193):
         yield Call('recurrence', [3, [0] * terms], [terms + 1, 4 * terms + 8])
     for words in (0, 127, 128, 129, 130):
-        yield Call('solve', [7, [0, 1, 2], [0, 1], [2, 3], [1, 1], [1] * words], [2, 3, 6, 48])
+        yield Call('solve', [7, [0, 1, 2], [0, 1], [2, 3], [1, 1], [1] * words, 0], [2, 3, 6, 48])
     for bill in (*range(12), 1000):  # three passes
-        yield Call('solve', [7, [0, 1, 2], [0, 1], [2, 3], [1, 1], [0, 0]], [2, 3, bill, 48])
-        yield Call('solve', [7, [0, 1, 2], [0, 1], [2, 3], [1, 1], [0, 0]], [2, 3, bill, 47])
+        yield Call('solve', [7, [0, 1, 2], [0, 1], [2, 3], [1, 1], [0, 0], 0], [2, 3, bill, 48])
+        yield Call('solve', [7, [0, 1, 2], [0, 1], [2, 3], [1, 1], [0, 0], 1], [2, 3, bill, 48])
+        yield Call('solve', [7, [0, 1, 2], [0, 1], [2, 3], [1, 1], [0, 0], 0], [2, 3, bill, 47])
+    for window in (0, 1, 2, 3, 4, 63, 64, *BAD_WINDOWS):  # with faults of the checks before it, 9 and 10, and behind it, 11
+        for p in (2, 7):
+            yield Call('solve', [p, [0, 1, 2, 3], [1, 2, 0], [1, 1, 1], [0, 0, 1], [], window], [3, 4, 9, 64])
+            for b, words in (([1, 1], []), ([1, 0], []), ([0, 1], [1, 1]), ([1, p], []), ([1, p], [1]), ([1, 1], [1]), ([1, 1], [1] * 130)):
+                for room in ([2, 3, 6, 48], [1, 3, 6, 48], [2, 4, 6, 48], [2, 3, 0, 47], [0, 0, 0, 0]):
+                    yield Call('solve', [p, [0, 1, 2], [0, 1], [1, p - 1], b, words, window], room)
     for n in (128, 129):
         starts, columns = list(range(n + 1)), list(range(n))
         yield Call('text', [reference.system_text(7, starts, columns, [1] * n, [1] * n)], [ANSWER])
@@ -282,9 +290,9 @@ def empty_calls():
             yield Call('takes', [*matrix, v, []])
             yield Call('takes', [*matrix, [], v])
             yield Call('is_null', [*matrix, v])
-            for words in ([], [0], [1] * 64):
+            for words, window in (([], 0), ([0], 0), ([1] * 64, 64), ([], 64), ([], 65), ([0], 65)):
                 for vector, polynomial, bill, work in ((0, 1, 0, 16), (0, 1, 7, 17), (1, 1, 3, 16), (0, 0, 3, 16), (0, 2, 3, 16), (0, 1, 3, 15)):
-                    yield Call('solve', [*matrix, v, words], [vector, polynomial, bill, work])
+                    yield Call('solve', [*matrix, v, words, window], [vector, polynomial, bill, work])
             for room in (0, 16, 17, 18):
                 yield Call('write', [*matrix, v], [room])
     heads = [(7, 0, 0), (2, 0, 0), (2147483647, 0, 0), (7, '00', 0), (7, '', 0), (9, 0, 0), (7, 4097, 0), (7, 0, 1), (7, 0, 65537)]

@@ -4,11 +4,13 @@
     evidence/compare.py COUNT SEED [--largest N] [--budget B]
     evidence/compare.py --gate
 
-Makes COUNT systems from SEED (systems.py) and one that multiplies over 2³² entries, gives each to the static library
-through driver.cpp, and holds
+Makes COUNT systems from SEED (systems.py), each with words and a window, every other one with a small p, where tests of
+the window often fail, and one that multiplies over 2³² entries, gives each to the static library through driver.cpp, and
+holds
   - kind, D, passes, applications, entries multiplied, the bill's lines, vector and polynomial to a second implementation
     (second.cpp), and where the system is small also to the reference in Python (reference.py), two programs that share
     no code with the library and count the entries one by one;
+  - kind, D, vector and polynomial to what the library says without the window;
   - kind, D and f to dense elimination: the ranks of the Krylov vectors b, Ab, .. and of Ab, A²b, .., and their first
     dependence; by dense.cpp, by FLINT (Debian's libflint-dev) and by PARI (pari-gp), where these are installed;
   - the vector to its meaning, Ax = b, or w is not zero and Aw = 0; the bill to its sum; and the entries multiplied to
@@ -35,10 +37,10 @@ KINDS = {1: 'solved', 2: 'singular'}
 
 
 def line_of(system):
-    what, p, starts, columns, values, b, words = system
+    what, p, starts, columns, values, b, words, window = system
     n = len(b)
     bill = 3 * (reference.vectors_of(n, words) + n)
-    return tools.spell('solve', p, starts, columns, values, b, words, n, n + 1, bill, 16 * n + 16)
+    return tools.spell('solve', p, starts, columns, values, b, words, window, n, n + 1, bill, 16 * n + 16)
 
 
 class Answer:
@@ -55,12 +57,30 @@ class Answer:
         return (self.kind, self.degree, self.passes, self.applications, self.multiplied, self.bill, self.vector,
                 self.polynomial)
 
+    def verdict(self):
+        return self.kind, self.degree, self.vector, self.polynomial
 
-def adds_up(answer, n):
+
+def saved(line):
+    """What a pass has cost less than all of its terms and one f(A)r: above 0 if it ended early, below 0 if its test failed."""
+    left, degree, applications = line
+    return 2 * left - 1 + degree - applications
+
+
+def could_be(line, window):
+    """Whether a pass can have such a line. A test of degree L comes after term L + window at the earliest, before the last; at
+    term i it ends a pass of i - 1 + L applications, or costs L."""
+    left, degree, applications = line
+    if saved(line) > 0:
+        return window >= 1 and degree >= 1 and degree + window <= applications + 1 - degree
+    return saved(line) == 0 or window >= 1 and -saved(line) <= degree and window - saved(line) < 2 * left
+
+
+def adds_up(answer, n, window):
     """A line for each pass: left falls from n by the degrees, and the applications are the passes' and the close's."""
     left = n
     for line in answer.bill:
-        if line != (left, line[1], 2 * left - 1 + line[1]):
+        if line[0] != left or not could_be(line, window):
             return False
         left -= line[1]
     total = sum(applications for _, _, applications in answer.bill) + max(answer.degree - 1, 0)
@@ -69,21 +89,20 @@ def adds_up(answer, n):
 
 def holds_itself(system, answer):
     """What can be said of the answer alone: its vector's meaning, a monic f, zeros after it, its bill, its count of entries."""
-    what, p, starts, columns, values, b, words = system
+    what, p, starts, columns, values, b, words, window = system
     n, D = len(b), answer.degree
     if answer.harm or answer.refusal or answer.kind not in KINDS:
         return False
     image, entries = reference.times(p, starts, columns, values, answer.vector)
     right = image == b if answer.kind == 1 else any(answer.vector) and not any(image)
     shape = D <= n and answer.polynomial[D] == 1 and not any(answer.polynomial[D + 1:])
-    counted = adds_up(answer, n) and answer.multiplied == answer.applications * entries
+    counted = adds_up(answer, n, window) and answer.multiplied == answer.applications * entries
     return right and shape and answer.passes <= reference.vectors_of(n, words) + n and counted
 
 
 def by_reference(system):
-    what, p, starts, columns, values, b, words = system
-    n = len(b)
-    kind, F, vector, applications, multiplied, passes = reference.solver_steps(p, starts, columns, values, b, words)
+    n = len(system[5])
+    kind, F, vector, applications, multiplied, passes = reference.solver_steps(*system[1:])
     number = 1 if kind == 'solved' else 2
     bill = reference.bill_of(passes)
     return (number, len(F) - 1, len(passes), applications, multiplied, bill, vector, F + [0] * (n + 1 - len(F)))
@@ -103,7 +122,7 @@ def pari_lines(chosen):
               ' D = matrank(K); S = matrank(K[, 2..n + 1]);'
               ' c = if(D, matinverseimage(K[, 1..D], K[, D + 1]), []~);'
               ' print1(D, " ", S); for(i = 1, D, print1(" ", lift(-c[i]))); print(" 1"); }']
-    for what, p, starts, columns, values, b, words in chosen:
+    for what, p, starts, columns, values, b, words, window in chosen:
         n = len(b)
         script.append('A = matrix(%d, %d) * Mod(1, %d);' % (n, n, p))
         for i in range(n):
@@ -137,6 +156,11 @@ def compare(made, budget, packages):
         tally.hold('the meaning of its vector, the sum of its bill and applications × entries', system,
                    holds_itself(system, answer))
 
+    windowed = [(system, answer) for system, answer in zip(made, answers) if system[7] > 0]
+    plain = [(*system[:7], 0) for system, answer in windowed]
+    for (system, answer), line in zip(windowed, tools.ask(tools.driver(), [line_of(system) for system in plain])):
+        tally.hold('itself without the window', system, Answer(line, len(system[5])).verdict() == answer.verdict())
+
     second = tools.ask(tools.build('second', 'second.cpp'), lines)
     for system, answer, line in zip(made, answers, second):
         tally.hold('the second implementation', system, Answer(line, len(system[5])).all() == answer.all())
@@ -169,16 +193,17 @@ def compare(made, budget, packages):
 
 
 def gate_set():
-    """Fixed: many small systems, some of a few hundred rows (one in ten of both without a row), and two of the largest, one with a
-    first pass of degree 0."""
+    """Fixed: many small systems, some of a few hundred rows (one in ten of both without a row), many with a small p, and two of
+    the largest, one with a first pass of degree 0 and a window."""
     made = [systems.make(random.Random(k), 32) for k in range(300)]
     made += [systems.make(random.Random(1000 + k), 300) for k in range(30)]
+    made += [systems.make(random.Random(2000 + k), 32, systems.SMALL_PRIMES[k % 5]) for k in range(300)]
     large = random.Random(5)
-    for shape, p, zeros in ((systems.permutation, 2147483647, 0), (systems.block, 65537, 4096)):
+    for shape, p, zeros, window in ((systems.permutation, 2147483647, 0, 0), (systems.block, 65537, 4096, 64)):
         matrix = systems.slices(shape(large, p, 4096))
         b = [large.randrange(p) for _ in range(4096)]
         words = [0] * zeros + [large.randrange(2 ** 32) for _ in range(2 * 4096)]
-        made.append(('%s of 4,096 rows' % shape.__name__, p, *matrix, b, words))
+        made.append(('%s of 4,096 rows, window %d' % (shape.__name__, window), p, *matrix, b, words, window))
     return made
 
 
@@ -190,7 +215,7 @@ def beyond_32_bits():
     values = [1 + source.randrange(p - 1) for _ in columns]
     b = [source.randrange(p) for _ in range(n)]
     words = [0] * (8 * n) + [source.randrange(2 ** 32) for _ in range(n)]
-    return 'over 2³² entries multiplied', p, list(range(0, 16 * n + 1, 16)), columns, values, b, words
+    return 'over 2³² entries multiplied', p, list(range(0, 16 * n + 1, 16)), columns, values, b, words, 0
 
 
 def main():
@@ -207,18 +232,21 @@ def main():
         made = gate_set()
     else:
         source = random.Random(chosen.seed)
-        made = [systems.make(source, chosen.largest) for _ in range(chosen.count)]
+        made = [systems.make(source, chosen.largest, source.choice(systems.SMALL_PRIMES) if k % 2 else None)
+                for k in range(chosen.count)]
     made.append(beyond_32_bits())
     tally, answers = compare(made, 3e7 if chosen.gate else chosen.budget, not chosen.gate)
 
     kinds = collections.Counter(KINDS.get(answer.kind, 'refused') for answer in answers)
     several = sum(answer.passes > 1 for answer in answers)
+    bills = [line for answer in answers for line in answer.bill]
     sizes = [len(system[5]) for system in made]
-    print('%d systems of %d to %d rows, %d of them of size 0: %s; %d with more than one pass, %d passes billed, '
-          'at most %d entries multiplied; %.0f seconds' % (
-              len(made), min(sizes), max(sizes), sizes.count(0),
+    print('%d systems of %d to %d rows, %d of them of size 0, %d with a window: %s; %d with more than one pass; %d passes billed, '
+          'of which %d ended early and %d went on after a test that failed; at most %d entries multiplied; %.0f seconds' % (
+              len(made), min(sizes), max(sizes), sizes.count(0), sum(system[7] > 0 for system in made),
               ', '.join('%d %s' % (kinds[kind], kind) for kind in sorted(kinds)), several,
-              sum(len(answer.bill) for answer in answers), max(answer.multiplied for answer in answers), time.time() - began))
+              len(bills), sum(saved(line) > 0 for line in bills), sum(saved(line) < 0 for line in bills),
+              max(answer.multiplied for answer in answers), time.time() - began))
     for tool, held in tally.held.items():
         print('%6d held to %s' % (held, tool))
     print('compare: %d differ' % tally.differ)

@@ -1,9 +1,9 @@
 // Calls the static library as a C++ host does: one call for each line of standard input, its answer on one
 // line of standard output. compare.py and calls.py write the lines.
 //
-// A line is the call's name, its numbers, each slice that it reads (the length, then the elements), and the
-// lengths of the slices that it writes. Those are filled with noise before the call, since no answer may
-// depend on what they held. An answer is the returned numbers, then each written slice but the work slice
+// A line is the call's name, the numbers and slices that it reads, in their order (a slice is its length, then
+// the elements), and the lengths of the slices that it writes. Those are filled with noise before the call,
+// since no answer may depend on what they held. An answer is the returned numbers, then each written slice but the work slice
 // (the length, then the elements); a slice that may keep places stands among the numbers, without those.
 // `harm` before an answer says that a slice was changed that had to stay.
 #include "../host/filzeur.h"
@@ -150,8 +150,10 @@ void solve(Call &call) {
     uint32_t p = call.number();
     Matrix a(call);
     Words &b = call.reads(), &words = call.reads();
+    uint32_t window = call.number();
     Words &vector = call.writes(), &polynomial = call.writes(), &bill = call.writes(), &work = call.writes();
-    filzeur_verdict v = filzeur_solve(p, M(a), S(b), S(words), S(vector), S(polynomial), S(bill), S(work));
+    filzeur_verdict v =
+        filzeur_solve(p, M(a), S(b), S(words), window, S(vector), S(polynomial), S(bill), S(work));
     size_t billed = 3 * std::min<size_t>(v.passes, bill.size() / 3);
     std::vector<uint64_t> numbers{v.kind, v.degree, v.passes, v.applications, v.multiplied, billed};
     numbers.insert(numbers.end(), bill.begin(), bill.begin() + billed);

@@ -1,4 +1,5 @@
-// Reads one of compare.py's `solve` lines: the name, p, then each slice as its length and its elements.
+// Reads one of compare.py's `solve` lines: the name, p, then each slice as its length and its elements, and the
+// window.
 #ifndef LINE_H
 #define LINE_H
 
@@ -10,6 +11,7 @@
 struct Line {
     second::System system;
     second::Vector words;
+    size_t window;
 
     explicit Line(const std::string &text) {
         std::istringstream in(text.substr(text.find(' ')));
@@ -32,6 +34,7 @@ struct Line {
                 system.rows[row].push_back({columns[k], values[k]});
         system.b = slice();
         words = slice();
+        window = number();
     }
 };
 

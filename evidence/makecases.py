@@ -36,7 +36,7 @@ put('"tells apart" names the wrong solvers of mutants.py that give another answe
 put()
 
 # ------------------------------------------------------------------ systems
-put('=== 1. SYSTEMS (solver call; bill slice of 3 x (R + n) places, of which the three of each pass are given) ===')
+put('=== 1. SYSTEMS (solver call; bill slice of 3 x (R + n) places, of which the three of each pass are given; window 0 unless said) ===')
 systems = [
     ('restart, p = 2, first factor z; the vector needs the whole F', 2, [[0, 0], [0, 1]], [1, 1], []),
     ('restart, p = 3, solved; one word vector, then unit vectors; a pass of degree 0 in the middle', 3,
@@ -61,25 +61,49 @@ systems = [
     ('size 0: the empty vector, f = 1, no pass', 7, [], [], []),
     ('size 0, p = 2147483647', 2147483647, [], [], []),
 ]
+diagonal = [[2, 0, 0], [0, 3, 0], [0, 0, 4]]
+swap = [[0, 1, 0], [1, 0, 0], [0, 0, 0]]
+shift = [[0, 1, 0], [0, 0, 1], [1, 0, 0]]
+chain = [[0, 0, 0], [0, 0, 1], [1, 0, 0]]
+windowed = [
+    (1, 'window: the pass ends after its third term', 7, diagonal, [1, 0, 0], []),
+    (2, 'window: the same, after the fourth', 7, diagonal, [1, 0, 0], []),
+    (3, 'window: the same, after the last but one', 7, diagonal, [1, 0, 0], []),
+    (4, 'window: the same; due after the last term only, so not tested', 7, diagonal, [1, 0, 0], []),
+    (64, 'window: the same, never due', 7, diagonal, [1, 0, 0], []),
+    (2, 'window: degree 2, with words', 7, [[2, 0, 0, 0], [0, 3, 0, 0], [0, 0, 5, 0], [0, 0, 0, 5]], [1, 1, 0, 0], [1, 1, 0, 0]),
+    (1, 'window: the test fails, and would be due again', 2, swap, [1, 0, 0], []),
+    (2, 'window: the same, and the pass ends early', 2, swap, [1, 0, 0], []),
+    (2, 'window: zeros while L = 0 don\'t count; the test fails', 2, shift, [0, 0, 1], []),
+    (1, 'window: zeros while L = 0 don\'t count; 2L > i, and f is that of the steps', 2, [[0, 1], [0, 0]], [0, 1], []),
+    (1, 'window: the test fails since u sees one place only; the second pass ends early', 7, [[2, 0, 0], [0, 3, 0], [0, 0, 5]], [1, 1, 0], []),
+    (2, 'window: due after the last term only, where the test would fail', 7, [[2, 0], [0, 3]], [1, 1], []),
+    (1, 'window: a pass of degree 0 is not tested', 7, [[2, 0], [0, 3]], [1, 1], [0, 0]),
+    (1, 'window: the second pass begins with a zero, and has a test of its own', 5, chain, [1, 1, 0], []),
+    (64, 'window, b = 0', 7, [[2, 0], [0, 3]], [0, 0], [1, 1]),
+    (64, 'window, size 0', 7, [], [], []),
+]
 told = set()
-for k, (what, p, M, b, words) in enumerate(systems, 1):
+for k, (window, what, p, M, b, words) in enumerate([(0, *system) for system in systems] + windowed, 1):
     n = len(M)
     S = selftest.dense_to_sparse(M)
-    selftest.check_system(p, n, M, b, [words, []])
-    got = ref.solve(p, *S, b, words, [9] * n, [9] * (n + 1), [9] * (3 * (ref.vectors_of(n, words) + n)), [9] * (16 * n + 16))
+    selftest.check_system(p, n, M, b, [words, []], [window])
+    got = ref.solve(p, *S, b, words, window, [9] * n, [9] * (n + 1), [9] * (3 * (ref.vectors_of(n, words) + n)), [9] * (16 * n + 16))
     kind, D, passes, apps, multiplied, vector, poly, bill = got[1:]
     put('1.%d  %s' % (k, what))
     put('   p = %d, n = %d, A = %s   (starts %s; columns %s; values %s)' % (p, n, rows(M), nums(S[0]), nums(S[1]), nums(S[2])))
-    put('   b = %s; words = %s' % (nums(b), nums(words)))
+    put('   b = %s; words = %s%s' % (nums(b), nums(words), '; window = %d' % window if window else ''))
     put('   -> %s, D = %d, passes = %d, applications = %d, multiplied = %d, %s = %s, polynomial slice = %s, bill = %s, close = %d' %
         (kind, D, passes, apps, multiplied, 'x' if kind == 'solved' else 'w', nums(vector), nums(poly), nums(bill[:3 * passes]),
          ref.close_of(D)))
-    for i, (u, left, terms, f, after, made) in enumerate(ref.solver_steps(p, *S, b, words)[5], 1):
-        put('      pass %d: u = %s, left = %d, terms = %s, f = %s, degree %d, r becomes %s, applications %d' %
-            (i, nums(u), left, nums(terms), nums(f), len(f) - 1, nums(after), made))
+    for i, (u, left, terms, f, after, test, made) in enumerate(ref.solver_steps(p, *S, b, words, window)[5], 1):
+        ended = 'it ends the pass' if len(terms) < 2 * left else 'it fails'
+        put('      pass %d: u = %s, left = %d, terms = %s, %sf = %s, degree %d, r becomes %s, applications %d' %
+            (i, nums(u), left, nums(terms), 'test after term %d with L = %d: %s, ' % (*test, ended) if test else '', nums(f),
+             len(f) - 1, nums(after), made))
     if 'full degree' in what or 'one pass is enough' in what:
         assert D == n and passes == 1, (D, passes)
-    apart = mutants.told_apart(p, S, b, words)
+    apart = mutants.told_apart(p, S, b, words, window)
     told.update(apart)
     put('   tells apart: ' + (', '.join(apart) or '(none)'))
 put()
@@ -302,8 +326,8 @@ put('6.r4 p = 7, starts (none); columns (none); values (none); b (none); out of 
 put()
 
 # ------------------------------------------------------------------ refusals of the solver
-put('=== 7. REFUSALS OF THE SOLVER CALL, AND BILLS OF EVERY LENGTH (slices: vector 2, polynomial 3, bill 6, work 48 unless said) ===')
-base = dict(p=7, starts=[0, 1, 2], columns=[0, 1], values=[2, 3], b=[1, 1], words=[], vector=2, polynomial=3, bill=6, work=48)
+put('=== 7. REFUSALS OF THE SOLVER CALL, AND BILLS OF EVERY LENGTH (slices: vector 2, polynomial 3, bill 6, work 48; window 0 unless said) ===')
+base = dict(p=7, starts=[0, 1, 2], columns=[0, 1], values=[2, 3], b=[1, 1], words=[], window=0, vector=2, polynomial=3, bill=6, work=48)
 empty = dict(starts=[0], columns=[], values=[], b=[], vector=0, polynomial=1, work=16)
 for number, what, change in [
         (3, 'p = 1', dict(p=1)),
@@ -359,21 +383,36 @@ for number, what, change in [
         (11, 'size 0, polynomial of 0 places', dict(empty, polynomial=0)),
         (11, 'size 0, polynomial of 2 places', dict(empty, polynomial=2)),
         (11, 'size 0, work of 15 places', dict(empty, work=15)),
+        (0, 'window 64', dict(window=64)),
+        (0, 'window 1: both passes, the first with a test that fails, two places stay', dict(window=1, bill=8)),
+        (13, 'window 65', dict(window=65)),
+        (13, 'window 4294967295', dict(window=4294967295)),
+        (13, 'window 65, and vector of 1 place (11)', dict(window=65, vector=1)),
+        (13, 'window 65, and polynomial and work of 0 places (11)', dict(window=65, polynomial=0, work=0)),
+        (10, 'window 65 (13), and 3 words', dict(window=65, words=[1, 1, 1])),
+        (10, 'window 65 (13), 130 words, and work of 0 places (11)', dict(window=65, words=[1] * 130, work=0)),
+        (9, 'window 65 (13), and b element 7 = p', dict(window=65, b=[7, 1])),
+        (3, 'window 65 (13), and p = 4', dict(window=65, p=4)),
+        (11, 'window 64, and work of 47 places', dict(window=64, work=47)),
+        (0, 'size 0, window 64', dict(empty, window=64)),
+        (13, 'size 0, window 65', dict(empty, window=65)),
+        (10, 'size 0, window 65 (13), and one word', dict(empty, window=65, words=[1])),
+        (13, 'size 0, window 65, and polynomial of 0 places (11)', dict(empty, window=65, polynomial=0)),
 ]:
     d = dict(base)
     d.update(change)
-    got = ref.solve(d['p'], d['starts'], d['columns'], d['values'], d['b'], d['words'], [9] * d['vector'], [9] * d['polynomial'],
-                    [9] * d['bill'], [9] * d['work'])
+    got = ref.solve(d['p'], d['starts'], d['columns'], d['values'], d['b'], d['words'], d['window'], [9] * d['vector'],
+                    [9] * d['polynomial'], [9] * d['bill'], [9] * d['work'])
     assert (got == ('refused', number)) if number else got[0] == 'ok', (what, got)
-    put('%s: p = %d; starts %s; columns %s; values %s; b %s; words %s; vector %d, polynomial %d, bill %d, work %d' %
+    put('%s: p = %d; starts %s; columns %s; values %s; b %s; words %s%s; vector %d, polynomial %d, bill %d, work %d' %
         (what, d['p'], nums(d['starts']), nums(d['columns']), nums(d['values']), nums(d['b']),
-         nums(d['words']) if len(d['words']) < 10 else '%d times %d' % (len(d['words']), d['words'][0]), d['vector'], d['polynomial'],
-         d['bill'], d['work']))
+         nums(d['words']) if len(d['words']) < 10 else '%d times %d' % (len(d['words']), d['words'][0]),
+         '; window %d' % d['window'] if d['window'] else '', d['vector'], d['polynomial'], d['bill'], d['work']))
     put('   -> ' + ('refused %d' % number if number else
                     '%s, D = %d, passes = %d, applications = %d, multiplied = %d, vector %s, polynomial %s, bill %s' %
                     (*got[1:6], nums(got[6]), nums(got[7]), nums(got[8]))))
-    if len(d['starts']) <= 1 and number != 11:  # mutants.py lends slices of the right lengths
-        apart = mutants.told_apart(d['p'], (d['starts'], d['columns'], d['values']), d['b'], d['words'])
+    if (len(d['starts']) <= 1 or d['window']) and number != 11:  # mutants.py lends slices of the right lengths
+        apart = mutants.told_apart(d['p'], (d['starts'], d['columns'], d['values']), d['b'], d['words'], d['window'])
         told.update(apart)
         put('   tells apart: ' + (', '.join(apart) or '(none)'))
 put()

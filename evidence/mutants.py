@@ -1,11 +1,17 @@
 """Wrong solvers (document 01, 'Tempting here', and a few more), wrong bills (document 02, request (i)), mistakes about
-size 0 (request (ii)) and wrong counts of the entries multiplied (request (iii)).  Used to say which case tells which one apart.
+size 0 (request (ii)), wrong counts of the entries multiplied (request (iii)) and wrong windows (request (v)).  Used to say
+which case tells which one apart.
 
 keep_t_e / keep_e carry t, e over a restart exactly in the form of document 01's steps (t shifted at every term).  They are
 NOT observable: the last t = q of a pass happens at a term r1 <= 2*L1 - 1 (or t is still 0), so the kept t is z^k times a
 polynomial with k >= 2*left - 2*L1 + 1 > twice the degree still to come, and what it adds to the next q stays above index L.
 keep_t_unshifted is the same mistake in the usual program form (t stored unshifted beside a counter that is reset).  It shows
-only from n = 4 on: a pass of degree >= 2 followed by one of degree >= 2 is needed (none in 60,000 random systems of n <= 3)."""
+only from n = 4 on: a pass of degree >= 2 followed by one of degree >= 2 is needed (none in 60,000 random systems of n <= 3).
+
+window_over_restarts carries the zero discrepancies of one pass into the next.  It is NOT observable either: L is at least 1
+only after a discrepancy of this pass that is not 0, and from there on none of an earlier pass is among the last ones.
+window_stale_L is the same mistake with L >= 1 carried over too: then f = 1 is tested, and the pass has had its test.
+A test after term 2 x left (window_at_end) shows only where it fails; where it doesn't, its cost is that of the full pass."""
 
 import reference as ref
 
@@ -14,8 +20,11 @@ NAMES = ['keep_t_e', 'keep_e', 'keep_t_unshifted', 'keep_all', 'stale_q',
          'columns_space_kind', 'word_stride_1', 'units_after_R', 'left_n_always', 'f_unreversed', 'no_degree0_pass_count',
          'bill_left_after', 'bill_no_degree0', 'bill_no_t', 'close_D',
          'size0_refused', 'no_starts_taken', 'size0_words_taken', 'size0_pass',
-         'entries_n', 'entries_no_close', 'entries_no_f', 'entries_once', 'entries_not_zeros']
-HIDDEN = ['keep_t_e', 'keep_e']
+         'entries_n', 'entries_no_close', 'entries_no_f', 'entries_once', 'entries_not_zeros',
+         'window_ignored', 'window_trusted', 'window_unchecked', 'window_twice', 'window_fail_free', 'window_stop_free',
+         'window_full_cost', 'window_keeps_f', 'window_at_end', 'window_L0', 'window_short', 'window_long', 'window_0_tests',
+         'window_over_restarts', 'window_stale_L', 'window_once_in_run', 'window_65_taken', 'window_before_10']
+HIDDEN = ['keep_t_e', 'keep_e', 'window_over_restarts']
 
 
 def recurrence_from(p, s, t, e, q, L):
@@ -66,20 +75,102 @@ def counted_polynomial_times(name, p, S, g, v, part):
     return result, made, counted
 
 
-def refusal(p, S, b, words):
-    """The first of checks 3 to 10 that turns the call down, or 0."""
+def refusal(p, S, b, words, window):
+    """The first of checks 3 to 10, and then 13, that turns the call down, or 0."""
     n = len(S[0]) - 1
-    later = 8 if len(b) != n else 9 if ref.bad9(p, b) else 10 if ref.bad10(n, words) else 0
+    later = 8 if len(b) != n else 9 if ref.bad9(p, b) else 10 if ref.bad10(n, words) else 13 if ref.bad13(window) else 0
     return ref.matrix_refusal(p, *S) or later
 
 
-def solve(name, p, S, b, words):
+class Windowed:
+    """A pass with a window, and what a wrong run carries from pass to pass: discrepancies, whether L was 1, whether it tested."""
+
+    def __init__(self, name, p, S, window):
+        self.name, self.p, self.S, self.window = name, p, S, window
+        self.carried, self.had_L, self.tested = [], False, False
+
+    def due(self, steps):
+        """As the mistake has it."""
+        name, wanted = self.name, self.window
+        past = steps.discrepancies
+        if name in ('window_over_restarts', 'window_stale_L'):
+            past = self.carried + past
+        wanted += (name == 'window_long') - (name == 'window_short')
+        if self.window == 0:
+            return name == 'window_0_tests' and steps.L >= 1
+        long_enough = steps.L >= 1 or name == 'window_L0' or name == 'window_stale_L' and self.had_L
+        return long_enough and len(past) >= wanted and not any(past[len(past) - wanted:])
+
+    def make(self, u, r, left):
+        """f, r after, applications"""
+        name, S, steps = self.name, self.S, ref.Steps(self.p)
+        if name != 'window_once_in_run':
+            self.tested = False
+        terms, power, made, last = [], r, 0, 2 * left if name == 'window_at_end' else 2 * left - 1
+        kept = None
+        for i in range(1, 2 * left + 1):
+            if i > 1:
+                power, made = ref.times(self.p, *S, power)[0], made + 1
+            terms.append(ref.dot(self.p, u, power))
+            steps.take(terms, i)
+            if i <= last and not self.tested and self.due(steps):
+                self.tested = name != 'window_twice'
+                f = steps.f()
+                after = ref.polynomial_times(self.p, *S, f, r)[0]
+                if name == 'window_unchecked':
+                    return f, [0] * len(r), made
+                if not any(after) or name == 'window_trusted':
+                    end = 2 * left - 1 if name == 'window_full_cost' else made
+                    return f, after, end + (0 if name == 'window_stop_free' else steps.L)
+                made += 0 if name == 'window_fail_free' else steps.L
+                kept = f
+        self.carried, self.had_L = self.carried + steps.discrepancies, self.had_L or steps.L >= 1
+        f = kept if kept and name == 'window_keeps_f' else steps.f()
+        return f, ref.polynomial_times(self.p, *S, f, r)[0], made + len(f) - 1
+
+
+def windowed(name, p, S, b, words, window):
+    """The solver with a window, by the wrong rule of that name."""
+    n = len(S[0]) - 1
+    R = ref.vectors_of(n, words)
+    if name == 'window_65_taken' and window == 65:
+        window = 64
+    number = refusal(p, S, b, words, window)
+    if name == 'window_before_10' and number == 10 and ref.bad13(window):
+        number = 13
+    if number:
+        return 'refused', number
+    if name == 'window_ignored':
+        window = 0
+    rule = Windowed(name, p, S, window)
+    r, F, bill = list(b), [1], []
+    while any(r) and len(bill) < R + n and len(F) - 1 < n:
+        k = len(bill)
+        u = [w % p for w in words[k * n:k * n + n]] if k < R else [int(i == k - R) for i in range(n)]
+        left = n + 1 - len(F)
+        f, r, made = rule.make(u, r, left)
+        F = ref.polynomial_product(p, F, f)
+        bill.append((left, len(f) - 1, made))
+    D = len(F) - 1
+    applications = sum(row[2] for row in bill) + ref.close_of(D)
+    vector = ref.polynomial_times(p, *S, F[1:], b)[0] if D else [0] * n
+    if F[0] and D:
+        c = -ref.inverse_mod(F[0], p) % p
+        vector = [c * x % p for x in vector]
+    return ('solved' if F[0] else 'singular', D, len(bill), applications, applications * len(S[1]), vector,
+            (F + [0] * n)[:n + 1], bill, ref.close_of(D))
+
+
+def solve(name, p, S, b, words, window):
+    """By the wrong solver of that name.  Those of the window apart, they know no window: they are told apart without one."""
+    if name.startswith('window'):
+        return windowed(name, p, S, b, words, window)
     if name == 'no_starts_taken':
         S = (S[0] or [0], *S[1:])
     n = len(S[0]) - 1
     if name == 'size0_words_taken' and n == 0:
         words = []
-    number = refusal(p, S, b, words)
+    number = refusal(p, S, b, words, window)
     if name == 'size0_refused' and n == 0 and number != 3:
         number = 4
     if number:
@@ -157,15 +248,17 @@ def solve(name, p, S, b, words):
     return kind, D, counted, apps, multiplied, vec, (F + [0] * n)[:n + 1], bill, D if name == 'close_D' else made
 
 
-def right(p, S, b, words):
+def right(p, S, b, words, window):
     """What the reference gives: kind, D, passes, applications, entries multiplied, vector, f, bill, close; or the refusal."""
-    if refusal(p, S, b, words):
-        return 'refused', refusal(p, S, b, words)
+    if refusal(p, S, b, words, window):
+        return 'refused', refusal(p, S, b, words, window)
     n = len(S[0]) - 1
-    kind, F, vector, applications, multiplied, passes = ref.solver_steps(p, *S, b, words)
+    kind, F, vector, applications, multiplied, passes = ref.solver_steps(p, *S, b, words, window)
     D = len(F) - 1
     return kind, D, len(passes), applications, multiplied, vector, F + [0] * (n - D), ref.bill_of(passes), ref.close_of(D)
 
 
-def told_apart(p, S, b, words):
-    return [m for m in NAMES if solve(m, p, S, b, words) != right(p, S, b, words)]
+def told_apart(p, S, b, words, window=0):
+    """Where there is a window, of its mistakes alone: the others would differ for not knowing it."""
+    names = [m for m in NAMES if window == 0 or m.startswith('window')]
+    return [m for m in names if solve(m, p, S, b, words, window) != right(p, S, b, words, window)]

@@ -1,7 +1,8 @@
 """Reference implementation of document 01 (Wiedemann solver modulo word-size primes).
 
-Plain Python 3, standard library only.  Written from 00-conditions.md, 01-scope.md, requests (i) to (iii) of
-02-change-requests.md and source 002 alone; but whoever wrote the cases of n = 0 had seen the library's checks 4 and 10.
+Plain Python 3, standard library only.  Written from 00-conditions.md, 01-scope.md, requests (i) to (iii) and (v) of
+02-change-requests.md and source 002 alone; but whoever wrote the cases of n = 0 had seen the library's checks 4 and 10, and
+whoever wrote the window (B 33) had been told how the library reads request (v), though not seen its code.
 
 Every public call takes lists of ints (32-bit numbers, 0 .. 2**32 - 1) or bytes, never changes an argument, and
 returns either ('ok', ...) or ('refused', number).  A lent slice that is written is passed in with its old contents
@@ -10,7 +11,8 @@ contents, so nothing more is returned.  Work slices: only the length is looked a
 
 OPEN POINTS AND WHAT IS CHOSEN HERE
 ===================================
-A. Checks of each call, in the order made.  Order = rising number; each is made over the whole input before the next.
+A. Checks of each call, in the order made.  Order = rising number, but 13 comes after 10 and before 11; each is made over
+   the whole input before the next.
      field(p)                      3
      field_sum/difference/product  3, 9 (either operand >= p)
      field_inverse                 3, 9, 12
@@ -19,7 +21,7 @@ A. Checks of each call, in the order made.  Order = rising number; each is made 
      polynomial_apply  g(A)v       3, 4, 5, 6, 7, 8 (len v != n or len g not 1..n+1), 9 (v, g),
                                    11 (len out != n or len work < 2n)
      recurrence                    3, 8 (N > 8192), 9 (s), 11 (len poly != N+1 or len work < 4N+8)
-     solve                         3, 4, 5, 6, 7, 8 (len b != n), 9 (b), 10,
+     solve                         3, 4, 5, 6, 7, 8 (len b != n), 9 (b), 10, 13 (window > 64),
                                    11 (len vector != n, len poly != n+1, len work < 16n+16; never the bill)
      check_solution  (Ax = b)      3, 4, 5, 6, 7, 8 (len x != n or len b != n), 9 (x, b)
      check_kernel                  3, 4, 5, 6, 7, 8 (len w != n), 9 (w)
@@ -90,6 +92,12 @@ B. Choices.
      that is 0, and a check of an offered answer makes its one product whatever is offered: a zero vector, a first element
      that differs.  The number stands beside what the product, the transposed product, g(A)v, the two checks and the
      solver answer; the bill has no such field.
+ 33. Request (v), the window w: "the last w discrepancies were all 0" asks for w of them in this pass, so i is at least w,
+     and counts none of an earlier pass.  The test is made at the first i where all of its conditions hold, and at no other
+     of that pass, whatever it gave.  f is that of the steps on the first i terms, also where 2L > i.  w = 0 is no window:
+     nothing is tested, though "the last 0 discrepancies" are all 0.  Where the test fails its L products are charged, and
+     f(A)r is worked out again with the f of all terms, also if that is the same f.
+ 34. The text call and the program have no window: theirs is 0, and 13 is no check of theirs.
 """
 
 import sys
@@ -100,6 +108,7 @@ MAX_N = 4096
 MAX_ENTRIES = 65536
 MAX_LIST = 8192
 MAX_VECTORS = 64
+MAX_WINDOW = 64
 MAX_NUMERAL = 4294967295
 MAX_TEXT = 2097152
 CALL_TEXT = 24576
@@ -223,6 +232,10 @@ def bad10(n, words):
     if n == 0:
         return len(words) != 0
     return len(words) % n != 0 or len(words) > MAX_VECTORS * n
+
+
+def bad13(window):
+    return window > MAX_WINDOW
 
 
 def vectors_of(n, words):
@@ -363,34 +376,47 @@ def coefficient(q, i):
     return q[i] if i < len(q) else 0
 
 
-def shortest_recurrence(p, s):
-    """(L, f) by the steps of document 01.  f has L + 1 coefficients, lowest power first."""
-    q = [1]
-    t = [0]
-    L = 0
-    e = 1
-    for r in range(1, len(s) + 1):
+class Steps:
+    """The steps of document 01, an r at a time: q, t, L and e, and the discrepancies so far."""
+
+    def __init__(self, p):
+        self.p, self.q, self.t, self.L, self.e, self.discrepancies = p, [1], [0], 0, 1, []
+
+    def take(self, s, r):
+        """The step of r, which looks at the first r elements of s."""
+        p, q, L = self.p, self.q, self.L
         d = 0
         for i in range(0, L + 1):
             d += coefficient(q, i) * s[r - 1 - i]
         d = d % p
-        zt = [0] + t
+        self.discrepancies.append(d)
+        zt = [0] + self.t
         if d == 0:
-            t = zt
+            self.t = zt
+            return
+        c = d * inverse_mod(self.e, p) % p
+        new_q = []
+        for i in range(max(len(q), len(zt))):
+            new_q.append((coefficient(q, i) - c * coefficient(zt, i)) % p)
+        if 2 * L < r:
+            self.t = q
+            self.L = r - L
+            self.e = d
         else:
-            c = d * inverse_mod(e, p) % p
-            new_q = []
-            for i in range(max(len(q), len(zt))):
-                new_q.append((coefficient(q, i) - c * coefficient(zt, i)) % p)
-            if 2 * L < r:
-                t = q
-                L = r - L
-                e = d
-            else:
-                t = zt
-            q = new_q
-    f = [coefficient(q, L - i) for i in range(L + 1)]
-    return L, f
+            self.t = zt
+        self.q = new_q
+
+    def f(self):
+        """z to the power L times q(1/z): L + 1 coefficients, lowest power first."""
+        return [coefficient(self.q, self.L - i) for i in range(self.L + 1)]
+
+
+def shortest_recurrence(p, s):
+    """(L, f) by the steps of document 01."""
+    steps = Steps(p)
+    for r in range(1, len(s) + 1):
+        steps.take(s, r)
+    return steps.L, steps.f()
 
 
 def recurs(p, f, s):
@@ -459,11 +485,46 @@ def recurrence(p, s, polynomial, work):
 
 # ---------------------------------------------------------------- solver
 
-def solver_steps(p, starts, columns, values, b, words):
-    """The steps of document 01 on accepted input; products with A, and entries, are counted as they are made.
+def due(window, steps):
+    """Request (v): whether L is at least 1 and the last `window` discrepancies, as many as there must be, were all 0."""
+    if window == 0 or len(steps.discrepancies) < window:
+        return False
+    return steps.L >= 1 and not any(steps.discrepancies[-window:])
+
+
+def make_pass(p, starts, columns, values, u, r, left, window):
+    """One pass with projection u; products with A, and entries, are counted as they are made.
+
+    Returns the terms that were taken, f, r after, (i, L) of the test that was made or None, applications and entries."""
+    applications = 0
+    multiplied = 0
+    steps = Steps(p)
+    terms = []
+    test = None
+    power = list(r)
+    for i in range(1, 2 * left + 1):
+        if i > 1:
+            power, more = times(p, starts, columns, values, power)
+            applications += 1
+            multiplied += more
+        terms.append(dot(p, u, power))
+        steps.take(terms, i)
+        if i < 2 * left and test is None and due(window, steps):
+            test = (i, steps.L)
+            after, made, more = polynomial_times(p, starts, columns, values, steps.f(), r)
+            applications += made
+            multiplied += more
+            if not any(after):
+                return terms, steps.f(), after, test, applications, multiplied
+    after, made, more = polynomial_times(p, starts, columns, values, steps.f(), r)
+    return terms, steps.f(), after, test, applications + made, multiplied + more
+
+
+def solver_steps(p, starts, columns, values, b, words, window=0):
+    """The steps of document 01, with the window of request (v), on accepted input.
 
     Returns kind, F, vector, applications, entries multiplied, and a list of passes (u, left, terms, f, r after,
-    applications)."""
+    test, applications)."""
     n = len(starts) - 1
     R = vectors_of(n, words)
     r = list(b)
@@ -479,22 +540,12 @@ def solver_steps(p, starts, columns, values, b, words):
         else:
             u = [1 if k == j - R else 0 for k in range(n)]
         left = n - D
-        before = applications
-        terms = []
-        power = list(r)
-        for k in range(2 * left):
-            if k > 0:
-                power, more = times(p, starts, columns, values, power)
-                applications += 1
-                multiplied += more
-            terms.append(dot(p, u, power))
-        t, f = shortest_recurrence(p, terms)
-        r, made, more = polynomial_times(p, starts, columns, values, f, r)
+        terms, f, r, test, made, more = make_pass(p, starts, columns, values, u, r, left, window)
         applications += made
         multiplied += more
         F = polynomial_product(p, F, f)
-        D = D + t
-        passes.append((u, left, terms, f, r, applications - before))
+        D = D + len(f) - 1
+        passes.append((u, left, terms, f, r, test, made))
     G = F[1:]
     if D == 0:
         return 'solved', F, [0] * n, applications, multiplied, passes
@@ -509,7 +560,7 @@ def solver_steps(p, starts, columns, values, b, words):
 
 def bill_of(passes):
     """The bill's lines: left, t and applications of each pass."""
-    return [(left, len(f) - 1, applications) for u, left, terms, f, after, applications in passes]
+    return [(left, len(f) - 1, applications) for u, left, terms, f, after, test, applications in passes]
 
 
 def close_of(D):
@@ -523,7 +574,7 @@ def bill_slice(lines, bill):
     return numbers + list(bill[len(numbers):])
 
 
-def solve(p, starts, columns, values, b, words, vector, polynomial, bill, work):
+def solve(p, starts, columns, values, b, words, window, vector, polynomial, bill, work):
     """('ok', kind, D, passes, applications, entries multiplied, vector slice, polynomial slice, bill slice) or a refusal."""
     number = matrix_refusal(p, starts, columns, values)
     if number:
@@ -535,9 +586,11 @@ def solve(p, starts, columns, values, b, words, vector, polynomial, bill, work):
         return refused(9)
     if bad10(n, words):
         return refused(10)
+    if bad13(window):
+        return refused(13)
     if len(vector) != n or len(polynomial) != n + 1 or len(work) < 16 * n + 16:
         return refused(11)
-    kind, F, x, applications, multiplied, passes = solver_steps(p, starts, columns, values, b, words)
+    kind, F, x, applications, multiplied, passes = solver_steps(p, starts, columns, values, b, words, window)
     D = len(F) - 1
     return ('ok', kind, D, len(passes), applications, multiplied, x, F + [0] * (n - D), bill_slice(bill_of(passes), bill))
 

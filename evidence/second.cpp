@@ -15,7 +15,7 @@ int main() {
     while (std::getline(std::cin, text)) {
         Line line(text);
         size_t n = line.system.rows.size();
-        second::Answer answer = second::Run(line.system)(line.words);
+        second::Answer answer = second::Run(line.system)(line.words, line.window);
         std::cout << "0 " << (answer.solved ? 1 : 2) << ' ' << answer.f.size() - 1 << ' '
                   << answer.bill.size() << ' ' << answer.applications << ' ' << answer.multiplied << ' '
                   << 3 * answer.bill.size();

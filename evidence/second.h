@@ -1,5 +1,6 @@
 // A second implementation of document 01's solver, made to be different from the first: terms by the
-// transposed matrix, recurrences by Euclid's algorithm, 128-bit sums. It assumes a system that is accepted.
+// transposed matrix, recurrences by Euclid's algorithm, where a pass may end early (document 02, request (v))
+// from its quotients, 128-bit sums. It assumes a system and a window that are accepted.
 #ifndef SECOND_H
 #define SECOND_H
 
@@ -95,28 +96,53 @@ inline void subtract_shifted(uint32_t p, Polynomial &a, uint32_t c, size_t shift
     trim(a);
 }
 
+inline Polynomial monic(uint32_t p, Polynomial f) {
+    uint32_t inverse = invert(p, f.back());
+    for (uint32_t &coefficient : f)
+        coefficient = multiply(p, coefficient, inverse);
+    return f;
+}
+
+// Where a pass works f(A)r out before its last term, and with which f; term 0: nowhere.
+struct Test {
+    size_t term;
+    Polynomial f;
+};
+
 // The shortest recurrence of 2 × half terms that has a degree of at most half: with S = s[0] z^(N-1) + .. +
 // s[N-1], the cofactor of S at the first remainder of degree below half in Euclid's algorithm on z^N and S,
 // made monic.
-inline Polynomial recurrence(uint32_t p, const Vector &terms, size_t half) {
+//
+// The algorithm also has what the first terms alone give. A quotient that brings the cofactor's degree to L
+// has its coefficient of z^k settled by term 2L - k, and until then document 01's steps hold it to be 0: so
+// the discrepancies that are not 0 are those of the terms where a coefficient is not 0, and the cofactor as
+// it stands between two of these, made monic, is the f of all terms in between. The test is due `window`
+// terms after the first of them that is followed by so many zeros, before the last term; L is above 0 there.
+inline Polynomial recurrence(uint32_t p, const Vector &terms, size_t half, size_t window, Test &test) {
     Polynomial r0(terms.size() + 1), r1(terms.rbegin(), terms.rend()), c0, c1{1};
+    size_t changed = 0; // the last term so far whose discrepancy is not 0
+    auto until = [&](size_t next, const Polynomial &cofactor) {
+        if (window > 0 && test.term == 0 && changed > 0 && changed + window < next)
+            test = {changed + window, monic(p, cofactor)};
+        changed = next;
+    };
     r0.back() = 1;
     trim(r1);
     while (r1.size() > half) {
         uint32_t inverse = invert(p, r1.back());
-        while (r0.size() >= r1.size()) {
+        size_t degree = c1.size() - 1 + r0.size() - r1.size();
+        for (bool first = true; r0.size() >= r1.size(); first = false) {
             uint32_t c = multiply(p, r0.back(), inverse);
             size_t shift = r0.size() - r1.size();
+            until(2 * degree - shift, first ? c1 : c0);
             subtract_shifted(p, r0, c, shift, r1);
             subtract_shifted(p, c0, c, shift, c1);
         }
         std::swap(r0, r1);
         std::swap(c0, c1);
     }
-    uint32_t inverse = invert(p, c1.back());
-    for (uint32_t &coefficient : c1)
-        coefficient = multiply(p, coefficient, inverse);
-    return c1;
+    until(terms.size(), c1);
+    return monic(p, c1);
 }
 
 inline Polynomial multiply(uint32_t p, const Polynomial &f, const Polynomial &g) {
@@ -130,22 +156,25 @@ inline Polynomial multiply(uint32_t p, const Polynomial &f, const Polynomial &g)
     return result;
 }
 
+inline bool is_zero(const Vector &v) {
+    return std::all_of(v.begin(), v.end(), [](uint32_t element) { return element == 0; });
+}
+
 // Counts each product with the matrix as it is made, and each entry in it.
 class Run {
   public:
     explicit Run(const System &system) : s(system), t(transpose(system)) {}
 
-    Answer operator()(const Vector &words) {
+    Answer operator()(const Vector &words, size_t window = 0) {
         size_t n = s.rows.size();
         Answer answer{true, {1}, Vector(n), {}, 0, 0};
         Vector r = s.b;
-        while (std::any_of(r.begin(), r.end(), [](uint32_t element) { return element != 0; })) {
+        while (!is_zero(r)) {
             size_t left = n - (answer.f.size() - 1);
-            uint64_t before = made;
-            Polynomial f = recurrence(s.p, terms(projection(words, answer.bill.size()), r, 2 * left), left);
-            r = apply(f, r);
+            uint64_t before = count.made;
+            Polynomial f = pass(projection(words, answer.bill.size()), r, left, window);
             answer.f = multiply(s.p, answer.f, f);
-            answer.bill.push_back({left, f.size() - 1, made - before});
+            answer.bill.push_back({left, f.size() - 1, count.made - before});
         }
         if (answer.f.size() > 1) {
             answer.vector = apply(Polynomial(answer.f.begin() + 1, answer.f.end()), s.b);
@@ -154,8 +183,8 @@ class Run {
             for (uint32_t &element : answer.vector)
                 element = multiply(s.p, element, scale);
         }
-        answer.applications = made;
-        answer.multiplied = multiplied;
+        answer.applications = count.made;
+        answer.multiplied = count.multiplied;
         return answer;
     }
 
@@ -168,21 +197,37 @@ class Run {
             u[i] = pass < vectors ? words[pass * n + i] % s.p : i == pass - vectors;
         return u;
     }
-    Vector terms(Vector u, const Vector &r, size_t count) {
-        Vector result{dot(s.p, u, r)};
-        while (result.size() < count) {
-            u = times(t, u, multiplied);
-            made++;
-            result.push_back(dot(s.p, u, r));
+    // The f of a pass, with which r is changed. All terms are made, and those that a pass that ends early has
+    // no use for are taken off the count again.
+    Polynomial pass(Vector u, Vector &r, size_t left, size_t window) {
+        Vector terms{dot(s.p, u, r)};
+        std::vector<Count> after{count};
+        while (terms.size() < 2 * left) {
+            u = times(t, u, count.multiplied);
+            count.made++;
+            terms.push_back(dot(s.p, u, r));
+            after.push_back(count);
         }
-        return result;
+        Test test{};
+        Polynomial f = recurrence(s.p, terms, left, window, test);
+        if (test.term > 0) {
+            Vector tested = apply(test.f, r);
+            if (is_zero(tested)) {
+                count.made -= after.back().made - after[test.term - 1].made;
+                count.multiplied -= after.back().multiplied - after[test.term - 1].multiplied;
+                r = tested;
+                return test.f;
+            }
+        }
+        r = apply(f, r);
+        return f;
     }
     Vector apply(const Polynomial &g, const Vector &v) {
         Vector power = v, result(v.size());
         for (size_t i = 0; i < g.size(); i++) {
             if (i > 0) {
-                power = times(s, power, multiplied);
-                made++;
+                power = times(s, power, count.multiplied);
+                count.made++;
             }
             for (size_t k = 0; k < v.size(); k++)
                 result[k] = static_cast<uint32_t>((result[k] + uint64_t{g[i]} * power[k]) % s.p);
@@ -190,8 +235,12 @@ class Run {
         return result;
     }
 
+    struct Count {
+        uint64_t made = 0, multiplied = 0;
+    };
+
     System s, t;
-    uint64_t made = 0, multiplied = 0;
+    Count count;
 };
 
 } // namespace second

@@ -120,9 +120,9 @@ def dirty(k):
     return [rng.randrange(2 ** 32) for _ in range(k)]
 
 
-def run(p, n, S, b, words, bill=()):
+def run(p, n, S, b, words, bill=(), window=0):
     """solve, with dirty slices"""
-    return ref.solve(p, *S, b, words, dirty(n), dirty(n + 1), list(bill), dirty(16 * n + 16 + rng.randrange(3)))
+    return ref.solve(p, *S, b, words, window, dirty(n), dirty(n + 1), list(bill), dirty(16 * n + 16 + rng.randrange(3)))
 
 
 def sum_of_bill(lines):
@@ -209,8 +209,8 @@ def empty_cases():
         expect(ref.matrix_check(p, [0], [], []) == ('ok', 0))
         expect(run(p, 0, ([0], [], []), [], []) == (*solved, []))
     for bill in ([], [9], [9] * 3, [9] * 7):
-        expect(ref.solve(*A, [], [], [], [9], bill, [9] * 16) == (*solved, bill))
-        expect(ref.solve(*A, [], [], [], [9], bill, [9] * 17) == (*solved, bill))
+        expect(ref.solve(*A, [], [], 0, [], [9], bill, [9] * 16) == (*solved, bill))
+        expect(ref.solve(*A, [], [], 64, [], [9], bill, [9] * 17) == (*solved, bill))
     expect(ref.solver_steps(*A, [], []) == ('solved', [1], [], 0, 0, []))
     expect(ref.product(*A, [], []) == ref.transposed_product(*A, [], []) == ('ok', 0, []))
     expect(ref.polynomial_apply(*A, [0], [], [], []) == ref.polynomial_apply(*A, [6], [], [], [9]) == ('ok', 0, []))
@@ -223,21 +223,22 @@ def empty_cases():
             expect(ref.matrix_check(*matrix) == ('refused', number))
             expect(ref.product(*matrix, v, []) == ref.transposed_product(*matrix, v, []) == ('refused', number))
             expect(ref.polynomial_apply(*matrix, [1], v, [], []) == ('refused', number))
-            expect(ref.solve(*matrix, v, [], [], [9], [], [9] * 16) == ('refused', number))
+            expect(ref.solve(*matrix, v, [], 65, [], [9], [], [9] * 16) == ('refused', number))
             expect(ref.check_solution(*matrix, v, v) == ref.check_kernel(*matrix, v) == ('refused', number))
             expect(ref.write_system(*matrix, v, bytes(99)) == ('refused', number))
     for v in ([0], [7]):
         expect(ref.product(*A, v, [9]) == ref.transposed_product(*A, v, [9]) == ('refused', 8))
-        expect(ref.polynomial_apply(*A, [1], v, [], []) == ref.solve(*A, v, [1], [], [9], [], [9] * 16) == ('refused', 8))
+        expect(ref.polynomial_apply(*A, [1], v, [], []) == ref.solve(*A, v, [1], 65, [], [9], [], [9] * 16) == ('refused', 8))
         expect(ref.check_solution(*A, v, []) == ref.check_solution(*A, [], v) == ref.check_kernel(*A, v) == ('refused', 8))
         expect(ref.write_system(*A, v, b'') == ('refused', 8))
     for g, number in ([], 8), ([1, 1], 8), ([7, 7], 8), ([7], 9):
         expect(ref.polynomial_apply(*A, g, [], [9], []) == ('refused', number))
     for count in 1, 2, 64, 65:
-        expect(ref.solve(*A, [], [1] * count, [9], [9], [], []) == ('refused', 10))
+        expect(ref.solve(*A, [], [1] * count, 65, [9], [9], [], []) == ('refused', 10))
+    expect(ref.solve(*A, [], [], 65, [9], [9], [], []) == ('refused', 13))
     expect(ref.product(*A, [], [9]) == ref.transposed_product(*A, [], [9]) == ref.polynomial_apply(*A, [1], [], [9], []) == ('refused', 11))
     for vector, polynomial, work in (1, 1, 16), (0, 0, 16), (0, 2, 16), (0, 1, 15), (0, 1, 0):
-        expect(ref.solve(*A, [], [], [9] * vector, [9] * polynomial, [], [9] * work) == ('refused', 11))
+        expect(ref.solve(*A, [], [], 64, [9] * vector, [9] * polynomial, [], [9] * work) == ('refused', 11))
 
     # texts
     text, answer = b'system\t7\t0\t0\nend\n', b'answer\tsolved\t0\t0\t0\t0\nclose\t0\nf\t0\t1\nend\n'
@@ -286,9 +287,69 @@ def entry_cases():
     expect(ref.product(2, full, list(range(16)) * 4096, [1] * 65536, [1] * 4096, [9] * 4096) == ('ok', 65536, [0] * 4096))
 
 
+# ---------------------------------------------------------------- request (v) of document 02: the window
+
+def window_cases():
+    """Passes that end early, tests that fail and checks in their order, worked out by hand."""
+    def diag(*values):
+        return list(range(len(values) + 1)), list(range(len(values))), list(values)
+
+    solved = ('solved', 1, 1)
+    # terms 1, 2, 4, 1, 2, 4; discrepancies 1, 2, 0, 0, 0, 0; L = 1 from the first term on; f = z - 2 from the second on
+    for window, made in (0, 6), (1, 3), (2, 4), (3, 5), (4, 6), (5, 6), (64, 6):
+        expect(run(7, 3, diag(2, 3, 4), [1, 0, 0], [], [9] * 4, window) ==
+               ('ok', *solved, made, 3 * made, [4, 0, 0], [5, 1, 0, 0], [3, 1, made, 9]), window)
+    # the first f, z - 2 of u = (1, 0, 0), leaves (0, 1, 0): the test fails; the next pass ends with z - 3; then diag(2,3), where
+    # the second pass has one left, and so its test would be due after its last term, if at all
+    for window, first, second in (0, 6, 4), (1, 7, 3), (2, 7, 4), (3, 7, 4), (4, 6, 4), (64, 6, 4):
+        made = first + second + 1
+        expect(run(7, 3, diag(2, 3, 5), [1, 1, 0], [], [9] * 6, window) ==
+               ('ok', 'solved', 2, 2, made, 3 * made, [4, 5, 0], [6, 2, 1, 0], [3, 1, first, 2, 1, second]), window)
+    for window, first in (0, 4), (1, 5), (2, 4), (64, 4):
+        expect(run(7, 2, diag(2, 3), [1, 1], [], [9] * 6, window) ==
+               ('ok', 'solved', 2, 2, first + 3, 2 * first + 6, [4, 5], [6, 2, 1], [2, 1, first, 1, 1, 2]), window)
+    # p = 2, terms 1, 0, 1, 0, 1, 0: z is tested after the second and does not kill b; z^2 + 1 would be due after the fourth
+    swap = ([0, 1, 2, 2], [1, 0], [1, 1])
+    for window, made in (0, 7), (1, 8), (2, 6), (3, 7), (64, 7):
+        expect(run(2, 3, swap, [1, 0, 0], [], [9] * 3, window) ==
+               ('ok', 'solved', 2, 1, made + 1, 2 * made + 2, [0, 1, 0], [1, 0, 1, 0], [3, 2, made]), window)
+    # terms 0, 1, 0: no test while L = 0; then z^2, though 2L > 3
+    for window, made in (0, 5), (1, 4), (2, 5), (64, 5):
+        expect(run(7, 2, ([0, 1, 1], [1], [1]), [0, 1], [], [9] * 3, window) ==
+               ('ok', 'singular', 2, 1, made + 1, made + 1, [1, 0], [0, 0, 1], [2, 2, made]), window)
+    # nothing to test
+    for window in 0, 1, 64:
+        expect(run(7, 2, diag(2, 3), [0, 0], [1, 1], [], window) == ('ok', 'solved', 0, 0, 0, 0, [0, 0], [1, 0, 0], []))
+        expect(run(2, 1, diag(1), [1], [], [9] * 3, window) == ('ok', 'solved', 1, 1, 2, 2, [1], [1, 1], [1, 1, 2]))
+
+    # 13 stands after 10 and before 11
+    for window in 65, 66, 2 ** 32 - 1:
+        expect(run(7, 2, diag(2, 3), [1, 1], [], [], window) == ('refused', 13))
+        expect(run(7, 2, diag(2, 3), [1, 1], [1], [], window) == ('refused', 10))
+        expect(run(7, 2, diag(2, 3), [7, 1], [1], [], window) == ('refused', 9))
+        for lengths in (1, 3, 48), (2, 2, 48), (2, 3, 47), (0, 0, 0):
+            vector, polynomial, work = ([9] * k for k in lengths)
+            expect(ref.solve(7, *diag(2, 3), [1, 1], [], window, vector, polynomial, [], work) == ('refused', 13))
+            expect(ref.solve(7, *diag(2, 3), [1, 1], [1], window, vector, polynomial, [], work) == ('refused', 10))
+            expect(ref.solve(7, *diag(2, 3), [1, 1], [], 64, vector, polynomial, [], work) == ('refused', 11))
+
+
+def first_test(p, terms, window):
+    """The first i below the number of all terms where a test is due, or None, by what each f predicts: the last `window` terms
+    were those that the f before them recurs on."""
+    f = [ref.shortest_recurrence(p, terms[:r])[1] for r in range(len(terms))]
+    for i in range(max(window, 1), len(terms)):
+        if window and len(f[i]) > 1 and all(ref.recurs(p, f[r - 1], terms[:r]) for r in range(i - window + 1, i + 1)):
+            return i
+    return None
+
+
 # ---------------------------------------------------------------- solver against dense elimination
 
-def check_system(p, n, M, b, words_list):
+WINDOWS = (0, 0, 1, 1, 1, 2, 2, 3, 5, 64)
+
+
+def check_system(p, n, M, b, words_list, windows=WINDOWS):
     S = dense_to_sparse(M)
     krylov = [b]
     for _ in range(n):
@@ -297,10 +358,11 @@ def check_system(p, n, M, b, words_list):
     for words in words_list:
         R = len(words) // n if n else 0
         bill = dirty(rng.randrange(3 * n + 4))
-        got = run(p, n, S, b, words, bill)
+        window = rng.choice(windows)
+        got = run(p, n, S, b, words, bill, window)
         expect(got[0] == 'ok', 'refused', got, p, M, b)
         _, kind, D, passes, applications, multiplied, vector, poly, billed = got
-        where = (p, M, b, words, got)
+        where = (p, M, b, words, window, got)
         f = poly[:D + 1]
         expect(len(poly) == n + 1 and len(vector) == n and not any(poly[D + 1:]), 'lengths', where)
         expect(f[D] == 1 and all(0 <= c < p for c in poly + vector), 'monic', where)
@@ -317,12 +379,12 @@ def check_system(p, n, M, b, words_list):
             expect(ref.check_kernel(p, *S, vector) == ('ok', True, len(S[2])), where)
         expect(passes <= R + n, 'passes', where)
         # the passes, one by one
-        trace = ref.solver_steps(p, *S, b, words)[5]
+        trace = ref.solver_steps(p, *S, b, words, window)[5]
         expect(len(trace) == passes, where)
         r, before, total, lines = b, 0, 0, []
-        for k, (u, left, terms, g, after, made) in enumerate(trace):
+        for k, (u, left, terms, g, after, test, made) in enumerate(trace):
             expect(any(r), 'pass on zero r', where)
-            expect(left == n - before and len(terms) == 2 * left and left >= 1, 'left', where)
+            expect(left == n - before and left >= 1, 'left', where)
             want_u = [w % p for w in words[k * n:k * n + n]] if k < R else [int(i == k - R) for i in range(n)]
             expect(u == want_u, 'u', where)
             long = []
@@ -330,28 +392,37 @@ def check_system(p, n, M, b, words_list):
             for _ in range(2 * n + 4):
                 long.append(sum(x * y for x, y in zip(u, v)) % p)
                 v = d_mul(M, v, p)
-            expect(long[:2 * left] == terms, 'terms', where)
+            # the test: where it is due, with which f, and what follows
+            i = first_test(p, long[:2 * left], window)
+            tested = ref.shortest_recurrence(p, long[:i])[1] if i else [1]
+            ends = i is not None and not any(d_apply_poly(M, tested, r, p))
+            expect(test == (i and (i, len(tested) - 1)), 'test', where)
+            expect(terms == long[:i if ends else 2 * left] and (g == tested or not ends), 'terms', where)
             # g is the least recurrence of the long sequence too
             L, number, h = ref.least_recurrence_by_elimination(p, long)
             expect((L, h) == (len(g) - 1, g) and number == 'one', 'f of pass', where)
             r = d_apply_poly(M, g, r, p)
             expect(r == after, 'r after', where)
-            expect(made == 2 * left - 1 + L, 'applications of a pass', where)
+            expect(made == (i - 1 + L if ends else 2 * left - 1 + L + len(tested) - 1), 'applications of a pass', where)
             lines += [left, L, made]
-            total += 2 * left - 1
+            total += made
             before += L
+            if i:
+                count('passes that ended early' if ends else 'tests that failed')
             if L == 0:
                 count('passes of degree 0')
             if k > 0 and L > 0:
                 count('true restarts, p = %d' % p)
         expect(not any(r) and before == D, 'end', where)
-        expect(applications == (total + 2 * D - 1 if any(b) else 0), 'applications', where)
+        expect(applications == total + max(D - 1, 0), 'applications', where)
+        if window == 0 and any(b):  # the third condition's formula
+            expect(applications == sum(2 * left - 1 for left in lines[::3]) + 2 * D - 1, 'applications without a window', where)
         expect(multiplied == applications * len(S[2]), 'entries multiplied', where)
         written = min(len(bill) - len(bill) % 3, len(lines))
         expect(billed == lines[:written] + bill[written:], 'bill', where, bill)
         results.append((kind, D, vector, poly))
         count(kind)
-    expect(all(x == results[0] for x in results), 'words change the answer', p, M, b, results)
+    expect(all(x == results[0] for x in results), 'words or windows change the answer', p, M, b, results)
     # text round trip
     length_out = ref.write_system(p, *S, b, b'\xee' * 5000)
     expect(length_out[0] == 'ok')
@@ -539,6 +610,7 @@ def refusal_tests(rounds):
         b = [rng.randrange(p) for _ in range(n)]
         g = [rng.randrange(p) for _ in range(rng.randrange(1, n + 2))]
         words = [rng.randrange(2 ** 32) for _ in range(n * rng.choice((0, 1, 2, 64)))]
+        window = rng.choice((0, 1, 64)) if rng.random() < 0.7 else rng.choice((65, 66, 2 ** 32 - 1))
         slices = {'starts': starts, 'columns': columns, 'values': values, 'v': v, 'b': b, 'g': g, 'words': words,
                   'out': [9] * n, 'poly': [9] * (n + 1), 'bill': [9] * (3 * n), 'work': [9] * (16 * n + 16),
                   'gwork': [9] * (2 * n)}
@@ -558,6 +630,7 @@ def refusal_tests(rounds):
 
         def same(got, all_causes, name):
             want = min(all_causes) if all_causes else None
+            want = 13 if want == 10.5 else want
             expect((got[1] if got[0] == 'refused' else None) == want, name, got, all_causes, A, slices)
             count('refusal ' + str(want) if want else 'accepted' if m else 'accepted, size 0')
 
@@ -567,9 +640,10 @@ def refusal_tests(rounds):
         same(ref.polynomial_apply(*A, g, v, slices['out'], slices['gwork']),
              causes | long_v | ({8} if not 1 <= len(g) <= m + 1 else set()) | big(v) | big(g) | o11 |
              ({11} if len(slices['gwork']) < 2 * m else set()), 'polynomial_apply')
-        same(ref.solve(*A, b, words, slices['out'], slices['poly'], slices['bill'], slices['work']),
-             causes | long_b | big(b) | w10 | o11 | ({11} if len(slices['poly']) != m + 1 else set()) |
-             ({11} if len(slices['work']) < 16 * m + 16 else set()), 'solve')
+        # 13 stands between 10 and 11
+        same(ref.solve(*A, b, words, window, slices['out'], slices['poly'], slices['bill'], slices['work']),
+             causes | long_b | big(b) | w10 | ({10.5} if window > 64 else set()) | o11 |
+             ({11} if len(slices['poly']) != m + 1 else set()) | ({11} if len(slices['work']) < 16 * m + 16 else set()), 'solve')
         same(ref.check_solution(*A, v, b), causes | long_v | long_b | big(v) | big(b), 'check_solution')
         same(ref.check_kernel(*A, v), causes | long_v | big(v), 'check_kernel')
         got = ref.write_system(*A, b, bytes(2000))
@@ -726,6 +800,7 @@ if __name__ == '__main__':
     bill_cases()
     empty_cases()
     entry_cases()
+    window_cases()
     field_tests()
     product_tests(rounds)
     recurrence_tests(rounds)

@@ -1,10 +1,13 @@
-"""Systems to try a solver on: every shape that the papers name, each with a choice of p, b and words.
+"""Systems to try a solver on: every shape that the papers name, each with a choice of p, b, words and a window.
 
-make(random, largest) gives one system: what it is in words, p, starts, columns, values, b, words."""
+make(random, largest, p) gives one run: what it is in words, p, starts, columns, values, b, words, window. Any p if none is
+said."""
 
 from reference import is_prime, times
 
 EDGE_PRIMES = [2, 3, 5, 7, 101, 251, 65521, 65537, 2147483629, 2147483647]
+SMALL_PRIMES = [2, 2, 3, 5, 7]
+WINDOWS = [0, 1, 1, 2, 2, 5, 64]  # short ones are due often, and where p is small their tests often fail
 
 
 def some_prime(random):
@@ -134,11 +137,12 @@ def some_words(random, p, n):
     return words
 
 
-def make(random, largest):
-    p, n = some_prime(random), some_size(random, largest)
+def make(random, largest, p=None):
+    p, n = p or some_prime(random), some_size(random, largest)
     shape = random.choice(SHAPES) if n else zero
     matrix = slices(shape(random, p, n))
     sides = right_sides(random, p, n, matrix)
     side = random.choice(sorted(sides) + ['any b', 'b = Ay'])
-    what = '%s, n = %d, p = %d, %s' % (shape.__name__.replace('_', ' '), n, p, side)
-    return (what, p, *matrix, sides[side], some_words(random, p, n))
+    words, window = some_words(random, p, n), random.choice(WINDOWS)
+    what = '%s, n = %d, p = %d, %s, window %d' % (shape.__name__.replace('_', ' '), n, p, side, window)
+    return (what, p, *matrix, sides[side], words, window)
