@@ -4,7 +4,7 @@
 //
 // In each round every contestant has its turn, so that a slow minute of the machine meets all of them; the
 // least time of N rounds counts. A contestant that has used S seconds on one row sits out the later rounds.
-// The parts are memory, sizes, growth, small and verdicts.
+// The parts are memory, sizes, window, growth, small and verdicts.
 // --quick is for a look at whether all works: small sizes, one round.
 #include "contestants.h"
 #include "systems.h"
@@ -138,6 +138,31 @@ void time_all(const char *solve_label, size_t n, size_t k, uint32_t p, bool part
     print_times(solve_label, s, runners, true);
 }
 
+// What a window of 20 saves where f is of degree n / 10, and what it costs where f is of degree n, so that no
+// test is ever due.
+void time_window(size_t n, size_t k, uint32_t p) {
+    const Entrants ours = {{"Filzeur", make_ours}, {"Filzeur, window 20", make_windowed}};
+    const Entrants all = {
+        ours[0],
+        ours[1],
+#ifdef WITH_LINBOX
+        {"LinBox", make_linbox},
+        {"LinBox CSR", make_linbox_rows},
+        {"LinBox of b", make_linbox_of_b},
+        {"LinBox of b, CSR", make_linbox_of_b_rows},
+#endif
+    };
+    fprintf(stderr, "window: %zu rows of %zu entries, p = %u\n", n, k, p);
+    Random random(n * 1000 + k + p);
+    for (bool full : {false, true}) {
+        System s = full ? some_system(random, n, k, p, true) : short_system(random, n, k, p, n / 10);
+        std::vector<Runner> runners = prepare(full ? ours : all, s, s.b, {});
+        race(
+            runners, rounds, 1, [](const Contestant &) { return true; }, [](Contestant &c) { c.solve(); });
+        print_times(full ? "full" : "short", s, runners, true);
+    }
+}
+
 // A system as the text call has them, without random words, through the number call and the text call.
 void time_small(size_t n, size_t k, uint32_t p) {
     fprintf(stderr, "small: %zu rows of %zu entries, p = %u\n", n, k, p);
@@ -258,6 +283,9 @@ int main(int count, char **words) {
         for (auto [n, k] : sizes)
             for (uint32_t p : primes)
                 time_all("solve", n / divisor, k, p, true);
+    if (wanted("window"))
+        for (uint32_t p : primes)
+            time_window(4096 / divisor, 16, p);
     if (wanted("growth"))
         for (size_t n : {1024, 2048, 4096})
             time_all("growth", n / divisor, 16, 2147483647, false);

@@ -50,8 +50,11 @@ void solve(Case &c) {
     const System &s = c.s;
     filzeur_verdict answer = filzeur_solve(
         s.p, s.starts.data(), s.starts.size(), s.columns.data(), s.columns.size(), s.values.data(),
-        s.values.size(), s.b.data(), s.b.size(), s.words.data(), s.words.size(), c.vector.data(),
-        c.vector.size(), c.f.data(), c.f.size(),
+        s.values.size(), s.b.data(), s.b.size(), s.words.data(), s.words.size(),
+#if FILZEUR_VERSION >= 5
+        s.window,
+#endif
+        c.vector.data(), c.vector.size(), c.f.data(), c.f.size(),
 #if FILZEUR_VERSION >= 2
         c.bill.data(), c.bill.size(),
 #endif

@@ -33,6 +33,7 @@ struct System {
     Vector b;
     Vector words; // random words for one projection
     Vector g;     // a polynomial of degree Contestant::products
+    uint32_t window = 0;
 };
 
 // What a contestant says of a system.
@@ -64,10 +65,13 @@ class Contestant {
 using Maker = std::unique_ptr<Contestant> (*)(const System &system, const Vector &v, const Vector &terms);
 
 std::unique_ptr<Contestant> make_ours(const System &, const Vector &, const Vector &);
+std::unique_ptr<Contestant> make_windowed(const System &, const Vector &, const Vector &); // a window of 20
 std::unique_ptr<Contestant> make_text(const System &, const Vector &, const Vector &); // by the text call
 std::unique_ptr<Contestant> make_plain(const System &, const Vector &, const Vector &);
 std::unique_ptr<Contestant> make_linbox(const System &, const Vector &, const Vector &);
 std::unique_ptr<Contestant> make_linbox_rows(const System &, const Vector &, const Vector &);
+std::unique_ptr<Contestant> make_linbox_of_b(const System &, const Vector &, const Vector &); // a window of 20
+std::unique_ptr<Contestant> make_linbox_of_b_rows(const System &, const Vector &, const Vector &);
 std::unique_ptr<Contestant> make_flint(const System &, const Vector &, const Vector &);
 
 #endif

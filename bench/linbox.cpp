@@ -3,6 +3,7 @@
 // sparse matrix and its compressed rows (CSR) are two contestants, since neither is always faster.
 #include <linbox/linbox-config.h>
 
+#include <linbox/algorithms/blackbox-container.h>
 #include <linbox/algorithms/massey-domain.h>
 #include <linbox/algorithms/wiedemann.h>
 #include <linbox/matrix/sparse-matrix.h>
@@ -74,7 +75,7 @@ template <class Matrix> class LinBoxes : public Contestant {
     }
     Verdict verdict() override { return {status, status == "OK" ? Vector(x.begin(), x.end()) : Vector()}; }
 
-  private:
+  protected:
     Field field;
     Matrix a;
     Dense v, b, x, out, certificate;
@@ -83,6 +84,45 @@ template <class Matrix> class LinBoxes : public Contestant {
     LinBox::VectorDomain<Field> domain;
     std::vector<Field::Element> g;
     std::string status;
+};
+
+// WiedemannSolver ends early by itself: solveNonsingular (wiedemann.inl) takes the polynomial of A, and
+// MasseyDomain stops where that has stayed of one degree for EARLY_TERM_THRESHOLD steps (massey-domain.h; 10 by
+// default, methods.h: earlyTerminationThreshold). But its sequence is that of a random vector in the place of b,
+// so that the degree is A's. Here the same parts are put together for the sequence of b, with our window; then
+// Horner's rule and the check of Ax = b as in solveNonsingular.
+template <class Matrix> class OfB : public LinBoxes<Matrix> {
+  public:
+    OfB(const System &s, const Vector &given, const Vector &terms)
+        : LinBoxes<Matrix>(s, given, terms), u(this->field, s.n) {
+        for (size_t i = 0; i < s.n; i++)
+            u[i] = s.words[i] % s.p;
+    }
+
+    void solve() override {
+        const Field &field = this->field;
+        Dense &f = this->generator, &x = this->x, &out = this->out;
+        using Sequence = LinBox::BlackboxContainer<Field, Matrix>;
+        Sequence terms(&this->a, field, u, this->b);
+        LinBox::MasseyDomain<Field, Sequence> massey(&terms, field, 20);
+        size_t rank = 0;
+        massey.minpoly(f, rank);
+        this->status = "SINGULAR";
+        if (field.isZero(f[0]))
+            return;
+        for (size_t i = 1; i < f.size(); i++)
+            field.negin(field.divin(f[i], f[0]));
+        this->domain.mul(x, this->b, f[f.size() - 1]);
+        for (size_t i = f.size() - 1; --i > 0;) {
+            this->a.apply(out, x);
+            this->domain.axpy(x, f[i], this->b, out);
+        }
+        this->a.apply(out, x);
+        this->status = this->domain.areEqual(out, this->b) ? "OK" : "FAILED";
+    }
+
+  private:
+    Dense u;
 };
 
 using Default = LinBox::SparseMatrix<Field>;
@@ -96,4 +136,12 @@ std::unique_ptr<Contestant> make_linbox(const System &s, const Vector &v, const 
 
 std::unique_ptr<Contestant> make_linbox_rows(const System &s, const Vector &v, const Vector &terms) {
     return std::make_unique<LinBoxes<Rows>>(s, v, terms);
+}
+
+std::unique_ptr<Contestant> make_linbox_of_b(const System &s, const Vector &v, const Vector &terms) {
+    return std::make_unique<OfB<Default>>(s, v, terms);
+}
+
+std::unique_ptr<Contestant> make_linbox_of_b_rows(const System &s, const Vector &v, const Vector &terms) {
+    return std::make_unique<OfB<Rows>>(s, v, terms);
 }

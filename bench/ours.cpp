@@ -30,6 +30,16 @@ class Ours : public Contestant {
     Case c;
 };
 
+struct WithWindow {
+    explicit WithWindow(const System &system) : given(system) { given.window = 20; }
+    System given;
+};
+
+class Windowed : WithWindow, public Ours {
+  public:
+    Windowed(const System &s, const Vector &v, const Vector &terms) : WithWindow(s), Ours(given, v, terms) {}
+};
+
 class Text : public Contestant {
   public:
     Text(const System &s, const Vector &v, const Vector &terms) : c(s, v, terms) { our_calls.write(c); }
@@ -91,6 +101,10 @@ class Plain : public Contestant {
 
 std::unique_ptr<Contestant> make_ours(const System &s, const Vector &v, const Vector &terms) {
     return std::make_unique<Ours>(s, v, terms);
+}
+
+std::unique_ptr<Contestant> make_windowed(const System &s, const Vector &v, const Vector &terms) {
+    return std::make_unique<Windowed>(s, v, terms);
 }
 
 std::unique_ptr<Contestant> make_text(const System &s, const Vector &v, const Vector &terms) {

@@ -16,6 +16,9 @@ import sys
 
 OURS, PLAIN, LINBOX, ROWS, FLINT = 'Filzeur', 'plain C', 'LinBox', 'LinBox CSR', 'FLINT dense'
 NAMES = [OURS, PLAIN, LINBOX, ROWS, FLINT]
+WINDOWED = 'Filzeur, window 20'
+SHORT_NAMES = [OURS, WINDOWED, LINBOX, ROWS, 'LinBox of b', 'LinBox of b, CSR']
+SHORT_GOAL = 0.22  # of the time without a window, at most, at 4,096 × 16
 LARGE = 2147483647
 PRODUCTS = 64  # Contestant::products
 
@@ -64,7 +67,7 @@ class Times:
             name = fields[4].strip()
             self.seconds[key][name] = float(fields[5])
             self.turns[key][name] = int(fields[6])
-            if what in ('solve', 'growth', 'small') and fields[8] not in ('Ax = b', 'Aw = 0'):
+            if what in ('solve', 'short', 'full', 'growth', 'small') and fields[8] not in ('Ax = b', 'Aw = 0'):
                 self.wrong.add((key, name))
 
     def rounds(self, *whats):
@@ -181,6 +184,29 @@ def small_table(times):
     return rows_of(table)
 
 
+def window_table(times, what='short'):
+    """Milliseconds, and our time with a window divided by that without one, and by LinBox's."""
+    keys = times.keys(what)
+    names = [name for name in SHORT_NAMES if any(name in times.seconds[key] for key in keys)]
+    others = [name for name in names if name != WINDOWED]
+    table = [['rows × entries, p'] + names + ['window 20 to ' + ('none' if name == OURS else name) for name in others]]
+    for key in keys:
+        row = times.seconds[key]
+        table.append(['%s × %d, %s' % (count(key.n), key.k, count(key.p))] +
+                     [show(1e3 * row[name], 1) + times.remark(key, name) if name in row else '' for name in names] +
+                     [show(row[WINDOWED] / row[name], 3) if name in row else '' for name in others])
+    return rows_of(table)
+
+
+def window_goal(times):
+    shares = [times.seconds[key][WINDOWED] / times.seconds[key][OURS] for key in times.keys('short') if key.n == 4096]
+    if not shares:
+        return 'Too small for the goal, which is of 4,096 rows.'
+    reached = 'reached' if max(shares) <= SHORT_GOAL else 'missed by %.3f' % (max(shares) - SHORT_GOAL)
+    return 'With the window at most %.3f of the time without it; at most %.2f was to be reached: %s.' % (
+        max(shares), SHORT_GOAL, reached)
+
+
 def kernel_table(times):
     table = [['rows × entries', OURS, 'C', 'ratio']]
     for key in times.keys('kernel'):
@@ -211,7 +237,7 @@ def machine():
 
 def page(times, picture):
     """All sections that there are rows for, in Markdown."""
-    rounds = times.rounds('product', 'horner', 'recurrence', 'solve', 'growth')
+    rounds = times.rounds('product', 'horner', 'recurrence', 'solve', 'short', 'full', 'growth')
     parts = ['%s. %s.' % (datetime.date.today().isoformat(), machine())]
     if rounds:
         parts[0] += (' Each time is the least of %d rounds in one process, in which the programs took turns; where a '
@@ -229,6 +255,16 @@ def page(times, picture):
             operation_table(times, 'product', lambda key, t: 1e9 * t / (key.n * key.k), 2),
             '## Shortest recurrence of 2n terms, milliseconds',
             operation_table(times, 'recurrence', lambda key, t: 1e3 * t, 2)]
+    if times.keys('short'):
+        parts += [
+            '## A window of 20, whole solve, milliseconds',
+            'b lies in a space of n / 10 places that A takes into itself, so f has degree n / 10. LinBox\'s solver ends early '
+            'by itself, but its sequence is that of a random vector, not of b, so it meets A\'s own polynomial, of degree '
+            'n. "LinBox of b" is made of the same parts of LinBox for the sequence of b, with a threshold of 20, and '
+            'trusts what it finds until it checks Ax = b.',
+            window_table(times), window_goal(times),
+            'f of degree n, so that no test is ever due: what a window costs where it saves nothing.',
+            window_table(times, 'full')]
     if times.keys('small'):
         parts += ['## Small systems, microseconds',
                   'As the text call has them, without random words, least of %d rounds. The text call also reads the '
@@ -316,9 +352,12 @@ def main():
         beside = ['%s %s' % (name, show(ratio(times, key, name))) for name in times.names()[1:] if name in row]
         if OURS in row and beside:
             print('%-10s %5d x %2d  p = %-10d  ours to %s' % (key.what, key.n, key.k, key.p, ', '.join(beside)))
-    for what, table in (('solve', goal_table), ('small', small_table), ('kernel', kernel_table)):
+    for what, table in (('solve', goal_table), ('short', window_table), ('short', window_goal), ('small', small_table),
+                        ('kernel', kernel_table)):
         if times.keys(what):
             print('\n' + table(times))
+    if times.keys('full'):
+        print('\n' + window_table(times, 'full'))
     print('\nwritten: %s and %s' % tuple(sys.argv[2:4]))
 
 

@@ -42,6 +42,35 @@ System some_system(Random &random, size_t n, size_t k, uint32_t p, bool diagonal
     return s;
 }
 
+System short_system(Random &random, size_t n, size_t k, uint32_t p, size_t degree) {
+    System first = some_system(random, degree, k, p, true), second = some_system(random, n - degree, k, p, true);
+    Vector place(n); // where row and column i go
+    for (size_t i = 0; i < n; i++)
+        place[i] = static_cast<uint32_t>(i);
+    std::shuffle(place.begin(), place.end(), random);
+    std::vector<std::vector<std::pair<uint32_t, uint32_t>>> rows(n); // column, value
+    for (size_t i = 0; i < n; i++) {
+        const System &block = i < degree ? first : second;
+        size_t from = i < degree ? 0 : degree;
+        for (uint32_t e = block.starts[i - from]; e < block.starts[i - from + 1]; e++)
+            rows[place[i]].push_back({place[from + block.columns[e]], block.values[e]});
+    }
+    System s{p, n, {0}, {}, {}, Vector(n), {}, first.g};
+    for (auto &row : rows) {
+        std::sort(row.begin(), row.end());
+        for (auto [column, value] : row) {
+            s.columns.push_back(column);
+            s.values.push_back(value);
+        }
+        s.starts.push_back(static_cast<uint32_t>(s.columns.size()));
+    }
+    for (size_t i = 0; i < degree; i++)
+        s.b[place[i]] = first.b[i];
+    for (size_t i = 0; i < n; i++)
+        s.words.push_back(static_cast<uint32_t>(random()));
+    return s;
+}
+
 Vector first_terms(const System &s) {
     Vector terms, v = s.b;
     for (size_t i = 0; i < 2 * s.n; i++, v = times(s, v)) {

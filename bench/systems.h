@@ -18,6 +18,11 @@ Vector times(const System &s, const Vector &v);
 // few entries, some column is empty and it is singular.
 System some_system(Random &random, size_t n, size_t k, uint32_t p, bool diagonal);
 
+// The same, with b in a space of `degree` places that A takes into itself: two blocks of rows with k entries in
+// each, b and its solution in the first, the places then mixed. So f has almost always that degree, and A's own
+// least polynomial almost always degree n.
+System short_system(Random &random, size_t n, size_t k, uint32_t p, size_t degree);
+
 // The terms of the solver's first pass.
 Vector first_terms(const System &s);
 

@@ -138,7 +138,7 @@ void row(std::vector<Library> &libraries, const std::string &name, Call call, Ca
     if (name.find(only) == std::string::npos)
         return;
     for (const Library &library : libraries)
-        if (!(library.places[0]->*call)) {
+        if (!(library.places[0]->*call) || (c.s.window > 0 && library.places[0]->version < 5)) {
             fprintf(stderr, "%s: the %s library has no such call\n", name.c_str(), library.name.c_str());
             return;
         }
@@ -197,6 +197,15 @@ void compare(std::vector<Library> &libraries) {
             std::fill_n(terms.begin(), rows - 1, 0);
             row(libraries, "recurrence, zeros first" + size(rows, k, p), &Calls::recurrence, c);
         }
+    for (uint32_t p : {101u, 65537u, 2147483647u}) {
+        size_t n = quick ? 400 : 4096, k = 16;
+        Random random(n * 1000 + k + p);
+        System s = short_system(random, n, k, p, n / 10);
+        Case c(s, s.b, s.b);
+        row(libraries, "solve, f of degree n / 10" + size(n, k, p), &Calls::solve, c);
+        s.window = 20;
+        row(libraries, "solve, f of degree n / 10, window 20" + size(n, k, p), &Calls::solve, c);
+    }
     printf("\nlargest ratio %.3f: %s\n", largest, largest_row.c_str());
 }
 
