@@ -7,7 +7,7 @@
 --     power-zero, power-suc, coef-power, length-power      Aᵏv
 --     coef-apply, length-apply, reduced-apply      g(A)v
 --     mk-inner             u·v, for v of n places
---     coef-terms, length-terms      u·r, u·Ar, ..: the theory's projected sequence
+--     coef-terms           u·r, u·Ar, ..: the theory's projected sequence
 --     coef-multiply, length-multiply, reduced-multiply      the product of polynomials
 --     unitVector n j, coef-unit      the unit vector with its 1 at place j
 --     coef-zeros, zeros-from-null    the zero vector
@@ -170,10 +170,6 @@ module _ (p : ℕ) (h : Prime p) (A : Matrix) where
   coef-terms left u r e i l =
       coef-table p h (2 * left) (λ i. dot p u (power p A i r)) i l ∙ mk-inner u (power p A i r) (length-power i r e)
       ∙ ap (theory.dot R (size A) (coef p h u)) (coef-power i r)
-
-  pub length-terms : (left : ℕ) (u r : List ℕ) → length (terms p A left u r) ≡ 2 * left
-  unfolding terms
-  length-terms left u r = length-table (2 * left) (λ i. dot p u (power p A i r))
 
 -- ---- products of polynomials, unit vectors, the zero vector
 

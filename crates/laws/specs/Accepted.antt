@@ -7,7 +7,7 @@
 --     AcceptedMatrix p A, matrix-accepted   p and A pass the checks of a matrix: so does the system with the right side 0
 --     starts-rise, start-within      starts that rise; none is above the number of entries
 --     column-within, value-below, right-at      every entry's column, every entry's value, every element of b
---     AcceptedRun, run-accepted      a system, words and a window pass the checks of a run
+--     AcceptedRun, run-accepted      a system and words pass the checks of a run
 --     slicesTaken                    11 for the solver: the slices are as long as stated
 --     AcceptedCall, call-accepted    solverRefusal is 0: a run, and slices as long as stated
 use mathlib.Core.Path.{_≡_, refl, ap, _∙_, subst}
@@ -255,33 +255,30 @@ module _ {p : ℕ} {A : Matrix} {b : List ℕ} (a : AcceptedSystem p A b) where
 
 -- ---- a run, and a call of the solver
 
-pub record AcceptedRun (p : ℕ) (A : Matrix) (b words : List ℕ) (w : ℕ) : Type 0 where
+pub record AcceptedRun (p : ℕ) (A : Matrix) (b words : List ℕ) : Type 0 where
   pub system : AcceptedSystem p A b
   pub words-taken : wordsTaken (size A) words ≡ true
-  pub window-low : w ≤ 64
 
-pub run-accepted : (p : ℕ) (A : Matrix) (b words : List ℕ) (w : ℕ) → first (runChecks p A b words w) ≡ 0 → AcceptedRun p A b words w
+pub run-accepted : (p : ℕ) (A : Matrix) (b words : List ℕ) (w : ℕ) → first (runChecks p A b words w) ≡ 0 → AcceptedRun p A b words
 unfolding runChecks
 run-accepted p A b words w e =
     let both = first-append-zero (systemChecks p A b) (check 10 (not (wordsTaken (size A) words)) ∷ check 13 (not (windowTaken w)) ∷ []) (numbered-system p A b) e in
-    let ten = first-passed 10 (wordsTaken (size A) words) _ (omega arith) (both .1) in
     record {
       system = system-accepted p A b (both .0);
-      words-taken = ten .0;
-      window-low = leb-true w 64 (first-passed 13 (windowTaken w) [] (omega arith) (ten .1) .0);
+      words-taken = first-passed 10 (wordsTaken (size A) words) _ (omega arith) (both .1) .0;
     }
 
 abbrev pub slicesTaken : ℕ → List ℕ → List ℕ → List ℕ → Bool
 slicesTaken n v f w = eqb (length v) n && eqb (length f) (n + 1) && leb (16 * n + 16) (length w)
 
-pub record AcceptedCall (p : ℕ) (A : Matrix) (b words : List ℕ) (w : ℕ) (v f work : List ℕ) : Type 0 where
-  pub run : AcceptedRun p A b words w
+pub record AcceptedCall (p : ℕ) (A : Matrix) (b words v f work : List ℕ) : Type 0 where
+  pub run : AcceptedRun p A b words
   pub vector-size : length v ≡ size A
   pub polynomial-size : length f ≡ size A + 1
   pub room : 16 * size A + 16 ≤ length work
 
 pub call-accepted : (p : ℕ) (A : Matrix) (b words : List ℕ) (w : ℕ) (v f work : List ℕ) → solverRefusal p A b words w v f work ≡ 0
-    → AcceptedCall p A b words w v f work
+    → AcceptedCall p A b words v f work
 unfolding solverRefusal
 call-accepted p A b words w v f work e =
     let both = first-append-zero (runChecks p A b words w) (check 11 (not (slicesTaken (size A) v f work)) ∷ []) (numbered-run p A b words w) e in

@@ -8,7 +8,7 @@
 --     discrepancy-first, steps-first       d of r and the steps for 1 to r are those of the first r terms: no later one is needed
 --     at-update                the coefficients of q − (d/e)·z·t
 --     z-same                   z·f of equal polynomials
---     SameSteps                the same q, t, L and e, polynomials coefficient by coefficient
+--     SameSteps, same-both     the same q, t, L and e, polynomials coefficient by coefficient; .. as what is the same as these
 --     discrepancy-same, step-same          a step of the same is the same
 --     discrepancy-of           d of r, with the q and L of r − 1
 --     e-element                e is an element and not 0
@@ -153,6 +153,9 @@ pub record SameSteps (c c′ : Steps) : Type 0 where
   pub t : (i : ℕ) → at (c .t) i ≡ at (c′ .t) i
   pub L : c .L ≡ c′ .L
   pub e : c .e ≡ c′ .e
+
+pub same-both : {c c′ c″ : Steps} → SameSteps c c′ → SameSteps c′ c″ → SameSteps c c″
+same-both a b = record { q = λ i. a .q i ∙ b .q i; t = λ i. a .t i ∙ b .t i; L = a .L ∙ b .L; e = a .e ∙ b .e }
 
 module _ (p : ℕ) (s : List ℕ) (r : ℕ) {c c′ : Steps} (h : SameSteps c c′) where
   pub discrepancy-same : discrepancy p s r c ≡ discrepancy p s r c′

@@ -7,7 +7,7 @@
 --     length-projections, projection-words, projection-unit      "the R vectors, then the unit vectors 1 to n"
 --     spent-nil, spent-cons, spent-append, spent-snoc            the applications of passes
 --     bill-nil, bill-cons, bill-snoc, length-bill                the passes in numbers
---     length-passTerms                       2 × left terms
+--     length-terms, length-passTerms         2 × left terms
 --     pass-whole, pass-early, pass-on        a pass by its cases: no test; one that found f(A)r zero; one that did not
 --     test-none, pass-present        w = 0 is the present rule: no test
 --     Ends, pass-ends                        how a pass ended, whichever case it was
@@ -148,9 +148,13 @@ length-bill (q ∷ qs) = ap length (bill-cons q qs) ∙ omega (arith, length-bil
 
 -- ---- the terms of a pass
 
+pub length-terms : (p : ℕ) (A : Matrix) (left : ℕ) (u r : List ℕ) → length (terms p A left u r) ≡ 2 * left
+unfolding terms
+length-terms p A left u r = length-table (2 * left) (λ i. dot p u (power p A i r))
+
 pub length-passTerms : (p : ℕ) (A : Matrix) (u : List ℕ) (c : Run) → length (passTerms p A u c) ≡ 2 * (size A - c .found)
-unfolding passTerms terms
-length-passTerms p A u c = length-table (2 * (size A - c .found)) (λ i. dot p u (power p A i (c .residual)))
+unfolding passTerms
+length-passTerms p A u c = length-terms p A (size A - c .found) u (c .residual)
 
 -- ---- a pass by its cases
 

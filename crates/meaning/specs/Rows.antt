@@ -38,10 +38,10 @@ pub data Case : Type 0 where
   solver-bills : (p : ℕ) (A : Matrix) (b words : List ℕ) (room : ℕ) (slice : List ℕ) → Case
   -- a run with a window: kind, vector, f, its passes, applications, entries multiplied
   window-gives : (p : ℕ) (A : Matrix) (b words : List ℕ) (w : ℕ) → Kind → (vector f : List ℕ) → List Pass → (applications multiplied : ℕ) → Case
-  window-refuses : (p : ℕ) (A : Matrix) (b words : List ℕ) (w vector polynomial work number : ℕ) → Case
   -- the terms that the pass with u takes after the passes with us
   pass-takes : (p : ℕ) (A : Matrix) (b : List ℕ) (us : List (List ℕ)) (u terms : List ℕ) → Case
-  -- the solver's refusal, for slices of these lengths (vector, polynomial, work)
+  -- the solver's refusal, for slices of these lengths (vector, polynomial, work); with a window
+  window-refuses : (p : ℕ) (A : Matrix) (b words : List ℕ) (w vector polynomial work number : ℕ) → Case
   solver-refuses : (p : ℕ) (A : Matrix) (b words : List ℕ) (vector polynomial work number : ℕ) → Case
   -- the shortest recurrence of s modulo p: L, and the polynomial slice
   recurrence-gives : (p : ℕ) (s : List ℕ) (L : ℕ) (slice : List ℕ) → Case
@@ -75,6 +75,15 @@ pub data Case : Type 0 where
 abbrev pub nines : ℕ → List ℕ
 nines k = replicate k 9
 
+abbrev Refuses : ℕ → Matrix → List ℕ → List ℕ → ℕ → ℕ → ℕ → ℕ → ℕ → Type 0
+Refuses p A b words w vector polynomial work k =
+    let x = nines vector in
+    let f = nines polynomial in
+    let room = nines work in
+    _≡_ {A = ℕ × List ℕ × List ℕ}
+    (solverRefusal p A b words w x f room, vectorAfter p A b words w x f room, polynomialAfter p A b words w x f room)
+    (k, x, f)
+
 abbrev pub Holds : Case → Type 0
 Holds (solver-gives p A b words k x f n a m) =
     let o = solve p A b words 0 in
@@ -96,21 +105,9 @@ Holds (window-gives p A b words w k x f qs a m) =
     _≡_ {A = ℕ × Kind × List ℕ × List ℕ × List Pass × ℕ × ℕ}
     (first (runChecks p A b words w), o .kind, o .vector, o .polynomial, o .passes, applications o, o .multiplied)
     (0, k, x, f, qs, a, m)
-Holds (window-refuses p A b words w vector polynomial work k) =
-    let x = nines vector in
-    let f = nines polynomial in
-    let room = nines work in
-    _≡_ {A = ℕ × List ℕ × List ℕ}
-    (solverRefusal p A b words w x f room, vectorAfter p A b words w x f room, polynomialAfter p A b words w x f room)
-    (k, x, f)
 Holds (pass-takes p A b us u s) = passTerms p A u (run p A 0 us (begin b)) ≡ s
-Holds (solver-refuses p A b words vector polynomial work k) =
-    let x = nines vector in
-    let f = nines polynomial in
-    let w = nines work in
-    _≡_ {A = ℕ × List ℕ × List ℕ}
-    (solverRefusal p A b words 0 x f w, vectorAfter p A b words 0 x f w, polynomialAfter p A b words 0 x f w)
-    (k, x, f)
+Holds (window-refuses p A b words w vector polynomial work k) = Refuses p A b words w vector polynomial work k
+Holds (solver-refuses p A b words vector polynomial work k) = Refuses p A b words 0 vector polynomial work k
 Holds (recurrence-gives p s L f) =
     let out = nines (length f) in
     let work = nines 40 in

@@ -42,7 +42,7 @@ pub holds-generator : {p count r : ℕ} {W W₁ W′ : List ℕ} (c : Register) 
     → Reversed W₁ (count + 2) (c .L) W′ → HoldsGenerator p count W W′ (c .L)
 holds-generator {p} {count} {r} {W} {W₁} {W′} c ready end followed stay turned =
     record {
-      answer = follows .L ∙ sym (degree-at p s count size);
+      answer = follows .same .L ∙ sym (degree-at p s count size);
       f = table-of 0 (take (count + 2) (drop (count + 2) W′)) (count + 2) (λ i. at (generator p s) i)
           (length-part (count + 2) (count + 2) W′ (omega (arith, room, ready .room)))
           (λ i l. at-part (count + 2) (count + 2) W′ i l ∙ place i l);
@@ -69,17 +69,17 @@ holds-generator {p} {count} {r} {W} {W₁} {W′} c ready end followed stay turn
     within = follows-within (ready .two) follows
 
     q : (i : ℕ) → i < count + 2 → at W₁ (count + 2 + i) ≡ at (steps p s count .q) i
-    q i l = sym (at-part (count + 2) (count + 2) W₁ i l) ∙ follows .q i
+    q i l = sym (at-part (count + 2) (count + 2) W₁ i l) ∙ follows .same .q i
 
     place : (i : ℕ) → i < count + 2 → at W′ (count + 2 + i) ≡ at (generator p s) i
     place i l =
         ⊎-elim
         (λ past. turned .after (count + 2 + i) (omega arith) ∙ q i l
-        ∙ regular .q-end i (subst (λ x. x < i) (follows .L) past)
-        ∙ sym (at-generator-past p s count size i (subst (λ x. x < i) (follows .L) past)))
+        ∙ regular .q-end i (subst (λ x. x < i) (follows .same .L) past)
+        ∙ sym (at-generator-past p s count size i (subst (λ x. x < i) (follows .same .L) past)))
         (λ inside. turned .inside i (omega (arith, inside)) ∙ q (c .L - i) (omega (arith, within))
-        ∙ ap (λ k. at (steps p s count .q) (k - i)) (follows .L)
-        ∙ sym (at-generator-within p s count size i (subst (λ x. i ≤ x) (follows .L) inside)))
+        ∙ ap (λ k. at (steps p s count .q) (k - i)) (follows .same .L)
+        ∙ sym (at-generator-within p s count size i (subst (λ x. i ≤ x) (follows .same .L) inside)))
         (lt-or-ge (c .L) i)
 
 pub generator-at : {p count : ℕ} {W W′ : List ℕ} {L : ℕ} → HoldsGenerator p count W W′ L → (i : ℕ) → i < count + 2

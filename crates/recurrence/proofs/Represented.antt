@@ -73,7 +73,7 @@ exchanged count t spare (inr e) = inl (e .1, e .0)
 -- ---- what follows the steps
 
 pub follows-within : {p : ℕ} {s : List ℕ} {r d : ℕ} {st : Steps} → 1 < p → FollowsSteps p s r d st → st .L ≤ r
-follows-within {p} {s} {r} two follows = subst (λ x. x ≤ r) (sym (follows .L)) (steps-regular p two s r .within)
+follows-within {p} {s} {r} two follows = subst (λ x. x ≤ r) (sym (follows .same .L)) (steps-regular p two s r .within)
 
 -- ---- one slice after another
 

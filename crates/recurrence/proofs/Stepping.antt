@@ -22,7 +22,7 @@ use Rattle.meaning.specs.List.{at, sum, sumFrom}
 use Rattle.meaning.specs.Field.{minus, times, inverse}
 use Rattle.meaning.specs.Recurrence.{Steps, start, discrepancy, update, step, steps}
 use Rattle.laws.specs.List.{sum-ext}
-use Rattle.laws.specs.Recurrence.{times-lt, times-zero, minus-zero, at-update, step-zero, step-stay, step-grow, steps-zero, steps-at, steps-first, SameSteps, discrepancy-same, step-same, Regular, step-regular}
+use Rattle.laws.specs.Recurrence.{times-lt, times-zero, minus-zero, at-update, step-zero, step-stay, step-grow, steps-zero, steps-at, steps-first, SameSteps, same-both, discrepancy-same, step-same, Regular, step-regular}
 use Rattle.laws.specs.Part.{part, Apart, before, after, at-part, part-ext, written-other-at}
 use Rattle.laws.specs.Written.{Written, written-none}
 use Rattle.laws.specs.Lent.{written-take}
@@ -100,11 +100,9 @@ module _ (p count : ℕ) (W W₁ : List ℕ) (first : FirstTerms p count 0 W) (w
   start-follows =
       record {
         d = λ l. absurd (omega arith);
-        q = λ i.
-            q-whole count W₀ (1 ∷ []) (omega (arith, same-length, room)) one none i ∙ sym (ap (λ x. at (x .q) i) (steps-zero p (take 0 W)));
-        t = λ i. sym (ap (λ x. at (x .t) i) (steps-zero p (take 0 W)));
-        L = sym (ap (λ x. x .L) (steps-zero p (take 0 W)));
-        e = sym (ap (λ x. x .e) (steps-zero p (take 0 W)));
+        same =
+            subst (SameSteps (represented count W₀ (fresh count))) (sym (steps-zero p (take 0 W)))
+            (record { q = q-whole count W₀ (1 ∷ []) (omega (arith, same-length, room)) one none; t = λ i. refl; L = refl; e = refl });
       }
 
 -- ---- from one r to the next
@@ -157,33 +155,20 @@ pub follows-next : {p r d₀ d : ℕ} (W : List ℕ) {st st′ : Steps} → 1 < 
 follows-next {p} {r} {d₀} {d} W {st} {st′} two low follows made =
     record {
       d = λ l. made .0 ∙ discrepancy-same p s r agree;
-      q = λ i. made .1 .q i ∙ next .q i ∙ ap (λ x. at (x .q) i) end;
-      t = λ i. made .1 .t i ∙ next .t i ∙ ap (λ x. at (x .t) i) end;
-      L = made .1 .L ∙ next .L ∙ ap (λ x. x .L) end;
-      e = made .1 .e ∙ next .e ∙ ap (λ x. x .e) end;
+      same =
+          same-both (made .1)
+          (subst (SameSteps (step p s r st)) (sym (steps-at p s r low)) (step-same p s r agree (omega (arith, two))));
     }
   where
     s : List ℕ
     s = take r W
 
     -- the steps for 1 to r − 1 do not ask for the term that r adds
-    same : steps p (take (r - 1) W) (r - 1) ≡ steps p s (r - 1)
-    same = ap (λ x. steps p x (r - 1)) (sym (take-take (r - 1) r W (omega arith))) ∙ steps-first p s (r - 1) (r - 1) (omega arith)
+    earlier : steps p (take (r - 1) W) (r - 1) ≡ steps p s (r - 1)
+    earlier = ap (λ x. steps p x (r - 1)) (sym (take-take (r - 1) r W (omega arith))) ∙ steps-first p s (r - 1) (r - 1) (omega arith)
 
     agree : SameSteps st (steps p s (r - 1))
-    agree =
-        record {
-          q = λ i. follows .q i ∙ ap (λ x. at (x .q) i) same;
-          t = λ i. follows .t i ∙ ap (λ x. at (x .t) i) same;
-          L = follows .L ∙ ap (λ x. x .L) same;
-          e = follows .e ∙ ap (λ x. x .e) same;
-        }
-
-    next : SameSteps (step p s r st) (step p s r (steps p s (r - 1)))
-    next = step-same p s r agree (omega (arith, two))
-
-    end : step p s r (steps p s (r - 1)) ≡ steps p s r
-    end = sym (steps-at p s r low)
+    agree = subst (SameSteps st) earlier (follows .same)
 
 -- the steps from `from` + 1 to r have been made
 pub record Between (p count from r : ℕ) (W : List ℕ) (c : Register) (W₁ : List ℕ) (c₁ : Register) : Type 0 where

@@ -3,18 +3,17 @@
 --     registerFits             8 of a register: r is 1 to count; L, and t with its zeros, are no longer than r − 1 allows; t and the spare region
 --     stateElements            9: the first r terms and q are elements, q ends with L, and the inverse is that of e
 --     stepRefusal              the number of a step's refusal
---     Starts, StepsOn          what the two calls answer and leave: document 01's start, and its step for r of what was found
+--     Answers                  what a call answers and leaves: a register, or the number of its refusal; answers-made, answers-refused
+--     Starts, StepsOn          the two calls': document 01's start, and its step for r of what was found
 --     Fits, fits-of, fits-not, fits-by        what registerFits says; that it fails; as the code makes it
 --     makes-modulus, makes-one the modulus by its other name; a step of the steps
---     starts-made, starts-refused, steps-made, steps-refused      by the cases of the answer
 --     room-ready, step-asked   what no check turns down is what a start, and a step, ask
---     room-taken, step-taken   .. and what follows the steps modulo a prime is not turned down
+--     step-taken               .. and what follows the steps modulo a prime is not turned down
 use mathlib.Core.Path.{_≡_, refl, sym, ap, _∙_, subst}
 use mathlib.Core.Logic.{_≢_, _⊎_, inl, inr}
 use mathlib.Core.Bool.{Bool, true, false, not, _&&_, _||_}
 use mathlib.Core.List.{List, [], _∷_, _++_}
 use Prim.Native.Nat.{ℕ, _+_, _-_, _*_, _%_, _≤_, _<_}
-use native.Mathlib.Nat.{mod-eq-of-lt}
 use native.Mathlib.Decide.{decLt}
 use native.Mathlib.Omega.{arith}
 use lib.Dec.{eqb, ltb, leb}
@@ -23,8 +22,7 @@ use lib.Seq.{getD-take, length-take-le}
 use borrow.Author.Tests.{eqb-true, eq-eqb, ltb-true, lt-ltb, leb-true, le-leb}
 use Rattle.meaning.specs.List.{at}
 use Rattle.meaning.specs.Field.{inverse}
-use Rattle.meaning.specs.Refusal.{Check, check, first, within, elements}
-use Rattle.meaning.specs.Recurrence.{steps}
+use Rattle.meaning.specs.Refusal.{check, first, within, elements}
 use Rattle.laws.specs.Bool.{and-left, and-right, and-both, and-five, or-true-left, or-true-right, or-right, test-cases, same-test}
 use Rattle.laws.specs.Part.{part, length-part, at-part}
 use Rattle.laws.specs.Recurrence.{e-element}
@@ -35,7 +33,7 @@ use Rattle.checks.specs.Valid.{Vector, vector-of, elements-of}
 use Rattle.recurrence.specs.declared.steps.Register.{Register}
 use Rattle.recurrence.specs.declared.Stepped.{Stepped}
 use Rattle.recurrence.specs.declared.Stepped.the-variants.{Made, Refused}
-use Rattle.recurrence.specs.Recurrence.{Ready, roomChecks, numbered-room}
+use Rattle.recurrence.specs.Recurrence.{roomChecks, numbered-room, room-of, room-to}
 use Rattle.recurrence.specs.Steps.{FollowsSteps, represented, Places, Laid, TermsStay, FirstTerms, Sound, BeforeStep, MakesStep, MakesSteps, sound-follows}
 
 abbrev pub places : ℕ → ℕ → ℕ → Bool
@@ -58,15 +56,35 @@ unfoldable pub stepRefusal : ℕ → ℕ → ℕ → List ℕ → Register → �
 stepRefusal p count r W c =
     first (roomChecks p count W ++ (check 8 (not (registerFits count r c)) ∷ check 9 (not (stateElements p count r W c)) ∷ []))
 
-pub record Starts (p count : ℕ) (W : List ℕ) (a : Stepped) (W′ : List ℕ) : Type 0 where
-  pub made : (c : Register) → a ≡ Made c
-      → (first (roomChecks p count W) ≡ 0) × FollowsSteps p (take 0 W) 0 (c .d) (represented count W′ c) × Laid p count 0 c × TermsStay count W W′
+pub record Answers (number : ℕ) (Left : Register → Type 0) (W : List ℕ) (a : Stepped) (W′ : List ℕ) : Type 0 where
+  pub made : (c : Register) → a ≡ Made c → (number ≡ 0) × Left c
   -- "every lent slice keeps its contents"
-  pub refused : (k : ℕ) → a ≡ Refused k → (first (roomChecks p count W) ≡ k) × (k ≢ 0) × (W′ ≡ W)
+  pub refused : (k : ℕ) → a ≡ Refused k → (number ≡ k) × (k ≢ 0) × (W′ ≡ W)
 
-pub record StepsOn (p count r : ℕ) (W : List ℕ) (c : Register) (a : Stepped) (W′ : List ℕ) : Type 0 where
-  pub made : (c′ : Register) → a ≡ Made c′ → (stepRefusal p count r W c ≡ 0) × MakesStep p count r W c W′ c′
-  pub refused : (k : ℕ) → a ≡ Refused k → (stepRefusal p count r W c ≡ k) × (k ≢ 0) × (W′ ≡ W)
+pub record Started (p count : ℕ) (W W′ : List ℕ) (c : Register) : Type 0 where
+  pub follows : FollowsSteps p (take 0 W) 0 (c .d) (represented count W′ c)
+  pub laid : Laid p count 0 c
+  pub stay : TermsStay count W W′
+
+abbrev pub Starts : ℕ → ℕ → List ℕ → Stepped → List ℕ → Type 0
+Starts p count W a W′ = Answers (first (roomChecks p count W)) (Started p count W W′) W a W′
+
+abbrev pub StepsOn : ℕ → ℕ → ℕ → List ℕ → Register → Stepped → List ℕ → Type 0
+StepsOn p count r W c a W′ = Answers (stepRefusal p count r W c) (MakesStep p count r W c W′) W a W′
+
+pub answers-made : {number : ℕ} (Left : Register → Type 0) {W W′ : List ℕ} {c : Register} → number ≡ 0 → Left c → Answers number Left W (Made c) W′
+answers-made Left {c} z h =
+    record {
+      made = λ x e. let same : c ≡ x = cc in (z, subst Left same h);
+      refused = λ k e. absurd (let y : _≡_ {A = ℕ} 0 1 = cc in omega arith);
+    }
+
+pub answers-refused : {number : ℕ} {Left : Register → Type 0} {W : List ℕ} {k : ℕ} → number ≡ k → k ≢ 0 → Answers number Left W (Refused k) W
+answers-refused {k} z n =
+    record {
+      made = λ c e. absurd (let y : _≡_ {A = ℕ} 0 1 = cc in omega arith);
+      refused = λ j e. let same : k ≡ j = cc in (z ∙ same, (λ q. n (same ∙ q)), refl);
+    }
 
 pub makes-modulus : {m p count r : ℕ} {W : List ℕ} {c : Register} {W′ : List ℕ} {c′ : Register} → m ≡ p → MakesStep m count r W c W′ c′
     → MakesStep p count r W c W′ c′
@@ -76,69 +94,18 @@ pub makes-one : {p count : ℕ} (r : ℕ) {W : List ℕ} {c : Register} {W′ : 
     → MakesStep p count r W c W′ c′
 makes-one r low h = record { step = h .one (omega (arith, low)); follows = h .follows; sound = h .sound; stay = h .stay }
 
--- ---- by the cases of the answer
-
-pub starts-made : {p count : ℕ} {W W′ : List ℕ} {c : Register} → first (roomChecks p count W) ≡ 0
-    → FollowsSteps p (take 0 W) 0 (c .d) (represented count W′ c) → Laid p count 0 c × TermsStay count W W′ → Starts p count W (Made c) W′
-starts-made {p} {count} {W} {W′} {c} z f h =
-    record {
-      made = λ x e.
-          let same : c ≡ x = cc in
-          subst (λ y. (first (roomChecks p count W) ≡ 0) × FollowsSteps p (take 0 W) 0 (y .d) (represented count W′ y) × Laid p count 0 y × TermsStay count W W′) same (z, f, h .0, h .1);
-      refused = λ k e. absurd (let y : _≡_ {A = ℕ} 0 1 = cc in omega arith);
-    }
-
-pub starts-refused : {p count : ℕ} {W : List ℕ} {k : ℕ} → first (roomChecks p count W) ≡ k → k ≢ 0 → Starts p count W (Refused k) W
-starts-refused {k} z n =
-    record {
-      made = λ c e. absurd (let y : _≡_ {A = ℕ} 0 1 = cc in omega arith);
-      refused = λ j e. let same : k ≡ j = cc in (z ∙ same, (λ q. n (same ∙ q)), refl);
-    }
-
-pub steps-made : {p count r : ℕ} {W W′ : List ℕ} {c c′ : Register} → stepRefusal p count r W c ≡ 0 → MakesStep p count r W c W′ c′
-    → StepsOn p count r W c (Made c′) W′
-steps-made {p} {count} {r} {W} {W′} {c} {c′} z h =
-    record {
-      made = λ x e. let same : c′ ≡ x = cc in (z, subst (MakesStep p count r W c W′) same h);
-      refused = λ k e. absurd (let y : _≡_ {A = ℕ} 0 1 = cc in omega arith);
-    }
-
-pub steps-refused : {p count r : ℕ} {W : List ℕ} {c : Register} {k : ℕ} → stepRefusal p count r W c ≡ k → k ≢ 0 → StepsOn p count r W c (Refused k) W
-steps-refused {k} z n =
-    record {
-      made = λ c e. absurd (let y : _≡_ {A = ℕ} 0 1 = cc in omega arith);
-      refused = λ j e. let same : k ≡ j = cc in (z ∙ same, (λ q. n (same ∙ q)), refl);
-    }
-
 -- ---- the regions
 
 pub room-ready : {p count : ℕ} {W : List ℕ} → first (roomChecks p count W) ≡ 0 → FirstTerms p count 0 W
-unfolding roomChecks
-room-ready {p} {count} {W} z =
-    let a = first-passed 3 (within 2 2147483647 p) _ (omega arith) z in
-    let b = first-passed 8 (leb count 8192) _ (omega arith) (a .1) in
-    let c = first-passed 11 (leb (4 * count + 8) (length W)) _ (omega arith) (b .1) in
-    let room = leb-true (4 * count + 8) (length W) (c .0) in
+room-ready z =
+    let has = room-of z in
     record {
       ready =
-          record {
-            two = within-low 2 2147483647 p (a .0);
-            small = within-high 2 2147483647 p (a .0);
-            few = omega arith;
-            room = omega (arith, room);
-            elements = λ i l. absurd (omega arith);
-          };
+          record { two = has .two; small = has .small; few = omega arith; room = omega (arith, has .room); elements = λ i l. absurd (omega arith) };
       high = omega arith;
-      few = leb-true count 8192 (b .0);
-      room = room;
+      few = has .few;
+      room = has .room;
     }
-
-pub room-taken : {p count r : ℕ} {W : List ℕ} → FirstTerms p count r W → first (roomChecks p count W) ≡ 0
-unfolding roomChecks
-room-taken {p} {count} {r} {W} h =
-    first-pass 3 (within 2 2147483647 p) _ (within-of 2 2147483647 p (h .ready .two) (h .ready .small))
-    (first-pass 8 (leb count 8192) _ (le-leb count 8192 (h .few))
-    (first-pass 11 (leb (4 * count + 8) (length W)) _ (le-leb (4 * count + 8) (length W) (h .room)) first-nil))
 
 -- ---- a state
 
@@ -311,7 +278,8 @@ pub step-taken : {p count r d : ℕ} {W : List ℕ} {c : Register} → Prime p �
     → FollowsSteps p (take (r - 1) W) (r - 1) d (represented count W c) → Laid p count (r - 1) c → stepRefusal p count r W c ≡ 0
 unfolding stepRefusal stateElements
 step-taken {p} {count} {r} {d} {W} {c} prime low first follows laid =
-    first-append-none (roomChecks p count W) _ (numbered-room p count W) (room-taken first)
+    first-append-none (roomChecks p count W) _ (numbered-room p count W)
+    (room-to (record { two = first .ready .two; small = first .ready .small; few = first .few; room = first .room }))
     ∙ first-pass 8 (registerFits count r c) _ (fits-to fit)
     (first-pass 9 (stateElements p count r W c) _
     (and-both (and-both (and-both (and-both terms q) end) (lt-ltb (c .inverse) p inverse-below)) (eq-eqb (c .e * c .inverse % p) 1 one)) first-nil)
@@ -361,7 +329,7 @@ step-taken {p} {count} {r} {d} {W} {c} prime low first follows laid =
     known : (0 < c .e) × (c .e < p)
     known =
         let e = e-element p (first .ready .two) (take (r - 1) W) (r - 1) in
-        (omega (arith, e .0, follows .e), omega (arith, e .1, follows .e))
+        (omega (arith, e .0, follows .same .e), omega (arith, e .1, follows .same .e))
 
     inverse-below : c .inverse < p
     inverse-below = subst (λ x. x < p) (sym (laid .inverted)) (inverse-lt p prime (c .e) (known .0) (known .1))

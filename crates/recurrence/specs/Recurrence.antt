@@ -3,7 +3,7 @@
 --     Ready            what the steps ask: p of 2 to 2³¹ − 1, prime or not; `count` terms at the slice's front, all below p; room for four regions
 --     Reversed         a slice after L + 1 places of it, from a on, were put in reverse order; reversed-lent: the part was lent
 --     HoldsGenerator   a slice before and after the core: L, and f with zeros after it in the second region
---     roomChecks       3, 8 and 11 of the regions: p of 2 to 2³¹ − 1, prime or not; at most 8,192 terms; the slice
+--     roomChecks       3, 8 and 11 of the regions: p of 2 to 2³¹ − 1, prime or not; at most 8,192 terms; the slice. HasRoom, room-of, room-to: what they say
 --     termsRefusal     these, and 9 of terms at the front of the slice
 --     Generates        what a call in place answers and leaves
 --     terms-ready, terms-taken      terms in place that no check turns down are ready, and back
@@ -26,7 +26,7 @@ use Rattle.laws.specs.List.{every-at, table-ext}
 use Rattle.laws.specs.Written.{Written, written-all}
 use Rattle.laws.specs.Part.{part, length-part, at-part}
 use Rattle.laws.specs.Lent.{lent, written-lent}
-use Rattle.laws.specs.Refusal.{Numbered, first-nil, first-passed, first-pass, within-low, within-high, within-of}
+use Rattle.laws.specs.Refusal.{Numbered, first-nil, first-passed, first-pass, first-append-none, first-append-zero, within-low, within-high, within-of}
 use Rattle.checks.specs.Valid.{elements-of}
 use Rattle.meaning.specs.Calls.{recurrenceRefusal, recurrenceAnswer, recurrenceAfter}
 use Rattle.recurrence.specs.declared.Answer.{Answer}
@@ -67,6 +67,32 @@ pub numbered-room : (p count : ℕ) (W : List ℕ) → Numbered (roomChecks p co
 unfolding roomChecks every
 numbered-room p count W = refl
 
+pub record HasRoom (p count : ℕ) (W : List ℕ) : Type 0 where
+  pub two : 2 ≤ p
+  pub small : p ≤ 2147483647
+  pub few : count ≤ 8192
+  pub room : 4 * count + 8 ≤ length W
+
+pub room-of : {p count : ℕ} {W : List ℕ} → first (roomChecks p count W) ≡ 0 → HasRoom p count W
+unfolding roomChecks
+room-of {p} {count} {W} z =
+    let a = first-passed 3 (within 2 2147483647 p) _ (omega arith) z in
+    let b = first-passed 8 (leb count 8192) _ (omega arith) (a .1) in
+    let c = first-passed 11 (leb (4 * count + 8) (length W)) _ (omega arith) (b .1) in
+    record {
+      two = within-low 2 2147483647 p (a .0);
+      small = within-high 2 2147483647 p (a .0);
+      few = leb-true count 8192 (b .0);
+      room = leb-true (4 * count + 8) (length W) (c .0);
+    }
+
+pub room-to : {p count : ℕ} {W : List ℕ} → HasRoom p count W → first (roomChecks p count W) ≡ 0
+unfolding roomChecks
+room-to {p} {count} {W} h =
+    first-pass 3 (within 2 2147483647 p) _ (within-of 2 2147483647 p (h .two) (h .small))
+    (first-pass 8 (leb count 8192) _ (le-leb count 8192 (h .few))
+    (first-pass 11 (leb (4 * count + 8) (length W)) _ (le-leb (4 * count + 8) (length W) (h .room)) first-nil))
+
 unfoldable pub termsRefusal : ℕ → ℕ → List ℕ → ℕ
 termsRefusal p count W = first (roomChecks p count W ++ (check 9 (not (elements p (take count W))) ∷ []))
 
@@ -90,30 +116,27 @@ pub record Recurred (p : ℕ) (s polynomial work : List ℕ) (r : Answer) (polyn
 -- ---- terms in place
 
 pub terms-ready : (p count : ℕ) (W : List ℕ) → termsRefusal p count W ≡ 0 → Ready p count W
-unfolding termsRefusal roomChecks elements
+unfolding termsRefusal elements
 terms-ready p count W z =
-    let a = first-passed 3 (within 2 2147483647 p) _ (omega arith) z in
-    let b = first-passed 8 (leb count 8192) _ (omega arith) (a .1) in
-    let c = first-passed 11 (leb (4 * count + 8) (length W)) _ (omega arith) (b .1) in
-    let e = first-passed 9 (elements p (take count W)) _ (omega arith) (c .1) .0 in
-    let room = leb-true (4 * count + 8) (length W) (c .0) in
-    let size : length (take count W) ≡ count = length-take-le count W (omega (arith, room)) in
+    let both = first-append-zero (roomChecks p count W) _ (numbered-room p count W) z in
+    let has = room-of (both .0) in
+    let e = first-passed 9 (elements p (take count W)) _ (omega arith) (both .1) .0 in
+    let size : length (take count W) ≡ count = length-take-le count W (omega (arith, has .room)) in
     record {
-      two = within-low 2 2147483647 p (a .0);
-      small = within-high 2 2147483647 p (a .0);
-      few = leb-true count 8192 (b .0);
-      room = room;
+      two = has .two;
+      small = has .small;
+      few = has .few;
+      room = has .room;
       elements = λ i l. subst (λ x. x < p) (getD-take count W i 0 l) (ltb-true (at (take count W) i) p (every-at _ (take count W) 0 e i (omega (arith, size, l))));
     }
 
 pub terms-taken : {p count : ℕ} {W : List ℕ} → Ready p count W → termsRefusal p count W ≡ 0
-unfolding termsRefusal roomChecks
+unfolding termsRefusal
 terms-taken {p} {count} {W} h =
-    first-pass 3 (within 2 2147483647 p) _ (within-of 2 2147483647 p (h .two) (h .small))
-    (first-pass 8 (leb count 8192) _ (le-leb count 8192 (h .few))
-    (first-pass 11 (leb (4 * count + 8) (length W)) _ (le-leb (4 * count + 8) (length W) (h .room))
-    (first-pass 9 (elements p (take count W)) _
+    first-append-none (roomChecks p count W) _ (numbered-room p count W)
+    (room-to (record { two = h .two; small = h .small; few = h .few; room = h .room }))
+    ∙ first-pass 9 (elements p (take count W)) _
     (elements-of p (take count W)
     (λ i l. let k : i < count = omega (arith, l, length-take-le count W (omega (arith, h .room))) in
     subst (λ x. x < p) (sym (getD-take count W i 0 k)) (h .elements i k)))
-    first-nil)))
+    first-nil

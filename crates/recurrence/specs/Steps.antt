@@ -1,4 +1,5 @@
--- What stands after each r of the recurrence's steps (src/steps.rt), as document 02, (iv), asks. What is represented, by names of the meaning alone:
+-- What stands after each r of the recurrence's steps (src/steps.rt), as document 02, (iv), asks. What is represented, by names of the meaning; that two
+-- states are the same is laws' SameSteps, q and t coefficient by coefficient:
 --     FollowsSteps     "after each r its d, q, t, L and e are those of document 01's steps"
 --     IsStep           d, and q, t, L and e, are document 01's step for r of the q, t, L and e before
 -- How a slice and a register represent it. The slice has four regions of count + 2 places: the terms, q, and two in which t and the q that is to become t
@@ -13,7 +14,7 @@
 --     BeforeStep       what is asked for r: the first r terms, and what is sound after r − 1
 --     MakesStep        what a step leaves: document 01's for r, of what it found; so r follows the steps if r − 1 did
 --     MakesSteps       .. and the steps for `from` + 1 to `to`
-use mathlib.Core.Path.{_≡_, sym, ap, _∙_, subst}
+use mathlib.Core.Path.{_≡_, sym, _∙_, subst}
 use mathlib.Core.Logic.{_⊎_}
 use mathlib.Core.List.{List, _∷_}
 use Prim.Native.Nat.{ℕ, zero, suc, _+_, _-_, _*_, _≤_, _<_}
@@ -32,11 +33,7 @@ use Rattle.recurrence.specs.Recurrence.{Ready}
 pub record FollowsSteps (p : ℕ) (s : List ℕ) (r d′ : ℕ) (st : Steps) : Type 0 where
   -- d of r, by the q and L of r − 1; before r = 1 there is none
   pub d : 0 < r → d′ ≡ discrepancy p s r (steps p s (r - 1))
-  -- polynomials: "absent coefficients being 0"
-  pub q : (i : ℕ) → at (st .q) i ≡ at (steps p s r .q) i
-  pub t : (i : ℕ) → at (st .t) i ≡ at (steps p s r .t) i
-  pub L : st .L ≡ steps p s r .L
-  pub e : st .e ≡ steps p s r .e
+  pub same : SameSteps st (steps p s r)
 
 abbrev pub IsStep : ℕ → List ℕ → ℕ → Steps → ℕ → Steps → Type 0
 IsStep p s r st d st′ = (d ≡ discrepancy p s r st) × SameSteps st′ (step p s r st)
@@ -102,9 +99,9 @@ pub sound-follows : {p count r d : ℕ} {W : List ℕ} {c : Register} → 1 < p 
     → Sound p count r W c
 sound-follows {p} {count} {r} {d} {W} {c} two follows laid =
     record {
-      within = omega (arith, follows .L, regular .within);
+      within = omega (arith, follows .same .L, regular .within);
       element = λ i l. subst (λ x. x < p) (sym (q i l)) (regular .element i);
-      end = λ i l past. q i l ∙ regular .q-end i (subst (λ x. x < i) (follows .L) past);
+      end = λ i l past. q i l ∙ regular .q-end i (subst (λ x. x < i) (follows .same .L) past);
       laid = laid;
     }
   where
@@ -112,4 +109,4 @@ sound-follows {p} {count} {r} {d} {W} {c} two follows laid =
     regular = steps-regular p two (take r W) r
 
     q : (i : ℕ) → i < count + 2 → at W (count + 2 + i) ≡ at (steps p (take r W) r .q) i
-    q i l = sym (at-part (count + 2) (count + 2) W i l) ∙ follows .q i
+    q i l = sym (at-part (count + 2) (count + 2) W i l) ∙ follows .same .q i

@@ -166,8 +166,8 @@ pub fn begin_steps(p: u32, count: usize, work: &mut [u32]) -> Stepped
     Stepped::Made(start(p, count, work))
 }
 
-// The step for r of a state that an earlier step left, or that is like one: the first r terms stand at the front of `work`. It reads these, q and t for
-// the checks, which is less work than a step does.
+// The step for r of a state that an earlier step left, or that is like one: the first r terms stand at the front of `work`. For the checks it reads these
+// and q, place by place and without a branch; t may hold anything.
 pub fn make_step(p: u32, count: usize, work: &mut [u32], r: usize, before: Register) -> Stepped
     ensures { λ a. ⌜ StepsOn p count r (now (work .entry)) before a (now (work .exit)) ⌝ }
 {

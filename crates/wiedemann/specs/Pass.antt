@@ -17,7 +17,7 @@ use mathlib.Core.Logic.{_≢_}
 use mathlib.Core.Bool.{true, false}
 use mathlib.Core.List.{List, [], _∷_, _++_}
 use Prim.Native.Nat.{ℕ, _+_, _-_, _*_, _≤_, _<_}
-use native.Mathlib.Nat.{zero-add, add-zero}
+use native.Mathlib.Nat.{zero-add}
 use native.Mathlib.Omega.{arith}
 use lib.ListN.{length, take, getD}
 use lib.Seq.{take-take}
@@ -26,9 +26,8 @@ use Rattle.meaning.specs.Matrix.{Matrix, size, apply, multiplied}
 use Rattle.meaning.specs.Recurrence.{degree, generator}
 use Rattle.meaning.specs.Solver.{Pass, Run, projections, terms, multiply, passTerms, testAt, endPass, pass}
 use Rattle.residue.specs.Prime.{Prime}
-use Rattle.laws.specs.List.{length-table}
 use Rattle.laws.specs.Recurrence.{generator-below}
-use Rattle.laws.specs.Solver.{test-none, pass-whole, pass-early, pass-on}
+use Rattle.laws.specs.Solver.{length-terms, pass-whole, pass-early, pass-on, pass-present}
 use Rattle.checks.specs.Valid.{Vector}
 use Rattle.checks.specs.Pass.{residualAt, passRefusal}
 use Rattle.wiedemann.specs.declared.pass.Pass.{Pass as CodePass}
@@ -60,10 +59,6 @@ module _ (p : ℕ) (A : Matrix) (w : ℕ) (u : List ℕ) (left : ℕ) (r : List 
   abbrev s : List ℕ
   s = terms p A left u r
 
-  pub length-terms : length (terms p A left u r) ≡ 2 * left
-  unfolding terms
-  length-terms = length-table (2 * left) _
-
   -- the terms of a run that stands there
   same-terms : (c : Run) → size A - c .found ≡ left → c .residual ≡ r → passTerms p A u c ≡ terms p A left u r
   unfolding passTerms
@@ -80,7 +75,7 @@ module _ (p : ℕ) (A : Matrix) (w : ℕ) (u : List ℕ) (left : ℕ) (r : List 
     at-c c t = ap (testAt p w) t ∙ at-i
 
     low-c : (c : Run) → passTerms p A u c ≡ terms p A left u r → i < length (passTerms p A u c)
-    low-c c t = subst (λ x. i < length x) (sym t) (omega (arith, l, length-terms))
+    low-c c t = subst (λ x. i < length x) (sym t) (omega (arith, l, length-terms p A left u r))
 
     pub rule-early : isZero (apply p A (generator p (take i (terms p A left u r))) r) ≡ true → Rule p A w u left r (take i (terms p A left u r)) (i - 1)
     rule-early z c e f =
@@ -96,7 +91,8 @@ module _ (p : ℕ) (A : Matrix) (w : ℕ) (u : List ℕ) (left : ℕ) (r : List 
         ∙ ap₂ (λ x k. endPass p A x (2 * k - 1 + degree p (take i x)) c) t e
 
 pub rule-present : (p : ℕ) (A : Matrix) (u : List ℕ) (left : ℕ) (r : List ℕ) → Rule p A 0 u left r (terms p A left u r) (2 * left - 1)
-rule-present p A u left r = rule-whole p A 0 u left r (omega (arith, test-none p (terms p A left u r)))
+rule-present p A u left r c e f =
+    pass-present p A u c ∙ ap₂ (λ x k. endPass p A x (2 * k - 1) c) (same-terms p A 0 u left r c e f) e
 
 -- ---- terms, recurrence and f(A)r
 

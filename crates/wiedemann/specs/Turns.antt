@@ -40,7 +40,7 @@ use Rattle.laws.specs.Part as region
 use Rattle.wiedemann.specs.Horner.{step, stepAt, table-step, step-product, power-zero, power-suc, apply-one, apply-cons, vector-product}
 use Rattle.checks.specs.Valid.{vector-table}
 use Rattle.recurrence.specs.Recurrence.{HoldsGenerator}
-use Rattle.laws.specs.Lent.{part-at, part-cons, part-of-part, lent, length-lent, take-lent, inner-lent, same-take, same-drop, same-after, written-take, written-drop, written-inner, take-padded}
+use Rattle.laws.specs.Lent.{part-at, part-cons, part-of-part, lent, length-lent, take-lent, inner-lent, same-take, same-after, written-take, written-drop, written-inner, take-padded}
 
 pub data Seat (n a : ℕ) : Type 0 where
   origin : a ≡ 0 → Seat n a

@@ -22,9 +22,9 @@
 use mathlib.Core.Path.{_≡_, refl, sym, ap, ap₂, _∙_, subst}
 use mathlib.Core.Logic.{_≢_, _⊎_, inl, inr}
 use mathlib.Core.Bool.{Bool, true, false, cond, not, _&&_, and-true, true≢false}
-use mathlib.Core.List.{List, [], _∷_}
+use mathlib.Core.List.{List, []}
 use Prim.Native.Nat.{ℕ, zero, suc, _+_, _-_, _*_, _≤_, _<_}
-use native.Mathlib.Nat.{zero-add, add-zero, mod-lt, eq-or-lt-of-le}
+use native.Mathlib.Nat.{add-zero, mod-lt, eq-or-lt-of-le}
 use native.Mathlib.Decide.{decLt, ℕ-discrete}
 use native.Mathlib.Omega.{arith}
 use lib.Dec.{eqb, ltb, leb}
@@ -39,12 +39,13 @@ use Rattle.meaning.specs.Recurrence.{Steps, discrepancy, steps, reversed, degre
 use Rattle.meaning.specs.Solver.{dot, terms, due, testAt}
 use Rattle.laws.specs.Bool.{and-left, and-right, and-both, and-false-left, and-false-right, same-test, never}
 use Rattle.laws.specs.Least.{least-is, least-none}
-use Rattle.laws.specs.List.{all-at, all-of, length-table, getD-table, table-ext, table-of}
+use Rattle.laws.specs.List.{all-at, all-of, getD-table, table-ext, table-of}
 use Rattle.laws.specs.Written.{Written}
 use Rattle.laws.specs.Part.{part, length-part, at-part, part-ext, written-part, written-other}
 use Rattle.laws.specs.Part as region
 use Rattle.laws.specs.Lent.{lent, length-lent, take-lent, part-lent, inner-lent, part-at, part-of-part, same-take, same-drop, take-ext, drop-ext, same-after, written-take, written-drop}
 use Rattle.laws.specs.Recurrence.{discrepancy-of, discrepancy-first, steps-first, steps-regular, monic-leading}
+use Rattle.laws.specs.Solver.{length-terms}
 use Rattle.residue.specs.Prime.{Prime, isModulus-Prime, isModulus-le}
 use Rattle.bridge.specs.Recurrence.{isShortest}
 use Rattle.checks.specs.Valid.{Valid, Vector}
@@ -53,14 +54,14 @@ use Rattle.checks.specs.declared.Products.{Products}
 use Rattle.recurrence.specs.declared.steps.Register.{Register}
 use Rattle.recurrence.specs.declared.Stepped.{Stepped}
 use Rattle.recurrence.specs.declared.Stepped.the-variants.{Made}
-use Rattle.recurrence.specs.Recurrence.{roomChecks, Reversed}
-use Rattle.recurrence.specs.Steps.{FollowsSteps, timesPower, represented, Places, Laid, FirstTerms, MakesStep}
-use Rattle.recurrence.specs.OneStep.{stepRefusal, Starts, StepsOn, room-taken, step-taken}
+use Rattle.recurrence.specs.Recurrence.{roomChecks, room-to, Reversed}
+use Rattle.recurrence.specs.Steps.{FollowsSteps, timesPower, represented, Places, Laid, MakesStep}
+use Rattle.recurrence.specs.OneStep.{stepRefusal, Starts, StepsOn, step-taken}
 use Rattle.wiedemann.specs.declared.window.Heard.{Heard}
 use Rattle.wiedemann.specs.declared.pass.Pass.{Pass as CodePass}
-use Rattle.wiedemann.specs.Turns.{Seat, origin, seat-low, regionAt, region-first, Turning, Advanced, Iterated, iterated-none, iterated-more, iterated-kept, iterated-from, vector-power, Leading, Applied}
+use Rattle.wiedemann.specs.Turns.{Seat, origin, regionAt, region-first, Turning, Advanced, Iterated, iterated-none, iterated-more, iterated-kept, iterated-from, vector-power, Leading, Applied}
 use Rattle.wiedemann.specs.Horner.{vector-step}
-use Rattle.wiedemann.specs.Pass.{passed, length-terms, Rule, rule-whole, rule-early, rule-on, Shortened, shortened-lent}
+use Rattle.wiedemann.specs.Pass.{passed, Rule, rule-whole, rule-early, rule-on, Shortened, shortened-lent}
 
 abbrev pub dueBy : ℕ → ℕ → ℕ → Bool
 dueBy w z L = leb 1 w && leb w z && leb 1 L
@@ -215,8 +216,8 @@ module _ (p n left : ℕ) (W : List ℕ) (m : ℕ) (e : m ≡ 8 * left + 8) (fit
         record {
           follows =
               record {
-                steps = subst (λ x. FollowsSteps p [] 0 (c .d) (represented (2 * left) x c)) (sym back) (made .1);
-                laid = made .2;
+                steps = subst (λ x. FollowsSteps p [] 0 (c .d) (represented (2 * left) x c)) (sym back) (made .1 .follows);
+                laid = made .1 .laid;
                 zeros = zeros-none-yet p [];
               };
           same-length = length-lent W (3 * n) m Y fits same;
@@ -244,19 +245,8 @@ module _ (p n left : ℕ) (W : List ℕ) (m : ℕ) (e : m ≡ 8 * left + 8) (fit
   -- a start with room is never refused
   pub begun-never : isModulus p ≡ true → left ≤ 4096 → first (roomChecks p (2 * left) (part (3 * n) m W)) ≡ 0
   begun-never modulus low =
-      room-taken {r = 0}
-      (record {
-        ready = record {
-          two = isModulus-Prime p modulus .two-le;
-          small = isModulus-le p modulus;
-          few = omega arith;
-          room = omega (arith, size-T, e);
-          elements = λ i l. absurd (omega arith);
-        };
-        high = omega arith;
-        few = omega (arith, low);
-        room = omega (arith, size-T, e);
-      })
+      room-to
+      (record { two = isModulus-Prime p modulus .two-le; small = isModulus-le p modulus; few = omega (arith, low); room = omega (arith, size-T, e) })
 
   -- the steps' own state is never refused
   pub step-never : {r : ℕ} {c : Register} → isModulus p ≡ true → left ≤ 4096 → ToStep p n left r W c → stepRefusal p (2 * left) r (part (3 * n) m W) c ≡ 0
@@ -565,7 +555,7 @@ module _ {p : ℕ} {A : Matrix} {left : ℕ} {u X : List ℕ} {h : Heard} {W : L
   s = terms p A left u (part 0 (size A) X)
 
   length-s : length s ≡ 2 * left
-  length-s = length-terms p A 0 u left (part 0 n X)
+  length-s = length-terms p A left u (part 0 n X)
 
   pub listening-terms : part (3 * size A) (h .terms) W ≡ take (h .terms) (terms p A left u (part 0 (size A) X))
   unfolding terms
@@ -584,24 +574,24 @@ module _ {p : ℕ} {A : Matrix} {left : ℕ} {u X : List ℕ} {h : Heard} {W : L
   pub listening-due : (w : ℕ) → due p w (terms p A left u (part 0 (size A) X)) (h .terms) ≡ dueBy w (h .zeros) (h .steps .L)
   listening-due w =
       due-zeros w (zeros-first s (subst (λ x. Zeros p x r (h .zeros)) listening-terms (l .follows .zeros)))
-      (sym (followed .L ∙ ap (λ x. x .L) (steps-first p s r r (omega arith))))
+      (sym (followed .same .L ∙ ap (λ x. x .L) (steps-first p s r r (omega arith))))
 
   size-first : length (take r s) ≡ r
   size-first = length-take-le r s (omega (arith, length-s, l .high))
 
   pub listening-degree : degree p (take (h .terms) (terms p A left u (part 0 (size A) X))) ≡ h .steps .L
   unfolding degree
-  listening-degree = ap (λ k. steps p (take r s) k .L) size-first ∙ sym (followed .L)
+  listening-degree = ap (λ k. steps p (take r s) k .L) size-first ∙ sym (followed .same .L)
 
   pub listening-low : h .steps .L ≤ h .terms
-  listening-low = omega (arith, followed .L, steps-regular p (prime .two-le) (take r s) r .within)
+  listening-low = omega (arith, followed .same .L, steps-regular p (prime .two-le) (take r s) r .within)
 
   -- q's coefficients in the slice
   q-at : (i : ℕ) → i < 2 * left + 2 → at W (3 * n + (2 * left + 2) + i) ≡ at (steps p (take r s) r .q) i
   q-at i b =
       let e : 3 * n + (2 * left + 2) + i ≡ 3 * n + (2 * left + 2 + i) = omega arith in
       ap (at W) e ∙ sym (at-part (3 * n) (8 * left + 8) W (2 * left + 2 + i) (omega (arith, b)))
-      ∙ sym (at-part (2 * left + 2) (2 * left + 2) (part (3 * n) (8 * left + 8) W) i b) ∙ followed .q i
+      ∙ sym (at-part (2 * left + 2) (2 * left + 2) (part (3 * n) (8 * left + 8) W) i b) ∙ followed .same .q i
 
   pub listening-generator : generator p (take (h .terms) (terms p A left u (part 0 (size A) X))) ≡ turnedAt W (3 * size A + (2 * left + 2)) (h .steps .L)
   unfolding generator reversed
@@ -640,7 +630,7 @@ module _ {p : ℕ} {A : Matrix} {left w : ℕ} {u X : List ℕ} {h : Heard} {W :
       s = terms p A left u (part 0 (size A) X)
 
       long : length s ≡ 2 * left
-      long = length-terms p A 0 u left (part 0 (size A) X)
+      long = length-terms p A left u (part 0 (size A) X)
 
       asked : dueBy w (h .zeros) (h .steps .L) ≡ true
       asked = not-false (dueBy w (h .zeros) (h .steps .L)) (sym (ap (λ b. b && not (dueBy w (h .zeros) (h .steps .L))) (lt-ltb (h .terms) (2 * left) more)) ∙ l .stop)
@@ -649,7 +639,7 @@ module _ {p : ℕ} {A : Matrix} {left w : ℕ} {u X : List ℕ} {h : Heard} {W :
   pub listened-none : h .terms ≡ 2 * left → length (terms p A left u (part 0 (size A) X)) ≤ testAt p w (terms p A left u (part 0 (size A) X))
   unfolding testAt
   listened-none all =
-      let long = length-terms p A 0 u left (part 0 (size A) X) in
+      let long = length-terms p A left u (part 0 (size A) X) in
       let s = terms p A left u (part 0 (size A) X) in
       let none = least-none (length s) (due p w s) (λ i b. l .unasked i (omega (arith, b, long, all))) in
       omega (arith, none)
@@ -758,7 +748,7 @@ finished {p} {A} {left} {u} {W} {h} {W₁} {W₂} k {q} prime room l (W′, turn
     all : take (h .terms) (terms p A left u (part 0 (size A) W)) ≡ terms p A left u (part 0 (size A) W)
     all =
         take-all (h .terms) (terms p A left u (part 0 (size A) W))
-        (omega (arith, listened-all l, length-terms p A 0 u left (part 0 (size A) W)))
+        (omega (arith, listened-all l, length-terms p A left u (part 0 (size A) W)))
 
     generator-is : turnedAt W₁ f₁ (h .steps .L) ≡ generator p (terms p A left u (part 0 (size A) W))
     generator-is = sym (listening-generator prime room₁ (l .listening)) ∙ ap (generator p) all

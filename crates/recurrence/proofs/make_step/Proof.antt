@@ -1,11 +1,11 @@
-use mathlib.Core.Path.{_≡_, sym, subst, _∙_}
+use mathlib.Core.Path.{_≡_, sym, subst}
 use Prim.Native.Nat.{_-_}
 use native.Mathlib.Omega.{arith}
 use denote.Ref.{now}
 use Rattle.laws.specs.Refusal.{zero-by}
 use Rattle.modular.specs.Modulus.{Modular, modular-of}
-use Rattle.recurrence.specs.Steps.{FirstTerms, Sound, BeforeStep}
-use Rattle.recurrence.specs.OneStep.{makes-modulus, makes-one, steps-made, steps-refused, step-asked}
+use Rattle.recurrence.specs.Steps.{FirstTerms, Sound, BeforeStep, MakesStep}
+use Rattle.recurrence.specs.OneStep.{makes-modulus, makes-one, answers-made, answers-refused, step-asked}
 use borrow.Author.Needs.{needs}
 use Rattle.recurrence.proofs.make_step.Statement.{statement}
 use Rattle.recurrence.proofs.make_step.Tie as tie
@@ -17,7 +17,7 @@ same-length : tie.Need-same-length
 same-length c = search needs
 
 returns : tie.Need-returns
-returns c = steps-refused (sym (c .before .step-refusal .ensures)) (c .if1 .taken)
+returns c = answers-refused (sym (c .before .step-refusal .ensures)) (c .if1 .taken)
 
 -- the checks passed
 asked : (c : tie.Else1) → let a = c .before .before .before .before .args in BeforeStep (a .p) (a .count) (a .r) (now (a .work)) (a .before)
@@ -53,7 +53,7 @@ returns-2 : tie.Need-returns-2
 returns-2 c =
     let of = c .before .before .before .before in
     let passed = of .before in
-    steps-made (zero-by (passed .before .step-refusal .ensures) (passed .if1 .left))
+    answers-made (MakesStep _ _ _ _ _ _) (zero-by (passed .before .step-refusal .ensures) (passed .if1 .left))
     (makes-modulus (modulus of .0) (makes-one _ (asked passed .low) (c .before .before .make-steps .ensures)))
 
 pub make-step-spec : {M : Type 1} → statement M

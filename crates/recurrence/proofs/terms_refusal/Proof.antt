@@ -1,4 +1,4 @@
-use mathlib.Core.Path.{_≡_, refl, sym, ap, _∙_}
+use mathlib.Core.Path.{_≡_, refl, ap, _∙_}
 use mathlib.Core.Bool.{Bool, not}
 use mathlib.Core.List.{List}
 use Prim.Native.Nat.{ℕ, _-_}
@@ -9,8 +9,7 @@ use Rattle.meaning.specs.Refusal.{elements}
 use Rattle.laws.specs.Bool.{not-by}
 use Rattle.laws.specs.Lent.{part-at}
 use Rattle.laws.specs.Refusal.{first-stops, first-past, first-nil, zero-by, leading-refused, leading-passed}
-use Rattle.recurrence.specs.Recurrence.{termsRefusal, numbered-room}
-use Rattle.recurrence.specs.OneStep.{room-ready}
+use Rattle.recurrence.specs.Recurrence.{termsRefusal, numbered-room, room-of}
 use borrow.Author.Needs.{needs}
 use Rattle.recurrence.proofs.terms_refusal.Statement.{statement}
 use Rattle.recurrence.proofs.terms_refusal.Tie as tie
@@ -36,7 +35,7 @@ part-are-elements-start : tie.Need-part-are-elements-start
 part-are-elements-start c = search needs
 
 part-are-elements-end : tie.Need-part-are-elements-end
-part-are-elements-end c = omega (arith, room-ready (zero-by (c .before .room-refusal .ensures) (c .if1 .left)) .room)
+part-are-elements-end c = omega (arith, room-of (zero-by (c .before .room-refusal .ensures) (c .if1 .left)) .room)
 
 are-elements-requires : tie.Need-are-elements-requires
 are-elements-requires c κs = search needs

@@ -1,9 +1,7 @@
 -- `slices::reverse` meets its contract: the places outside the middle are in reverse order.
 use Prim.Native.Nat.{_-_, _/_}
-use mathlib.Core.Path.{_≡_}
 use native.Mathlib.Omega.{arith}
-use denote.Ref.{now}
-use lib.ListN.{length, length-set}
+use lib.ListN.{length-set}
 use borrow.Author.Needs.{needs}
 use Rattle.slices.proofs.Reversing.{Reversing, reversing-none, reversing-more, reversing-all}
 use Rattle.slices.proofs.reverse.Statement.{statement}

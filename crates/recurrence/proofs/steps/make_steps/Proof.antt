@@ -3,7 +3,6 @@
 use native.Mathlib.Omega.{arith}
 use Prim.Native.Nat.{_-_, _≤_}
 use Rattle.recurrence.proofs.Stepping.{Between, before-step, between-begin, between-next, between-end}
-use borrow.Author.Needs.{needs}
 use Rattle.recurrence.proofs.steps.make_steps.Statement.{statement}
 use Rattle.recurrence.proofs.steps.make_steps.Tie as tie
 

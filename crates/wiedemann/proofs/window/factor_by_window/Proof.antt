@@ -1,12 +1,10 @@
 use mathlib.Core.Path.{_≡_, refl, sym, ap, _∙_, subst}
-use mathlib.Core.List.{[]}
 use Prim.Native.Nat.{_+_, _-_, _*_, _≤_, _<_}
 use native.Mathlib.Omega.{arith}
 use denote.Ref.{now}
-use lib.ListN.{length, getD}
+use lib.ListN.{length}
 use Rattle.meaning.specs.Matrix.{matrix}
-use Rattle.meaning.specs.Solver.{projections}
-use Rattle.laws.specs.Part.{part, length-part}
+use Rattle.laws.specs.Part.{length-part}
 use Rattle.laws.specs.Lent.{lent, length-lent, part-at, part-of-part}
 use Rattle.checks.specs.Valid.{Vector}
 use Rattle.checks.specs.declared.Products.{Products}

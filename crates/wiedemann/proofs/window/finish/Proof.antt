@@ -1,16 +1,15 @@
 use mathlib.Core.Path.{_≡_, refl, sym, ap, _∙_, subst}
 use mathlib.Core.List.{[]}
-use Prim.Native.Nat.{_+_, _-_, _*_, _≤_, _<_}
+use Prim.Native.Nat.{_+_, _-_, _*_}
 use native.Mathlib.Omega.{arith}
 use denote.Ref.{now}
 use lib.ListN.{length, getD}
 use Rattle.meaning.specs.Matrix.{matrix}
 use Rattle.meaning.specs.Solver.{projections}
-use Rattle.laws.specs.Part.{part}
 use Rattle.checks.specs.Valid.{Vector}
 use Rattle.residue.specs.Prime.{isModulus-Prime}
 use Rattle.checks.specs.declared.Products.{Products}
-use Rattle.checks.specs.Products.{productsWith, added, products-add, products-few}
+use Rattle.checks.specs.Products.{productsWith, products-add, products-few}
 use Rattle.wiedemann.specs.declared.pass.Pass.{Pass}
 use Rattle.wiedemann.specs.Window.{room-as, listening-low, listening-one, listened-all, unasked-none, finished}
 use borrow.Author.Needs.{needs}

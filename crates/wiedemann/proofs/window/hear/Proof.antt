@@ -1,17 +1,14 @@
-use mathlib.Core.Path.{_≡_, refl, sym, ap, _∙_, subst}
-use Prim.Native.Nat.{ℕ, _+_, _-_, _*_, _≤_, _<_}
+use mathlib.Core.Path.{refl, ap, _∙_}
+use Prim.Native.Nat.{ℕ, _+_, _-_, _*_}
 use native.Mathlib.Omega.{arith}
 use denote.Ref.{now}
-use lib.ListN.{length}
-use mathlib.Core.Bool.{cond}
 use mathlib.Core.List.{[]}
-use lib.Dec.{eqb}
 use lib.ListN.{getD, set, length-set}
 use Rattle.meaning.specs.Solver.{dot, projections}
 use Rattle.laws.specs.Part.{part}
 use Rattle.residue.specs.Prime.{isModulus-Prime}
 use Rattle.wiedemann.specs.Turns.{seat-low, regionAt}
-use Rattle.wiedemann.specs.Window.{Room, ToHear, ToStep, dot-below, room-as, to-step, hears}
+use Rattle.wiedemann.specs.Window.{ToStep, dot-below, room-as, to-step, hears}
 use borrow.Author.Needs.{needs}
 use Rattle.wiedemann.proofs.window.hear.Statement.{statement}
 use Rattle.wiedemann.proofs.window.hear.Tie as tie

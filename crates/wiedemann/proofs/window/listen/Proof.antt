@@ -1,5 +1,5 @@
-use mathlib.Core.Path.{_≡_, refl, sym, ap, _∙_, subst}
-use Prim.Native.Nat.{_+_, _-_, _*_, _≤_, _<_}
+use mathlib.Core.Path.{_≡_, sym, _∙_, subst}
+use Prim.Native.Nat.{_-_, _*_, _<_}
 use native.Mathlib.Omega.{arith}
 use denote.Ref.{now}
 use lib.ListN.{length}
@@ -15,7 +15,6 @@ use Rattle.laws.specs.Part.{part}
 use Rattle.checks.specs.Valid.{Vector}
 use Rattle.residue.specs.Prime.{isModulus-Prime}
 use Rattle.wiedemann.specs.Window.{dueBy, Listening, Unasked, room-as, listening-from, listening-due, unasked-more}
-use borrow.Author.Needs.{needs}
 use Rattle.wiedemann.proofs.window.listen.Statement.{statement}
 use Rattle.wiedemann.proofs.window.listen.Tie as tie
 

@@ -1,8 +1,6 @@
-use mathlib.Core.Path.{_≡_, refl, sym, ap, _∙_, subst}
-use Prim.Native.Nat.{_+_, _-_, _*_, _≤_, _<_}
-use native.Mathlib.Omega.{arith}
+use mathlib.Core.Path.{refl}
+use Prim.Native.Nat.{_-_}
 use denote.Ref.{now}
-use lib.ListN.{length}
 use Rattle.meaning.specs.Matrix.{matrix}
 use Rattle.checks.specs.Products.{products-none}
 use Rattle.wiedemann.specs.Window.{room-as, begun-to-hear, listening-first}

@@ -1,9 +1,5 @@
-use mathlib.Core.Path.{_≡_, refl, sym, ap, _∙_, subst}
-use Prim.Native.Nat.{_+_, _-_, _*_, _≤_, _<_}
+use Prim.Native.Nat.{_-_}
 use native.Mathlib.Omega.{arith}
-use denote.Ref.{now}
-use lib.ListN.{length}
-use Rattle.meaning.specs.Matrix.{matrix}
 use Rattle.checks.specs.Products.{products-few}
 use Rattle.wiedemann.specs.Window.{room-as, listening-turning, listening-to-hear, listening-next}
 use borrow.Author.Needs.{needs}

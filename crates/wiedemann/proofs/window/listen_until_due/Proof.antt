@@ -1,12 +1,10 @@
-use mathlib.Core.Path.{_≡_, refl, sym, ap, _∙_, subst}
+use mathlib.Core.Path.{sym, subst}
 use mathlib.Core.List.{[]}
-use Prim.Native.Nat.{_+_, _-_, _*_, _≤_, _<_}
-use native.Mathlib.Omega.{arith}
+use Prim.Native.Nat.{_-_}
 use denote.Ref.{now}
 use lib.ListN.{length, getD}
 use Rattle.meaning.specs.Matrix.{matrix}
 use Rattle.meaning.specs.Solver.{projections}
-use Rattle.laws.specs.Part.{part}
 use Rattle.checks.specs.Valid.{Vector}
 use Rattle.wiedemann.specs.Window.{room-as, listening-from, unasked-first, listened-from}
 use borrow.Author.Needs.{needs}

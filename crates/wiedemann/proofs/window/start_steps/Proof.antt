@@ -1,11 +1,9 @@
-use mathlib.Core.Path.{_≡_, refl, sym, ap, _∙_, subst}
-use Prim.Native.Nat.{_+_, _-_, _*_, _≤_, _<_}
+use mathlib.Core.Path.{_≡_, sym, _∙_}
+use Prim.Native.Nat.{_+_, _-_, _*_, _≤_}
 use native.Mathlib.Omega.{arith}
 use denote.Ref.{now}
 use lib.ListN.{length}
 use Rattle.laws.specs.Part.{length-part}
-use Rattle.residue.specs.Prime.{isModulus-Prime, isModulus-le}
-use Rattle.recurrence.specs.OneStep.{room-taken}
 use Rattle.wiedemann.specs.Window.{begun-lent, begun-never}
 use borrow.Author.Needs.{needs}
 use Rattle.wiedemann.proofs.window.start_steps.Statement.{statement}
