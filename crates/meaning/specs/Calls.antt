@@ -4,7 +4,7 @@
 --     field, operation, inverse                the field and its operations
 --     product, apply                           the three that write a vector; `product` is the transposed product's too
 --     recurrence                               the shortest recurrence
---     solver                                   the run; EveryRun and EveryTwoRuns are the third condition's theorems, EveryEmptyRun that of size 0
+--     solver                                   the run, with its scales X; EveryRun and EveryTwoRuns are the third condition's theorems, EveryEmptyRun that of size 0
 --     takes, isNull                            the two checks of offered answers
 --     reader, writer                           system text
 --     text, program                            the text call and the program
@@ -24,7 +24,7 @@ use Rattle.meaning.specs.Solver.{applications, billed, solve, nothingLef
 use Rattle.meaning.specs.ThirdCondition.{ThirdCondition, SameAnswer}
 use Rattle.meaning.specs.Text.{Document, document, inForm, System, system, write}
 use Rattle.meaning.specs.Answer.{answerText, refusedText}
-use Rattle.meaning.specs.Refusal.{Check, check, first, unlessRefused, within, elements, matrixChecks, wordsTaken, windowTaken, documentChecks}
+use Rattle.meaning.specs.Refusal.{Check, check, first, unlessRefused, within, elements, scaledChecks, matrixChecks, wordsTaken, windowTaken, documentChecks}
 
 -- ---- the field
 
@@ -103,59 +103,59 @@ recurrenceAfter p s polynomial work =
 
 -- ---- the solver
 
--- "a system is p, A and b, accepted if none of the checks below turns one of these down"
-unfoldable pub systemChecks : ℕ → Matrix → List ℕ → List Check
-systemChecks p A b =
-    matrixChecks p A ++ (check 8 (not (eqb (length b) (size A))) ∷ check 9 (not (elements p b)) ∷ [])
+-- "a system is p, A and b, accepted if none of the checks below turns one of these down"; request (vi): "a system now holds n scales"
+unfoldable pub systemChecks : ℕ → Matrix → List ℕ → List ℕ → List Check
+systemChecks p A X b =
+    scaledChecks p A X ++ (check 8 (not (eqb (length b) (size A))) ∷ check 9 (not (elements p b)) ∷ [])
 
 -- the checks that a run's system, words and window pass; "13, a window above 64, after check 10"
-unfoldable pub runChecks : ℕ → Matrix → List ℕ → List ℕ → ℕ → List Check
-runChecks p A b words w =
-    systemChecks p A b ++ (check 10 (not (wordsTaken (size A) words)) ∷ check 13 (not (windowTaken w)) ∷ [])
+unfoldable pub runChecks : ℕ → Matrix → List ℕ → List ℕ → List ℕ → ℕ → List Check
+runChecks p A X b words w =
+    systemChecks p A X b ++ (check 10 (not (wordsTaken (size A) words)) ∷ check 13 (not (windowTaken w)) ∷ [])
 
-unfoldable pub solverRefusal : ℕ → Matrix → List ℕ → List ℕ → ℕ → List ℕ → List ℕ → List ℕ → ℕ
-solverRefusal p A b words w vector polynomial work =
+unfoldable pub solverRefusal : ℕ → Matrix → List ℕ → List ℕ → List ℕ → ℕ → List ℕ → List ℕ → List ℕ → ℕ
+solverRefusal p A X b words w vector polynomial work =
     first
-    (runChecks p A b words w
+    (runChecks p A X b words w
     ++ (check 11
     (not (eqb (length vector) (size A) && eqb (length polynomial) (size A + 1) && leb (16 * size A + 16) (length work)))
     ∷ []))
 
-abbrev pub vectorAfter : ℕ → Matrix → List ℕ → List ℕ → ℕ → List ℕ → List ℕ → List ℕ → List ℕ
-vectorAfter p A b words w vector polynomial work =
-    unlessRefused (solverRefusal p A b words w vector polynomial work) (solve p A b words w .vector) vector
+abbrev pub vectorAfter : ℕ → Matrix → List ℕ → List ℕ → List ℕ → ℕ → List ℕ → List ℕ → List ℕ → List ℕ
+vectorAfter p A X b words w vector polynomial work =
+    unlessRefused (solverRefusal p A X b words w vector polynomial work) (solve p A X b words w .vector) vector
 
-abbrev pub polynomialAfter : ℕ → Matrix → List ℕ → List ℕ → ℕ → List ℕ → List ℕ → List ℕ → List ℕ
-polynomialAfter p A b words w vector polynomial work =
-    unlessRefused (solverRefusal p A b words w vector polynomial work)
-    (padded (size A + 1) (solve p A b words w .polynomial))
+abbrev pub polynomialAfter : ℕ → Matrix → List ℕ → List ℕ → List ℕ → ℕ → List ℕ → List ℕ → List ℕ → List ℕ
+polynomialAfter p A X b words w vector polynomial work =
+    unlessRefused (solverRefusal p A X b words w vector polynomial work)
+    (padded (size A + 1) (solve p A X b words w .polynomial))
     polynomial
 
 -- request (i); no length of the bill is a reason to refuse
-abbrev pub billAfter : ℕ → Matrix → List ℕ → List ℕ → ℕ → List ℕ → List ℕ → List ℕ → List ℕ → List ℕ
-billAfter p A b words w vector polynomial work bill =
-    unlessRefused (solverRefusal p A b words w vector polynomial work) (billed bill (solve p A b words w .passes)) bill
+abbrev pub billAfter : ℕ → Matrix → List ℕ → List ℕ → List ℕ → ℕ → List ℕ → List ℕ → List ℕ → List ℕ → List ℕ
+billAfter p A X b words w vector polynomial work bill =
+    unlessRefused (solverRefusal p A X b words w vector polynomial work) (billed bill (solve p A X b words w .passes)) bill
 
 -- the third condition of every run, and of every two runs on one system, whatever their words and windows; proved with the solver's run
 abbrev pub EveryRun : Type 0
 EveryRun =
-    (p : ℕ) (A : Matrix) (b words : List ℕ) (w : ℕ) → first (runChecks p A b words w) ≡ 0 → ThirdCondition p A b words w (solve p A b words w)
+    (p : ℕ) (A : Matrix) (X b words : List ℕ) (w : ℕ) → first (runChecks p A X b words w) ≡ 0 → ThirdCondition p A X b words w (solve p A X b words w)
 
 abbrev pub EveryTwoRuns : Type 0
 EveryTwoRuns =
-    (p : ℕ) (A : Matrix) (b words words′ : List ℕ) (w w′ : ℕ) → first (runChecks p A b words w) ≡ 0 → first (runChecks p A b words′ w′) ≡ 0
-    → SameAnswer (solve p A b words w) (solve p A b words′ w′)
+    (p : ℕ) (A : Matrix) (X b words words′ : List ℕ) (w w′ : ℕ) → first (runChecks p A X b words w) ≡ 0 → first (runChecks p A X b words′ w′) ≡ 0
+    → SameAnswer (solve p A X b words w) (solve p A X b words′ w′)
 
 -- request (iii): "equal to applications × entries"
 abbrev pub EveryRunByEntry : Type 0
 EveryRunByEntry =
-    (p : ℕ) (A : Matrix) (b words : List ℕ) (w : ℕ) → first (runChecks p A b words w) ≡ 0
-    → solve p A b words w .multiplied ≡ applications (solve p A b words w) * entryCount A
+    (p : ℕ) (A : Matrix) (X b words : List ℕ) (w : ℕ) → first (runChecks p A X b words w) ≡ 0
+    → solve p A X b words w .multiplied ≡ applications (solve p A X b words w) * entryCount A
 
 -- request (ii): what every run on size 0 ends with
 abbrev pub EveryEmptyRun : Type 0
 EveryEmptyRun =
-    (p : ℕ) (A : Matrix) (b words : List ℕ) (w : ℕ) → first (runChecks p A b words w) ≡ 0 → size A ≡ 0 → solve p A b words w ≡ nothingLeft
+    (p : ℕ) (A : Matrix) (X b words : List ℕ) (w : ℕ) → first (runChecks p A X b words w) ≡ 0 → size A ≡ 0 → solve p A X b words w ≡ nothingLeft
 
 -- ---- the two checks of offered answers
 
@@ -175,7 +175,7 @@ abbrev pub takesCount : ℕ → Matrix → List ℕ → List ℕ → ℕ
 takesCount p A x b = unlessRefused (takesRefusal p A x b) (multiplied 1 A) 0
 
 unfoldable pub isNullRefusal : ℕ → Matrix → List ℕ → ℕ
-isNullRefusal p A w = first (systemChecks p A w)
+isNullRefusal p A w = first (systemChecks p A [] w)
 
 abbrev pub isNullAnswer : ℕ → Matrix → List ℕ → Bool
 isNullAnswer p A w = unlessRefused (isNullRefusal p A w) (isNull p A w) false
@@ -190,44 +190,44 @@ unfoldable pub textChecks : List ℕ → List Check
 textChecks text =
     check 2 (not (leb (length text) 2097152 && inForm text)) ∷ documentChecks (document text)
 
-unfoldable pub readerRefusal : List ℕ → List ℕ → List ℕ → List ℕ → List ℕ → ℕ
-readerRefusal text starts columns values right =
+unfoldable pub readerRefusal : List ℕ → List ℕ → List ℕ → List ℕ → List ℕ → List ℕ → ℕ
+readerRefusal text starts columns values scales right =
     let d = document text in
     first
     (textChecks text
     ++ (check 11
     (not
     (leb (d .size + 1) (length starts) && leb (d .count) (length columns) && leb (d .count) (length values)
-    && leb (d .size) (length right)))
+    && leb (d .size) (length scales) && leb (d .size) (length right)))
     ∷ []))
 
 -- what the reader answers: p, n and the entry count
-abbrev pub readerAnswer : (Document → ℕ) → List ℕ → List ℕ → List ℕ → List ℕ → List ℕ → ℕ
-readerAnswer f text starts columns values right =
-    unlessRefused (readerRefusal text starts columns values right) (f (document text)) 0
+abbrev pub readerAnswer : (Document → ℕ) → List ℕ → List ℕ → List ℕ → List ℕ → List ℕ → List ℕ → ℕ
+readerAnswer f text starts columns values scales right =
+    unlessRefused (readerRefusal text starts columns values scales right) (f (document text)) 0
 
 -- "the reader fills leading parts of lent slices, leaving the rest": the slice that holds `old`, filled with what f takes from the system
-abbrev pub readerAfter : (System → List ℕ) → List ℕ → List ℕ → List ℕ → List ℕ → List ℕ → List ℕ → List ℕ
-readerAfter f old text starts columns values right =
-    unlessRefused (readerRefusal text starts columns values right) (overwrite (f (system (document text))) old) old
+abbrev pub readerAfter : (System → List ℕ) → List ℕ → List ℕ → List ℕ → List ℕ → List ℕ → List ℕ → List ℕ → List ℕ
+readerAfter f old text starts columns values scales right =
+    unlessRefused (readerRefusal text starts columns values scales right) (overwrite (f (system (document text))) old) old
 
-unfoldable pub writerRefusal : ℕ → Matrix → List ℕ → List ℕ → ℕ
-writerRefusal p A b out = first (systemChecks p A b ++ (check 11 (not (leb (length (write p A b)) (length out))) ∷ []))
+unfoldable pub writerRefusal : ℕ → Matrix → List ℕ → List ℕ → List ℕ → ℕ
+writerRefusal p A X b out = first (systemChecks p A X b ++ (check 11 (not (leb (length (write p A X b)) (length out))) ∷ []))
 
-abbrev pub writerAnswer : ℕ → Matrix → List ℕ → List ℕ → ℕ
-writerAnswer p A b out = unlessRefused (writerRefusal p A b out) (length (write p A b)) 0
+abbrev pub writerAnswer : ℕ → Matrix → List ℕ → List ℕ → List ℕ → ℕ
+writerAnswer p A X b out = unlessRefused (writerRefusal p A X b out) (length (write p A X b)) 0
 
-abbrev pub writerAfter : ℕ → Matrix → List ℕ → List ℕ → List ℕ
-writerAfter p A b out = unlessRefused (writerRefusal p A b out) (overwrite (write p A b) out) out
+abbrev pub writerAfter : ℕ → Matrix → List ℕ → List ℕ → List ℕ → List ℕ
+writerAfter p A X b out = unlessRefused (writerRefusal p A X b out) (overwrite (write p A X b) out) out
 
 -- ---- the text call and the program
 
--- "it takes n up to 128 and 1,024 entries"; request (i): "the answer slice now needs 7,168 bytes": room is that slice's length
+-- request (vi): "check 1 now allows 26,624 bytes"; "it takes n up to 128 and 1,024 entries"; request (i): "the answer slice now needs 7,168 bytes": room is that slice's length
 unfoldable pub textRefusal : List ℕ → ℕ → ℕ
 textRefusal text room =
     let d = document text in
     first
-    (check 1 (not (leb (length text) 24576))
+    (check 1 (not (leb (length text) 26624))
     ∷ textChecks text
     ++ (check 11 (not (leb (d .size) 128 && leb (d .count) 1024 && leb 7168 room)) ∷ []))
 
@@ -235,7 +235,7 @@ textRefusal text room =
 unfoldable pub solvedText : List ℕ → List ℕ
 solvedText text =
     let s = system (document text) in
-    answerText (solve (s .modulus) (s .matrix) (s .right) [] 0)
+    answerText (solve (s .modulus) (s .matrix) (s .scales) (s .right) [] 0)
 
 -- "the answer's length .. or the refusal's number"
 abbrev pub textAnswer : List ℕ → ℕ → ℕ

@@ -11,11 +11,15 @@
 --     rowEntries A i   how many of them a product multiplies in row i: each of the row's counts once
 --     perProduct A     .. and in all rows
 --     multiplied k A   .. and in k products, one after the other
+-- and request (vi): "document 002 multiplies A by a diagonal X", a list of "n scales, all 1 if not given": an empty list stands for n ones.
+--     scaleAt X j      the scale of column j
+--     scaled p A X     AX: the starts and columns of A, each value times the scale of its column
+--     diagonal p X v   Xv
 use mathlib.Core.Bool.{cond}
 use mathlib.Core.List.{List}
 use Prim.Native.Nat.{ℕ, zero, suc, _+_, _-_, _*_, _%_}
 use lib.Dec.{eqb}
-use lib.ListN.{length}
+use lib.ListN.{length, getD}
 use Rattle.meaning.specs.List.{at, sum, sumFrom, table}
 
 pub record Matrix : Type 0 where
@@ -52,6 +56,18 @@ apply p A g v = table (size A) (λ j. sum (length g) (λ i. at g i * at (power p
 
 abbrev pub rowEntries : Matrix → ℕ → ℕ
 rowEntries A i = rowSum A i (λ k. 1)
+
+abbrev pub scaleAt : List ℕ → ℕ → ℕ
+scaleAt X j = getD X j 1
+
+unfoldable pub scaledValues : ℕ → Matrix → List ℕ → List ℕ
+scaledValues p A X = table (length (A .values)) (λ k. at (A .values) k * scaleAt X (at (A .columns) k) % p)
+
+abbrev pub scaled : ℕ → Matrix → List ℕ → Matrix
+scaled p A X = matrix (A .starts) (A .columns) (scaledValues p A X)
+
+unfoldable pub diagonal : ℕ → List ℕ → List ℕ → List ℕ
+diagonal p X v = table (length v) (λ j. at v j * scaleAt X j % p)
 
 unfoldable pub perProduct : Matrix → ℕ
 perProduct A = sum (size A) (rowEntries A)

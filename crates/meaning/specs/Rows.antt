@@ -12,19 +12,19 @@ use mathlib.Core.List.{List, [], _∷_}
 use Prim.Native.Nat.{ℕ, _+_}
 use Prim.Native.String.{String}
 use lib.ListN.{length, replicate}
-use Rattle.meaning.specs.List.{sum, table, all, every, chainFrom, chain, equal, least, select, flat, bytes}
+use Rattle.meaning.specs.List.{sum, table, all, every, chainFrom, chain, equal, least, select, flat, bytes, overwrite}
 use Rattle.meaning.specs.Field.{isPrime, isModulus, plus, minus, times, inverse}
-use Rattle.meaning.specs.Matrix.{product, transposed, power, apply, perProduct, multiplied, Matrix, matrix}
+use Rattle.meaning.specs.Matrix.{product, transposed, power, apply, scaledValues, diagonal, perProduct, multiplied, Matrix, matrix}
 use Rattle.meaning.specs.Recurrence.{isMonic, recurs, start, discrepancy, update, step, steps, reversed, degree, generator, Steps}
-use Rattle.meaning.specs.Solver.{vectorCount, vectors, units, projections, dot, terms, multiply, Pass, begin, passTerms, due, testAt, endPass, pass, run, spent, bill, verdict, close, solve, takes, isNull, Kind, solved, singular, passCount, applications}
-use Rattle.meaning.specs.Text.{digits, decimal, valueAfter, isNumeral, line, onFirst, parts, hasForm, formOf, lineOf, lineFields, lines, saying, inForm, document, system, writeRow, writeElement, write}
+use Rattle.meaning.specs.Solver.{vectorCount, vectors, units, projections, dot, terms, multiply, Pass, begin, passTerms, due, testAt, endPass, pass, run, spent, bill, verdict, close, outcome, answered, solve, takes, isNull, Kind, solved, singular, passCount, applications}
+use Rattle.meaning.specs.Text.{digits, decimal, valueAfter, isNumeral, line, onFirst, parts, hasForm, formOf, lineOf, lineFields, lines, saying, inForm, document, placed, system, writeRow, writeScales, writeElement, write}
 use Rattle.meaning.specs.Answer.{passLines, answerText, refusedText}
-use Rattle.meaning.specs.Refusal.{first, elements, sizeTaken, startsTaken, columnsTaken, matrixChecks, wordsTaken, countTaken, before, placesTaken, documentChecks}
+use Rattle.meaning.specs.Refusal.{first, elements, sizeTaken, startsTaken, columnsTaken, scaledChecks, wordsTaken, countTaken, before, placesTaken, valuesTaken, documentChecks}
 use Rattle.meaning.specs.Calls.{fieldRefusal, operationRefusal, inverseRefusal, productRefusal, applyRefusal, recurrenceRefusal, systemChecks, runChecks, solverRefusal, takesRefusal, isNullRefusal, textChecks, readerRefusal, writerRefusal, textRefusal, solvedText, programOutput, operationAnswer, inverseAnswer, productAfter, productCount, applyAfter, applyCount, recurrenceAnswer, recurrenceAfter, vectorAfter, polynomialAfter, billAfter, takesAnswer, takesCount, isNullAnswer, isNullCount, readerAnswer, readerAfter, writerAnswer, writerAfter, textAnswer}
 
 -- every definition open, so that the rows compute
 unfoldable compute : Unit {0}
-unfolding sum table all every chainFrom chain equal least select flat bytes isPrime isModulus plus minus times inverse product transposed power apply perProduct multiplied isMonic recurs start discrepancy update step steps reversed degree generator vectorCount vectors units projections dot terms multiply begin passTerms due testAt endPass pass run spent bill verdict close solve takes isNull digits decimal valueAfter isNumeral line onFirst parts hasForm formOf lineOf lineFields lines saying inForm document system writeRow writeElement write passLines answerText refusedText first elements sizeTaken startsTaken columnsTaken matrixChecks wordsTaken countTaken before placesTaken documentChecks fieldRefusal operationRefusal inverseRefusal productRefusal applyRefusal recurrenceRefusal systemChecks runChecks solverRefusal takesRefusal isNullRefusal textChecks readerRefusal writerRefusal textRefusal solvedText programOutput
+unfolding sum table all every chainFrom chain equal least select flat bytes isPrime isModulus plus minus times inverse product transposed power apply scaledValues diagonal perProduct multiplied isMonic recurs start discrepancy update step steps reversed degree generator vectorCount vectors units projections dot terms multiply begin passTerms due testAt endPass pass run spent bill verdict close outcome answered solve takes isNull digits decimal valueAfter isNumeral line onFirst parts hasForm formOf lineOf lineFields lines saying inForm document placed system writeRow writeScales writeElement write passLines answerText refusedText first elements sizeTaken startsTaken columnsTaken scaledChecks wordsTaken countTaken before placesTaken valuesTaken documentChecks fieldRefusal operationRefusal inverseRefusal productRefusal applyRefusal recurrenceRefusal systemChecks runChecks solverRefusal takesRefusal isNullRefusal textChecks readerRefusal writerRefusal textRefusal solvedText programOutput
 compute = tt
 
 pub data Case : Type 0 where
@@ -38,10 +38,14 @@ pub data Case : Type 0 where
   solver-bills : (p : ℕ) (A : Matrix) (b words : List ℕ) (room : ℕ) (slice : List ℕ) → Case
   -- a run with a window: kind, vector, f, its passes, applications, entries multiplied
   window-gives : (p : ℕ) (A : Matrix) (b words : List ℕ) (w : ℕ) → Kind → (vector f : List ℕ) → List Pass → (applications multiplied : ℕ) → Case
+  -- a run with scales: kind, vector, f, its passes, applications, entries multiplied
+  scaled-gives : (p : ℕ) (A : Matrix) (X b words : List ℕ) (w : ℕ) → Kind → (vector f : List ℕ) → List Pass → (applications multiplied : ℕ) → Case
   -- the terms that the pass with u takes after the passes with us
   pass-takes : (p : ℕ) (A : Matrix) (b : List ℕ) (us : List (List ℕ)) (u terms : List ℕ) → Case
   -- the solver's refusal, for slices of these lengths (vector, polynomial, work); with a window
   window-refuses : (p : ℕ) (A : Matrix) (b words : List ℕ) (w vector polynomial work number : ℕ) → Case
+  -- .. with scales
+  scaled-refuses : (p : ℕ) (A : Matrix) (X b words : List ℕ) (w vector polynomial work number : ℕ) → Case
   solver-refuses : (p : ℕ) (A : Matrix) (b words : List ℕ) (vector polynomial work number : ℕ) → Case
   -- the shortest recurrence of s modulo p: L, and the polynomial slice
   recurrence-gives : (p : ℕ) (s : List ℕ) (L : ℕ) (slice : List ℕ) → Case
@@ -59,11 +63,16 @@ pub data Case : Type 0 where
   -- the two checks of offered answers
   takes-says : (p : ℕ) (A : Matrix) (x b : List ℕ) (number : ℕ) → Bool → (multiplied : ℕ) → Case
   isNull-says : (p : ℕ) (A : Matrix) (w : List ℕ) (number : ℕ) → Bool → (multiplied : ℕ) → Case
-  -- the reader: p, n and the entry count, and the four slices, which held 9s
+  -- the reader: p, n and the entry count, and the slices, which held 9s; that of the scales is as long as that of b, and gets n ones
   reader-gives : (text : String) (starts columns values right p n count : ℕ) (starts′ columns′ values′ right′ : List ℕ) → Case
   reader-refuses : (text : String) (starts columns values right number : ℕ) → Case
+  -- the slice of scales after it, of that many places; the others have 9 each
+  scales-read : (text : String) (room : ℕ) (scales : List ℕ) → Case
+  scales-refused : (text : String) (room number : ℕ) → Case
   -- the writer, into that many bytes 46
   writer-gives : (p : ℕ) (A : Matrix) (b : List ℕ) (room length : ℕ) (after : String) → Case
+  -- .. with scales
+  scaled-writes : (p : ℕ) (A : Matrix) (X b : List ℕ) (room length : ℕ) (after : String) → Case
   -- the text call, and what the program prints
   text-gives : (text answer : String) → Case
   text-refuses : (text : String) (room number : ℕ) → Case
@@ -75,39 +84,49 @@ pub data Case : Type 0 where
 abbrev pub nines : ℕ → List ℕ
 nines k = replicate k 9
 
-abbrev Refuses : ℕ → Matrix → List ℕ → List ℕ → ℕ → ℕ → ℕ → ℕ → ℕ → Type 0
-Refuses p A b words w vector polynomial work k =
+abbrev Refuses : ℕ → Matrix → List ℕ → List ℕ → List ℕ → ℕ → ℕ → ℕ → ℕ → ℕ → Type 0
+Refuses p A X b words w vector polynomial work k =
     let x = nines vector in
     let f = nines polynomial in
     let room = nines work in
     _≡_ {A = ℕ × List ℕ × List ℕ}
-    (solverRefusal p A b words w x f room, vectorAfter p A b words w x f room, polynomialAfter p A b words w x f room)
+    (solverRefusal p A X b words w x f room, vectorAfter p A X b words w x f room, polynomialAfter p A X b words w x f room)
     (k, x, f)
+
+abbrev Gives : ℕ → Matrix → List ℕ → List ℕ → List ℕ → ℕ → Kind → List ℕ → List ℕ → List Pass → ℕ → ℕ → Type 0
+Gives p A X b words w k x f qs a m =
+    let o = solve p A X b words w in
+    _≡_ {A = ℕ × Kind × List ℕ × List ℕ × List Pass × ℕ × ℕ}
+    (first (runChecks p A X b words w), o .kind, o .vector, o .polynomial, o .passes, applications o, o .multiplied)
+    (0, k, x, f, qs, a, m)
+
+abbrev Writes : ℕ → Matrix → List ℕ → List ℕ → ℕ → ℕ → String → Type 0
+Writes p A X b room n after =
+    let out : List ℕ = replicate room 46 in
+    _≡_ {A = ℕ × List ℕ} (writerAnswer p A X b out, writerAfter p A X b out) (n, bytes after)
 
 abbrev pub Holds : Case → Type 0
 Holds (solver-gives p A b words k x f n a m) =
-    let o = solve p A b words 0 in
+    let o = solve p A [] b words 0 in
     _≡_ {A = ℕ × Kind × List ℕ × List ℕ × ℕ × ℕ × ℕ}
-    (first (runChecks p A b words 0), o .kind, o .vector, o .polynomial, passCount o, applications o, o .multiplied)
+    (first (runChecks p A [] b words 0), o .kind, o .vector, o .polynomial, passCount o, applications o, o .multiplied)
     (0, k, x, f, n, a, m)
-Holds (solver-makes p A b words qs) = solve p A b words 0 .passes ≡ qs
+Holds (solver-makes p A b words qs) = solve p A [] b words 0 .passes ≡ qs
 Holds (solver-leaves p A b words x f) =
     let v = nines (length x) in
     let g = nines (length f) in
     let w = nines 48 in
     _≡_ {A = ℕ × List ℕ × List ℕ}
-    (solverRefusal p A b words 0 v g w, vectorAfter p A b words 0 v g w, polynomialAfter p A b words 0 v g w)
+    (solverRefusal p A [] b words 0 v g w, vectorAfter p A [] b words 0 v g w, polynomialAfter p A [] b words 0 v g w)
     (0, x, f)
 Holds (solver-bills p A b words room slice) =
-    billAfter p A b words 0 (nines (length b)) (nines (length b + 1)) (nines 48) (nines room) ≡ slice
-Holds (window-gives p A b words w k x f qs a m) =
-    let o = solve p A b words w in
-    _≡_ {A = ℕ × Kind × List ℕ × List ℕ × List Pass × ℕ × ℕ}
-    (first (runChecks p A b words w), o .kind, o .vector, o .polynomial, o .passes, applications o, o .multiplied)
-    (0, k, x, f, qs, a, m)
+    billAfter p A [] b words 0 (nines (length b)) (nines (length b + 1)) (nines 48) (nines room) ≡ slice
+Holds (window-gives p A b words w k x f qs a m) = Gives p A [] b words w k x f qs a m
+Holds (scaled-gives p A X b words w k x f qs a m) = Gives p A X b words w k x f qs a m
 Holds (pass-takes p A b us u s) = passTerms p A u (run p A 0 us (begin b)) ≡ s
-Holds (window-refuses p A b words w vector polynomial work k) = Refuses p A b words w vector polynomial work k
-Holds (solver-refuses p A b words vector polynomial work k) = Refuses p A b words 0 vector polynomial work k
+Holds (window-refuses p A b words w vector polynomial work k) = Refuses p A [] b words w vector polynomial work k
+Holds (scaled-refuses p A X b words w vector polynomial work k) = Refuses p A X b words w vector polynomial work k
+Holds (solver-refuses p A b words vector polynomial work k) = Refuses p A [] b words 0 vector polynomial work k
 Holds (recurrence-gives p s L f) =
     let out = nines (length f) in
     let work = nines 40 in
@@ -150,16 +169,17 @@ Holds (reader-gives text starts columns values right p n count starts′ columns
     let c = nines columns in
     let v = nines values in
     let b = nines right in
-    _≡_ {A = ℕ × ℕ × ℕ × List ℕ × List ℕ × List ℕ × List ℕ} (
-      readerAnswer (λ d. d .modulus) l s c v b,
-      readerAnswer (λ d. d .size) l s c v b,
-      readerAnswer (λ d. d .count) l s c v b,
-      readerAfter (λ x. x .matrix .starts) s l s c v b,
-      readerAfter (λ x. x .matrix .columns) c l s c v b,
-      readerAfter (λ x. x .matrix .values) v l s c v b,
-      readerAfter (λ x. x .right) b l s c v b,
+    _≡_ {A = ℕ × ℕ × ℕ × List ℕ × List ℕ × List ℕ × List ℕ × List ℕ} (
+      readerAnswer (λ d. d .modulus) l s c v b b,
+      readerAnswer (λ d. d .size) l s c v b b,
+      readerAnswer (λ d. d .count) l s c v b b,
+      readerAfter (λ x. x .matrix .starts) s l s c v b b,
+      readerAfter (λ x. x .matrix .columns) c l s c v b b,
+      readerAfter (λ x. x .matrix .values) v l s c v b b,
+      readerAfter (λ x. x .scales) b l s c v b b,
+      readerAfter (λ x. x .right) b l s c v b b,
     )
-    (p, n, count, starts′, columns′, values′, right′)
+    (p, n, count, starts′, columns′, values′, overwrite (replicate n 1) b, right′)
 Holds (reader-refuses text starts columns values right k) =
     let l = bytes text in
     let s = nines starts in
@@ -167,11 +187,22 @@ Holds (reader-refuses text starts columns values right k) =
     let v = nines values in
     let b = nines right in
     _≡_ {A = ℕ × ℕ × List ℕ}
-    (readerRefusal l s c v b, readerAnswer (λ d. d .size) l s c v b, readerAfter (λ x. x .matrix .starts) s l s c v b)
+    (readerRefusal l s c v b b, readerAnswer (λ d. d .size) l s c v b b, readerAfter (λ x. x .matrix .starts) s l s c v b b)
     (k, 0, s)
-Holds (writer-gives p A b room n after) =
-    let out : List ℕ = replicate room 46 in
-    _≡_ {A = ℕ × List ℕ} (writerAnswer p A b out, writerAfter p A b out) (n, bytes after)
+Holds (scales-read text room scales) =
+    let l = bytes text in
+    let old = nines room in
+    _≡_ {A = ℕ × List ℕ}
+    (readerRefusal l (nines 9) (nines 9) (nines 9) old (nines 9), readerAfter (λ x. x .scales) old l (nines 9) (nines 9) (nines 9) old (nines 9))
+    (0, scales)
+Holds (scales-refused text room k) =
+    let l = bytes text in
+    let old = nines room in
+    _≡_ {A = ℕ × List ℕ}
+    (readerRefusal l (nines 9) (nines 9) (nines 9) old (nines 9), readerAfter (λ x. x .scales) old l (nines 9) (nines 9) (nines 9) old (nines 9))
+    (k, old)
+Holds (writer-gives p A b room n after) = Writes p A [] b room n after
+Holds (scaled-writes p A X b room n after) = Writes p A X b room n after
 Holds (text-gives text answer) =
     _≡_ {A = ℕ × List ℕ × List ℕ}
     (textAnswer (bytes text) 7168, solvedText (bytes text), programOutput (bytes text))

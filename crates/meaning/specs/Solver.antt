@@ -23,7 +23,9 @@
 --     charge, bill           request (i): a pass in numbers, "left, degree t, applications of that pass"; the passes in numbers, one after the other
 --     billed B qs            the slice that held B, with these numbers at its front, for as many passes as it has room for
 --     close                  "when r is zero, let G = (F − F[0]) / z .."
---     solve                  the whole run, with the words and the window w
+--     outcome                the whole run on A itself, with the words and the window w
+--     answered p X o         o with X times its vector
+--     solve                  request (vi): the run with the scales X: "the solver works on AX and answers Xy, or Xw"
 --     nothingLeft            request (ii), size 0: "solved: empty vector, f = 1, no pass, no application"
 --     takes, isNull          the two checks of offered answers
 use mathlib.Core.Bool.{Bool, not, cond, _&&_}
@@ -33,7 +35,7 @@ use lib.Dec.{eqb, ltb, leb}
 use lib.ListN.{length, take, drop}
 use Rattle.meaning.specs.List.{at, sum, table, zeros, all, isZero, equal, least, flat, overwrite}
 use Rattle.meaning.specs.Field.{minus, times, inverse}
-use Rattle.meaning.specs.Matrix.{Matrix, size, product, power, apply, multiplied}
+use Rattle.meaning.specs.Matrix.{Matrix, size, product, power, apply, multiplied, scaled, diagonal}
 use Rattle.meaning.specs.Recurrence.{discrepancy, steps, degree, generator}
 
 unfoldable pub vectorCount : ℕ → List ℕ → ℕ
@@ -173,8 +175,22 @@ close p A b c =
       multiplied = multiplied (productsMade (c .passes) (c .found)) A;
     }
 
-unfoldable pub solve : ℕ → Matrix → List ℕ → List ℕ → ℕ → Outcome
-solve p A b words w = close p A b (run p A w (projections p (size A) words) (begin b))
+unfoldable pub outcome : ℕ → Matrix → List ℕ → List ℕ → ℕ → Outcome
+outcome p A b words w = close p A b (run p A w (projections p (size A) words) (begin b))
+
+unfoldable pub answered : ℕ → List ℕ → Outcome → Outcome
+answered p X o =
+    record {
+      kind = o .kind;
+      vector = diagonal p X (o .vector);
+      polynomial = o .polynomial;
+      degree = o .degree;
+      passes = o .passes;
+      multiplied = o .multiplied;
+    }
+
+unfoldable pub solve : ℕ → Matrix → List ℕ → List ℕ → List ℕ → ℕ → Outcome
+solve p A X b words w = answered p X (outcome p (scaled p A X) b words w)
 
 abbrev pub nothingLeft : Outcome
 nothingLeft = record { kind = solved; vector = []; polynomial = 1 ∷ []; degree = 0; passes = []; multiplied = 0 }

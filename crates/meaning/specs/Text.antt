@@ -8,8 +8,10 @@
 --     lines text       what these lines say
 --     inForm text      the forms of the lines and "their order of letters"
 --     Document         what a text in form says
---     system d         the system of a document: its starts, columns, values and b
---     write p A b      the text of a system
+--     placed n none es  n places by lines of a place and a value; `none` where no line has the place
+--     system d         the system of a document: its starts, columns, values, scales and b
+--     write p A X b    the text of a system
+-- with request (vi): "`s`, place, value lines between the `a` and the `b` lines, all n or none".
 use mathlib.Core.Bool.{Bool, false, not, cond, _&&_, _||_}
 use mathlib.Core.List.{List, [], _∷_, _++_, map}
 use Prim.Native.Nat.{ℕ, zero, suc, _+_, _-_, _*_, _/_, _%_}
@@ -58,7 +60,7 @@ parts c (x ∷ l) =
     cond (eqb x c) ([] ∷ later) (onFirst x later)
 
 pub data Form : Type 0 where
-  header entry element ending nothing broken : Form
+  header entry scale element ending nothing broken : Form
 
 pub record Line : Type 0 where
   pub form : Form
@@ -73,9 +75,10 @@ unfoldable pub formOf : List (List ℕ) → Form
 formOf ws =
     cond (hasForm (bytes "system") 3 ws) header
     (cond (hasForm (bytes "a") 3 ws) entry
+    (cond (hasForm (bytes "s") 2 ws) scale
     (cond (hasForm (bytes "b") 2 ws) element
     (cond (hasForm (bytes "end") 0 ws) ending
-    (cond (hasForm [] 0 ws) nothing broken))))
+    (cond (hasForm [] 0 ws) nothing broken)))))
 
 unfoldable pub lineOf : List (List ℕ) → Line
 lineOf ws = record { form = formOf ws; numbers = map valueOf (drop 1 ws) }
@@ -90,10 +93,11 @@ lines text = map lineOf (lineFields text)
 abbrev pub rank : Form → ℕ
 rank header = 0
 rank entry = 1
-rank element = 2
-rank ending = 3
-rank nothing = 4
-rank broken = 5
+rank scale = 2
+rank element = 3
+rank ending = 4
+rank nothing = 5
+rank broken = 6
 
 abbrev pub isOf : Form → Line → Bool
 isOf f l = eqb (rank (l .form)) (rank f)
@@ -102,19 +106,22 @@ isOf f l = eqb (rank (l .form)) (rank f)
 unfoldable pub saying : Form → List Line → List (List ℕ)
 saying f ls = map (λ l. l .numbers) (select (isOf f) ls)
 
--- one `system` line, the `a` lines, the `b` lines, one `end` line, and nothing after it
+-- one `system` line, the `a` lines, the `s` lines, the `b` lines, one `end` line, and nothing after it
 unfoldable pub inForm : List ℕ → Bool
 inForm text =
     let ls = lines text in
     equal (map (λ l. rank (l .form)) ls)
-    (0 ∷ replicate (length (saying entry ls)) 1 ++ replicate (length (saying element ls)) 2 ++ (3 ∷ 4 ∷ []))
+    (0
+    ∷ replicate (length (saying entry ls)) 1 ++ replicate (length (saying scale ls)) 2 ++ replicate (length (saying element ls)) 3
+    ++ (4 ∷ 5 ∷ []))
 
--- an entry is its row, column and value, an element of b its row and value, as in the text
+-- an entry is its row, column and value, a scale its place and value, an element of b its row and value, as in the text
 pub record Document : Type 0 where
   pub modulus : ℕ
   pub size : ℕ
   pub count : ℕ
   pub entries : List (List ℕ)
+  pub scales : List (List ℕ)
   pub elements : List (List ℕ)
 
 unfoldable pub document : List ℕ → Document
@@ -126,6 +133,7 @@ document text =
       size = at head 1;
       count = at head 2;
       entries = saying entry ls;
+      scales = saying scale ls;
       elements = saying element ls;
     }
 
@@ -135,7 +143,11 @@ row e = at e 0
 pub record System : Type 0 where
   pub modulus : ℕ
   pub matrix : Matrix
+  pub scales : List ℕ
   pub right : List ℕ
+
+unfoldable pub placed : ℕ → ℕ → List (List ℕ) → List ℕ
+placed n none es = table n (λ i. at (getD (select (λ e. eqb (row e) (i + 1)) es) 0 ((i + 1) ∷ none ∷ [])) 1)
 
 -- start i is the number of entries in the rows before row i, which the text calls i + 1
 unfoldable pub system : Document → System
@@ -147,7 +159,8 @@ system d =
           (table (d .size + 1) (λ i. length (select (λ e. leb (row e) i) (d .entries))))
           (map (λ e. at e 1 - 1) (d .entries))
           (map (λ e. at e 2) (d .entries));
-      right = table (d .size) (λ i. at (getD (select (λ e. eqb (row e) (i + 1)) (d .elements)) 0 []) 1);
+      scales = placed (d .size) 1 (d .scales);
+      right = placed (d .size) 0 (d .elements);
     }
 
 -- the `a` lines of row i
@@ -158,10 +171,15 @@ writeRow A i =
     (table (at (A .starts) (i + 1) - from)
     (λ k. line (bytes "a" ∷ decimal (i + 1) ∷ decimal (at (A .columns) (from + k) + 1) ∷ decimal (at (A .values) (from + k)) ∷ [])))
 
+-- the `s` lines: "exactly if some scale isn't 1"
+unfoldable pub writeScales : ℕ → List ℕ → List ℕ
+writeScales n X =
+    cond (every (λ a. eqb a 1) X) [] (flat (table n (λ i. line (bytes "s" ∷ decimal (i + 1) ∷ decimal (at X i) ∷ []))))
+
 unfoldable pub writeElement : List ℕ → ℕ → List ℕ
 writeElement b i = cond (eqb (at b i) 0) [] (line (bytes "b" ∷ decimal (i + 1) ∷ decimal (at b i) ∷ []))
 
-unfoldable pub write : ℕ → Matrix → List ℕ → List ℕ
-write p A b =
+unfoldable pub write : ℕ → Matrix → List ℕ → List ℕ → List ℕ
+write p A X b =
     line (bytes "system" ∷ decimal p ∷ decimal (size A) ∷ decimal (length (A .columns)) ∷ [])
-    ++ flat (table (size A) (writeRow A)) ++ flat (table (size A) (writeElement b)) ++ line (bytes "end" ∷ [])
+    ++ flat (table (size A) (writeRow A)) ++ writeScales (size A) X ++ flat (table (size A) (writeElement b)) ++ line (bytes "end" ∷ [])
