@@ -3,8 +3,11 @@
 --     start A i, column A k, value A k      start i, the column and the value of entry k
 --     size-known, starts-known       4 and 5 alone
 --     AcceptedSystem p A b           p, A and b pass the checks of a system
---     system-accepted, accepted-system      first (systemChecks p A b) ≡ 0 and these facts: each from the other
+--     AcceptedScales p n X           X passes those of scales: none, or n, each 1 to p − 1
+--     scales-none                    no scales do
+--     system-accepted, system-scales, accepted-system      first (systemChecks p A X b) ≡ 0 and these facts: each from the other
 --     AcceptedMatrix p A, matrix-accepted   p and A pass the checks of a matrix: so does the system with the right side 0
+--     scaled-accepted, scaled-scales        the same of a matrix with its scales
 --     starts-rise, start-within      starts that rise; none is above the number of entries
 --     column-within, value-below, right-at      every entry's column, every entry's value, every element of b
 --     AcceptedRun, run-accepted      a system and words pass the checks of a run
@@ -25,11 +28,11 @@ use borrow.Author.Tests.{ltb-true, leb-true, leb-false, eqb-true, eqb-false, lt-
 use Rattle.meaning.specs.List.{at, all, every, zeros}
 use Rattle.meaning.specs.Field.{isPrime, isModulus}
 use Rattle.meaning.specs.Matrix.{Matrix, size}
-use Rattle.meaning.specs.Refusal.{check, first, elements, rowsTaken, sizeTaken, startsTaken, columnsTaken, valueTaken, matrixChecks, wordsTaken, windowTaken}
+use Rattle.meaning.specs.Refusal.{check, first, elements, rowsTaken, sizeTaken, startsTaken, columnsTaken, valueTaken, scaleCountTaken, scaledChecks, matrixChecks, wordsTaken, windowTaken}
 use Rattle.meaning.specs.Calls.{systemChecks, runChecks, solverRefusal}
 use Rattle.laws.specs.Bool.{and-left, and-right, and-both, and-five, or-right, test-cases}
-use Rattle.laws.specs.List.{all-at, all-of, every-at, every-of, length-table, getD-table}
-use Rattle.laws.specs.Refusal.{first-nil, first-passed, first-pass, first-append-none, first-append-zero, numbered-matrix, numbered-system, numbered-run}
+use Rattle.laws.specs.List.{all-at, all-of, every-nil, every-at, every-of, length-table, getD-table}
+use Rattle.laws.specs.Refusal.{first-nil, first-passed, first-pass, first-append-none, first-append-zero, numbered-scaled, numbered-system, numbered-run}
 
 pub modulus-low : (p : ℕ) → isModulus p ≡ true → 2 ≤ p
 unfolding isModulus isPrime
@@ -115,17 +118,58 @@ pub record AcceptedSystem (p : ℕ) (A : Matrix) (b : List ℕ) : Type 0 where
   pub right-length : length b ≡ size A
   pub right-below : every (λ a. ltb a p) b ≡ true
 
-pub system-accepted : (p : ℕ) (A : Matrix) (b : List ℕ) → first (systemChecks p A b) ≡ 0 → AcceptedSystem p A b
-unfolding systemChecks matrixChecks elements
-system-accepted p A b e =
+pub record AcceptedScales (p n : ℕ) (X : List ℕ) : Type 0 where
+  pub number : scaleCountTaken n (length X) ≡ true
+  pub taken : every (valueTaken p) X ≡ true
+
+pub scales-none : (p n : ℕ) → AcceptedScales p n []
+scales-none p n = record { number = refl; taken = every-nil (valueTaken p) }
+
+-- what 3 to 7 say, beside the checks that follow them
+record Passed (p : ℕ) (A : Matrix) (X : List ℕ) : Type 0 where
+  prime : isModulus p ≡ true
+  sized : sizeTaken A ≡ true
+  started : startsTaken A ≡ true
+  columned : columnsTaken A ≡ true
+  valued : every (valueTaken p) (A .values) ≡ true
+  scales : AcceptedScales p (size A) X
+
+scaled-passed : (p : ℕ) (A : Matrix) (X : List ℕ) → first (scaledChecks p A X) ≡ 0 → Passed p A X
+unfolding scaledChecks
+scaled-passed p A X e =
     let c3 = first-passed 3 (isModulus p) _ (omega arith) e in
     let c4 = first-passed 4 (sizeTaken A) _ (omega arith) (c3 .1) in
-    let c5 = first-passed 5 (startsTaken A) _ (omega arith) (c4 .1) in
+    let c5 = first-passed 5 (startsTaken A && scaleCountTaken (size A) (length X)) _ (omega arith) (c4 .1) in
     let c6 = first-passed 6 (columnsTaken A) _ (omega arith) (c5 .1) in
-    let c7 = first-passed 7 (every (valueTaken p) (A .values)) _ (omega arith) (c6 .1) in
-    let c8 = first-passed 8 (eqb (length b) (size A)) _ (omega arith) (c7 .1) in
+    let c7 = first-passed 7 (every (valueTaken p) (A .values) && every (valueTaken p) X) _ (omega arith) (c6 .1) in
+    record {
+      prime = c3 .0;
+      sized = c4 .0;
+      started = and-left (startsTaken A) (scaleCountTaken (size A) (length X)) (c5 .0);
+      columned = c6 .0;
+      valued = and-left (every (valueTaken p) (A .values)) (every (valueTaken p) X) (c7 .0);
+      scales =
+          record {
+            number = and-right (startsTaken A) (scaleCountTaken (size A) (length X)) (c5 .0);
+            taken = and-right (every (valueTaken p) (A .values)) (every (valueTaken p) X) (c7 .0);
+          };
+    }
+
+system-parts : (p : ℕ) (A : Matrix) (X b : List ℕ) → first (systemChecks p A X b) ≡ 0
+    → (first (scaledChecks p A X) ≡ 0) × (length b ≡ size A) × (every (λ a. ltb a p) b ≡ true)
+unfolding systemChecks elements
+system-parts p A X b e =
+    let both = first-append-zero (scaledChecks p A X) (check 8 (not (eqb (length b) (size A))) ∷ check 9 (not (elements p b)) ∷ []) (numbered-scaled p A X) e in
+    let c8 = first-passed 8 (eqb (length b) (size A)) _ (omega arith) (both .1) in
     let c9 = first-passed 9 (elements p b) _ (omega arith) (c8 .1) in
-    known (c3 .0) (size-known A (c4 .0)) (starts-known A (c5 .0)) (columns-at A (c6 .0)) (c7 .0) (eqb-true (length b) (size A) (c8 .0)) (c9 .0)
+    (both .0, eqb-true (length b) (size A) (c8 .0), c9 .0)
+
+pub system-scales : (p : ℕ) (A : Matrix) (X b : List ℕ) → first (systemChecks p A X b) ≡ 0 → AcceptedScales p (size A) X
+system-scales p A X b e = scaled-passed p A X (system-parts p A X b e .0) .scales
+
+known-system : (p : ℕ) (A : Matrix) (X b : List ℕ) → Passed p A X → length b ≡ size A → every (λ a. ltb a p) b ≡ true → AcceptedSystem p A b
+known-system p A X b c right below =
+    known (c .prime) (size-known A (c .sized)) (starts-known A (c .started)) (columns-at A (c .columned)) (c .valued) right below
   where
     known : isModulus p ≡ true → (size A ≤ 4096) × (length (A .starts) ≡ size A + 1)
         → (start A 0 ≡ 0) × ((i : ℕ) → i < size A → start A i ≤ start A (i + 1)) × (start A (size A) ≡ length (A .columns))
@@ -154,14 +198,19 @@ system-accepted p A b e =
           right-below = below;
         }
 
-pub accepted-system : (p : ℕ) (A : Matrix) (b : List ℕ) → AcceptedSystem p A b → first (systemChecks p A b) ≡ 0
-unfolding systemChecks matrixChecks sizeTaken startsTaken elements
-accepted-system p A b a =
+pub system-accepted : (p : ℕ) (A : Matrix) (X b : List ℕ) → first (systemChecks p A X b) ≡ 0 → AcceptedSystem p A b
+system-accepted p A X b e =
+    let parts = system-parts p A X b e in
+    known-system p A X b (scaled-passed p A X (parts .0)) (parts .1) (parts .2)
+
+pub accepted-system : (p : ℕ) (A : Matrix) (X b : List ℕ) → AcceptedSystem p A b → AcceptedScales p (size A) X → first (systemChecks p A X b) ≡ 0
+unfolding systemChecks scaledChecks sizeTaken startsTaken elements
+accepted-system p A X b a x =
     first-pass 3 (isModulus p) _ (a .prime)
     (first-pass 4 (sizeTaken A) _ taken-size
-    (first-pass 5 (startsTaken A) _ taken-starts
+    (first-pass 5 (startsTaken A && scaleCountTaken (size A) (length X)) _ (and-both taken-starts (x .number))
     (first-pass 6 (columnsTaken A) _ (columns-of A taken-column)
-    (first-pass 7 (every (valueTaken p) (A .values)) _ (a .values-taken)
+    (first-pass 7 (every (valueTaken p) (A .values) && every (valueTaken p) X) _ (and-both (a .values-taken) (x .taken))
     (first-pass 8 (eqb (length b) (size A)) _ (eq-eqb (length b) (size A) (a .right-length))
     (first-pass 9 (every (λ a. ltb a p) b) [] (a .right-below) first-nil))))))
   where
@@ -199,24 +248,21 @@ accepted-system p A b a =
 abbrev pub AcceptedMatrix : ℕ → Matrix → Type 0
 AcceptedMatrix p A = AcceptedSystem p A (zeros (size A))
 
-modulus-of : (p : ℕ) (A : Matrix) → first (matrixChecks p A) ≡ 0 → isModulus p ≡ true
-unfolding matrixChecks
-modulus-of p A e = first-passed 3 (isModulus p) _ (omega arith) e .0
+zeros-right : (p n : ℕ) → 2 ≤ p → every (λ a. ltb a p) (zeros n) ≡ true
+zeros-right p n l =
+    every-of (λ a. ltb a p) (zeros n) 0
+    (λ i k. lt-ltb (at (zeros n) i) p (omega (arith, getD-table {A = ℕ} n (λ i. 0) i 0 (omega (arith, k, length-table {A = ℕ} n (λ i. 0))), l)))
 
-zeros-right : (p : ℕ) (A : Matrix) → 2 ≤ p → first (matrixChecks p A) ≡ 0 → first (systemChecks p A (zeros (size A))) ≡ 0
-unfolding systemChecks elements
-zeros-right p A l e =
-    first-append-none (matrixChecks p A) (check 8 (not (eqb (length (zeros (size A))) (size A))) ∷ check 9 (not (elements p (zeros (size A)))) ∷ []) (numbered-matrix p A) e
-    ∙ first-pass 8 (eqb (length (zeros (size A))) (size A)) _ (eq-eqb (length (zeros (size A))) (size A) (length-table (size A) (λ i. 0)))
-    (first-pass 9 (elements p (zeros (size A))) [] below first-nil)
-  where
-    below : every (λ a. ltb a p) (zeros (size A)) ≡ true
-    below =
-        every-of (λ a. ltb a p) (zeros (size A)) 0
-        (λ i k. lt-ltb (at (zeros (size A)) i) p (omega (arith, getD-table {A = ℕ} (size A) (λ i. 0) i 0 (omega (arith, k, length-table {A = ℕ} (size A) (λ i. 0))), l)))
+pub scaled-accepted : (p : ℕ) (A : Matrix) (X : List ℕ) → first (scaledChecks p A X) ≡ 0 → AcceptedMatrix p A
+scaled-accepted p A X e =
+    let c = scaled-passed p A X e in
+    known-system p A X (zeros (size A)) c (length-table (size A) (λ i. 0)) (zeros-right p (size A) (modulus-low p (c .prime)))
+
+pub scaled-scales : (p : ℕ) (A : Matrix) (X : List ℕ) → first (scaledChecks p A X) ≡ 0 → AcceptedScales p (size A) X
+scaled-scales p A X e = scaled-passed p A X e .scales
 
 pub matrix-accepted : (p : ℕ) (A : Matrix) → first (matrixChecks p A) ≡ 0 → AcceptedMatrix p A
-matrix-accepted p A e = system-accepted p A (zeros (size A)) (zeros-right p A (modulus-low p (modulus-of p A e)) e)
+matrix-accepted p A e = scaled-accepted p A [] e
 
 -- ---- every start, every entry, every element
 
@@ -255,37 +301,39 @@ module _ {p : ℕ} {A : Matrix} {b : List ℕ} (a : AcceptedSystem p A b) where
 
 -- ---- a run, and a call of the solver
 
-pub record AcceptedRun (p : ℕ) (A : Matrix) (b words : List ℕ) : Type 0 where
+pub record AcceptedRun (p : ℕ) (A : Matrix) (X b words : List ℕ) : Type 0 where
   pub system : AcceptedSystem p A b
+  pub scales : AcceptedScales p (size A) X
   pub words-taken : wordsTaken (size A) words ≡ true
 
-pub run-accepted : (p : ℕ) (A : Matrix) (b words : List ℕ) (w : ℕ) → first (runChecks p A b words w) ≡ 0 → AcceptedRun p A b words
+pub run-accepted : (p : ℕ) (A : Matrix) (X b words : List ℕ) (w : ℕ) → first (runChecks p A X b words w) ≡ 0 → AcceptedRun p A X b words
 unfolding runChecks
-run-accepted p A b words w e =
-    let both = first-append-zero (systemChecks p A b) (check 10 (not (wordsTaken (size A) words)) ∷ check 13 (not (windowTaken w)) ∷ []) (numbered-system p A b) e in
+run-accepted p A X b words w e =
+    let both = first-append-zero (systemChecks p A X b) (check 10 (not (wordsTaken (size A) words)) ∷ check 13 (not (windowTaken w)) ∷ []) (numbered-system p A X b) e in
     record {
-      system = system-accepted p A b (both .0);
+      system = system-accepted p A X b (both .0);
+      scales = system-scales p A X b (both .0);
       words-taken = first-passed 10 (wordsTaken (size A) words) _ (omega arith) (both .1) .0;
     }
 
 abbrev pub slicesTaken : ℕ → List ℕ → List ℕ → List ℕ → Bool
 slicesTaken n v f w = eqb (length v) n && eqb (length f) (n + 1) && leb (16 * n + 16) (length w)
 
-pub record AcceptedCall (p : ℕ) (A : Matrix) (b words v f work : List ℕ) : Type 0 where
-  pub run : AcceptedRun p A b words
+pub record AcceptedCall (p : ℕ) (A : Matrix) (X b words v f work : List ℕ) : Type 0 where
+  pub run : AcceptedRun p A X b words
   pub vector-size : length v ≡ size A
   pub polynomial-size : length f ≡ size A + 1
   pub room : 16 * size A + 16 ≤ length work
 
-pub call-accepted : (p : ℕ) (A : Matrix) (b words : List ℕ) (w : ℕ) (v f work : List ℕ) → solverRefusal p A b words w v f work ≡ 0
-    → AcceptedCall p A b words v f work
+pub call-accepted : (p : ℕ) (A : Matrix) (X b words : List ℕ) (w : ℕ) (v f work : List ℕ) → solverRefusal p A X b words w v f work ≡ 0
+    → AcceptedCall p A X b words v f work
 unfolding solverRefusal
-call-accepted p A b words w v f work e =
-    let both = first-append-zero (runChecks p A b words w) (check 11 (not (slicesTaken (size A) v f work)) ∷ []) (numbered-run p A b words w) e in
+call-accepted p A X b words w v f work e =
+    let both = first-append-zero (runChecks p A X b words w) (check 11 (not (slicesTaken (size A) v f work)) ∷ []) (numbered-run p A X b words w) e in
     let slices = first-passed 11 (slicesTaken (size A) v f work) [] (omega arith) (both .1) .0 in
     let lengths = and-left (eqb (length v) (size A) && eqb (length f) (size A + 1)) (leb (16 * size A + 16) (length work)) slices in
     record {
-      run = run-accepted p A b words w (both .0);
+      run = run-accepted p A X b words w (both .0);
       vector-size = eqb-true (length v) (size A) (and-left (eqb (length v) (size A)) (eqb (length f) (size A + 1)) lengths);
       polynomial-size = eqb-true (length f) (size A + 1) (and-right (eqb (length v) (size A)) (eqb (length f) (size A + 1)) lengths);
       room = leb-true (16 * size A + 16) (length work) (and-right (eqb (length v) (size A) && eqb (length f) (size A + 1)) (leb (16 * size A + 16) (length work)) slices);

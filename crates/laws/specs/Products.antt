@@ -5,6 +5,7 @@
 --     rows-entries                       the entries of the first i rows, by their starts
 --     per-product, every-product         of an accepted matrix: as many as it has
 --     product-by-entry, apply-by-entry, takes-by-entry, isNull-by-entry      what the calls answer, by the entries
+--     multiplied-scaled                  .. of AX: those of A
 --     every-run-by-entry                 of a run: applications × entries
 --     multiplied-most                    k products with at most m entries each
 use mathlib.Core.Path.{_≡_, refl, sym, ap, ap₂, _∙_}
@@ -15,9 +16,9 @@ use native.Mathlib.Numerals.{add-one}
 use native.Mathlib.Omega.{arith}
 use lib.ListN.{length}
 use Rattle.meaning.specs.List.{sum, sumFrom}
-use Rattle.meaning.specs.Matrix.{Matrix, size, entryCount, rowEntries, perProduct, multiplied}
+use Rattle.meaning.specs.Matrix.{Matrix, size, entryCount, rowEntries, perProduct, multiplied, scaled}
 use Rattle.meaning.specs.Refusal.{first, unlessRefused, matrixChecks}
-use Rattle.meaning.specs.Solver.{applications, close, solve}
+use Rattle.meaning.specs.Solver.{applications, close, outcome, answered, solve}
 use Rattle.meaning.specs.Calls.{productRefusal, productCount, applyRefusal, applyCount, systemChecks, takesRefusal, takesCount, isNullRefusal, isNullCount, EveryProduct, EveryRunByEntry}
 use Rattle.laws.specs.List.{sum-zero, sum-suc}
 use Rattle.laws.specs.Refusal.{first-append-zero, numbered-matrix, unlessRefused-some}
@@ -112,8 +113,13 @@ module _ (p : ℕ) (A : Matrix) where
       counted p A 1 (isNullRefusal p A w) (λ e. first-append-zero (matrixChecks p A) _ (numbered-matrix p A) e .0)
       ∙ one-each (isNullRefusal p A w)
 
+-- the entries that products with AX multiply are those of A
+pub multiplied-scaled : (p : ℕ) (A : Matrix) (X : List ℕ) (k : ℕ) → multiplied k (scaled p A X) ≡ multiplied k A
+unfolding multiplied perProduct
+multiplied-scaled p A X k = refl
+
 pub every-run-by-entry : EveryRunByEntry
-unfolding solve close
-every-run-by-entry p A b words w e =
-    let k = applications (solve p A b words w) in
-    multiplied-times A k ∙ ap (λ m. k * m) (accepted-entries (run-accepted p A b words w e .system))
+unfolding solve answered outcome close
+every-run-by-entry p A X b words w e =
+    let k = applications (solve p A X b words w) in
+    multiplied-scaled p A X k ∙ multiplied-times A k ∙ ap (λ m. k * m) (accepted-entries (run-accepted p A X b words w e .system))

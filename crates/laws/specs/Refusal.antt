@@ -5,7 +5,7 @@
 --     first-none                     where no check turns the input down, the first does not, nor do the rest
 --     first-passed, first-pass       the same of a check that asks whether something fails: it holds; and back
 --     Numbered cs                    no check is numbered 0
---     numbered-matrix, numbered-system, numbered-run, numbered-text      .. of document 01's
+--     numbered-scaled, numbered-matrix, numbered-system, numbered-run, numbered-text      .. of document 01's
 --     first-append-none, first-append-some, first-append, first-append-zero      checks followed by further ones
 --     zero-by, leading-refused, leading-passed      the same where the code has the leading checks' number
 --     no-words                       an empty list of words is taken
@@ -23,7 +23,7 @@ use lib.Dec.{eqb, leb}
 use borrow.Author.Tests.{eqb-false, not-true, not-false, eq-eqb, ne-eqb, le-leb, leb-true}
 use Rattle.meaning.specs.List.{every}
 use Rattle.meaning.specs.Matrix.{Matrix}
-use Rattle.meaning.specs.Refusal.{Check, check, first, unlessRefused, within, matrixChecks, wordsTaken, documentChecks}
+use Rattle.meaning.specs.Refusal.{Check, check, first, unlessRefused, within, scaledChecks, matrixChecks, wordsTaken, documentChecks}
 use Rattle.meaning.specs.Calls.{systemChecks, runChecks, textChecks}
 use Rattle.laws.specs.Bool.{and-left, and-right, and-both}
 use Rattle.laws.specs.List.{every-cons}
@@ -56,17 +56,20 @@ first-pass k t cs h e = first-past k (not t) cs (ap not h) ∙ e
 abbrev pub Numbered : List Check → Type 0
 Numbered cs = every (λ c. not (eqb (c .number) 0)) cs ≡ true
 
+pub numbered-scaled : (p : ℕ) (A : Matrix) (X : List ℕ) → Numbered (scaledChecks p A X)
+unfolding scaledChecks every
+numbered-scaled p A X = refl
+
 pub numbered-matrix : (p : ℕ) (A : Matrix) → Numbered (matrixChecks p A)
-unfolding matrixChecks every
-numbered-matrix p A = refl
+numbered-matrix p A = numbered-scaled p A []
 
-pub numbered-system : (p : ℕ) (A : Matrix) (b : List ℕ) → Numbered (systemChecks p A b)
-unfolding systemChecks matrixChecks every
-numbered-system p A b = refl
+pub numbered-system : (p : ℕ) (A : Matrix) (X b : List ℕ) → Numbered (systemChecks p A X b)
+unfolding systemChecks scaledChecks every
+numbered-system p A X b = refl
 
-pub numbered-run : (p : ℕ) (A : Matrix) (b words : List ℕ) (w : ℕ) → Numbered (runChecks p A b words w)
-unfolding runChecks systemChecks matrixChecks every
-numbered-run p A b words w = refl
+pub numbered-run : (p : ℕ) (A : Matrix) (X b words : List ℕ) (w : ℕ) → Numbered (runChecks p A X b words w)
+unfolding runChecks systemChecks scaledChecks every
+numbered-run p A X b words w = refl
 
 pub numbered-text : (text : List ℕ) → Numbered (textChecks text)
 unfolding textChecks documentChecks every
