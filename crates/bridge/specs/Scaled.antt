@@ -1,5 +1,5 @@
 -- Request (vi): AX does to v what A does to Xv.
---     length-diagonal, at-diagonal      Xv by its elements
+--     length-diagonal, at-diagonal, reduced-diagonal      Xv by its elements, which are below p
 --     length-scaled, at-scaled          the values of AX; the starts and columns are those of A
 --     row-scaled, product-scaled        a row of AX with v is, modulo p, that of A with Xv; so is the product
 --     diagonal-same, scaled-same        what counts of a list of scales is the scale of each column
@@ -28,6 +28,8 @@ use Rattle.laws.specs.Accepted.{modulus-low, AcceptedSystem, AcceptedScales}
 use Rattle.residue.specs.Numbers.{mul-mod-mod, mod-mul-mod}
 use Rattle.residue.specs.Prime.{Prime, isModulus-Prime}
 use Rattle.residue.specs.Inverse.{mul-mod-nonzero}
+use Rattle.residue.specs.Lists.{Reduced}
+use Rattle.bridge.specs.Lists.{reduced-table-mod}
 
 -- ---- by their elements
 
@@ -48,6 +50,10 @@ length-diagonal p X v = length-table (length v) (λ j. at v j * scaleAt X j % p)
 pub at-diagonal : (p : ℕ) (X v : List ℕ) (j : ℕ) → at (diagonal p X v) j ≡ at v j * scaleAt X j % p
 unfolding diagonal
 at-diagonal p X v j = at-times p v (scaleAt X) j
+
+pub reduced-diagonal : (p : ℕ) (X v : List ℕ) → 0 < p → Reduced p (diagonal p X v)
+unfolding diagonal
+reduced-diagonal p X v k = reduced-table-mod p (length v) (λ j. at v j * scaleAt X j) k
 
 pub length-scaled : (p : ℕ) (A : Matrix) (X : List ℕ) → length (scaledValues p A X) ≡ length (A .values)
 unfolding scaledValues
