@@ -1,5 +1,5 @@
 -- Laws of sums, tables and tests over lists of numbers (meaning's List).
---     sum-zero, sum-suc, sum-ext, sum-zeros, sum-add, sum-mod       sums
+--     sum-zero, sum-suc, sum-ext, sum-zeros, sum-add, sum-mod, sum-mod-ext      sums
 --     table-zero, table-suc, length-table, getD-table, getD-table-past, table-ext, table-of      tables
 --     all-zero, all-suc, all-at, all-of, all-not, all-ext           tests at 0 .. n − 1
 --     every-nil, every-cons, every-at, every-of, every-not, every-all      tests of each element
@@ -52,6 +52,11 @@ sum-mod p (suc n) f =
     ap (λ x. x % p) (sum-suc n (λ i. f i % p)) ∙ add-mod-mod (sum n (λ i. f i % p)) (f n) p
     ∙ sym (mod-add-mod (sum n (λ i. f i % p)) p (f n)) ∙ ap (λ x. (x + f n) % p) (sum-mod p n f)
     ∙ mod-add-mod (sum n f) p (f n) ∙ ap (λ x. x % p) (sym (sum-suc n f))
+
+-- terms that agree modulo p have sums that do
+pub sum-mod-ext : (p n : ℕ) (f g : ℕ → ℕ) → ((i : ℕ) → i < n → f i % p ≡ g i % p) → sum n f % p ≡ sum n g % p
+sum-mod-ext p n f g h =
+    sym (sum-mod p n f) ∙ ap (λ x. x % p) (sum-ext n (λ i. f i % p) (λ i. g i % p) h) ∙ sum-mod p n g
 
 -- ---- tables
 
