@@ -11,7 +11,8 @@
 --                      with a vector leave known
 --     scaled-sized, matrix-sized, system-sized      the starts' number
 --     product-refused, product-passed, product-accepted      a product's checks; what they leave known
---     Applicable, apply-accepted; takes-accepted             the same of g(A)v, and of the check that A takes x to b
+--     scaledApplyRefusal, scaledApplyAfter, apply-plain      g(AX)v, and without scales g(A)v
+--     Applicable, apply-accepted; takes-accepted             the same of g(AX)v, and of the check that A takes x to b
 use mathlib.Core.Path.{_≡_, refl, sym, ap, ap₂, _∙_, subst}
 use mathlib.Core.Logic.{_≢_}
 use mathlib.Core.Bool.{Bool, true, _&&_, _||_, not}
@@ -26,12 +27,12 @@ use lib.ListN.{length}
 use borrow.Author.Tests.{ltb-true, leb-true, eqb-true, eqb-false, lt-ltb, le-leb, lt-leb, ne-eqb, not-true}
 use Rattle.meaning.specs.List.{at, all, allFrom}
 use Rattle.meaning.specs.Field.{isModulus}
-use Rattle.meaning.specs.Matrix.{Matrix, matrix, size}
-use Rattle.meaning.specs.Refusal.{Check, check, first, within, sizeTaken, startsTaken, columnsTaken, elements, scaledChecks, matrixChecks}
+use Rattle.meaning.specs.Matrix.{Matrix, matrix, size, apply, scaled}
+use Rattle.meaning.specs.Refusal.{Check, check, first, unlessRefused, within, sizeTaken, startsTaken, columnsTaken, elements, scaledChecks, matrixChecks}
 use Rattle.meaning.specs.Calls.{systemChecks, productRefusal, applyRefusal, takesRefusal}
 use Rattle.laws.specs.Bool.{and-left, and-right, and-both, same-test}
 use Rattle.laws.specs.List.{all-zero, all-suc, all-at, all-of, every-all}
-use Rattle.laws.specs.Refusal.{first-passed, numbered-matrix, numbered-system, first-append-zero, zero-by, leading-refused, leading-passed}
+use Rattle.laws.specs.Refusal.{first-passed, numbered-scaled, numbered-matrix, numbered-system, first-append-zero, zero-by, leading-refused, leading-passed}
 use Rattle.laws.specs.Accepted as laws
 use Rattle.laws.specs.Accepted.{starts-known, starts-rise, scaled-accepted, scaled-scales}
 use Rattle.checks.specs.Valid.{Valid, Vector, ValidScaled, valid-of, scales-of, right-of, vector-of}
@@ -231,9 +232,20 @@ applyChecks p A g v out work =
     ∷ check 11 (not (eqb (length out) (size A) && leb (2 * size A) (length work)))
     ∷ []
 
--- what g(A)v needs that was not turned down
-pub record Applicable (p : ℕ) (A : Matrix) (g v out work : List ℕ) : Type 0 where
-  pub valid : Valid p A
+-- g(AX)v: the checks of g(A)v, with those of the scales
+unfoldable pub scaledApplyRefusal : ℕ → Matrix → List ℕ → List ℕ → List ℕ → List ℕ → List ℕ → ℕ
+scaledApplyRefusal p A X g v out work = first (scaledChecks p A X ++ applyChecks p A g v out work)
+
+abbrev pub scaledApplyAfter : ℕ → Matrix → List ℕ → List ℕ → List ℕ → List ℕ → List ℕ → List ℕ
+scaledApplyAfter p A X g v out work = unlessRefused (scaledApplyRefusal p A X g v out work) (apply p (scaled p A X) g v) out
+
+pub apply-plain : (p : ℕ) (A : Matrix) (g v out work : List ℕ) → scaledApplyRefusal p A [] g v out work ≡ applyRefusal p A g v out work
+unfolding scaledApplyRefusal applyRefusal
+apply-plain p A g v out work = refl
+
+-- what g(AX)v needs that was not turned down
+pub record Applicable (p : ℕ) (A : Matrix) (X g v out work : List ℕ) : Type 0 where
+  pub valid : ValidScaled p A X
   pub vector : Vector p (size A) v
   pub some : 0 < length g
   pub few : length g ≤ size A + 1
@@ -241,10 +253,10 @@ pub record Applicable (p : ℕ) (A : Matrix) (g v out work : List ℕ) : Type 0 
   pub places : length out ≡ size A
   pub room : 2 * size A ≤ length work
 
-pub apply-accepted : (p : ℕ) (A : Matrix) (g v out work : List ℕ) → applyRefusal p A g v out work ≡ 0 → Applicable p A g v out work
-unfolding applyRefusal
-apply-accepted p A g v out work e =
-    let both = first-append-zero (matrixChecks p A) (applyChecks p A g v out work) (numbered-matrix p A) e in
+pub apply-accepted : (p : ℕ) (A : Matrix) (X g v out work : List ℕ) → scaledApplyRefusal p A X g v out work ≡ 0 → Applicable p A X g v out work
+unfolding scaledApplyRefusal
+apply-accepted p A X g v out work e =
+    let both = first-append-zero (scaledChecks p A X) (applyChecks p A g v out work) (numbered-scaled p A X) e in
     let c8 = first-passed 8 (within 1 (size A + 1) (length g) && eqb (length v) (size A)) _ (omega arith) (both .1) in
     let c9 = first-passed 9 (elements p g && elements p v) _ (omega arith) (c8 .1) in
     let c11 = first-passed 11 (eqb (length out) (size A) && leb (2 * size A) (length work)) _ (omega arith) (c9 .1) in
@@ -253,7 +265,7 @@ apply-accepted p A g v out work e =
     let slices = c11 .0 in
     let range = and-left (within 1 (size A + 1) (length g)) (eqb (length v) (size A)) lengths in
     record {
-      valid = matrix-valid p A (both .0);
+      valid = scaled-valid p A X (both .0);
       vector =
           vector-of p v (size A) (eqb-true (length v) (size A) (and-right (within 1 (size A + 1) (length g)) (eqb (length v) (size A)) lengths))
           (and-right (elements p g) (elements p v) below);

@@ -13,9 +13,9 @@ ghost use lib.ListN.{length};
 ghost use Rattle.meaning.specs.List.{at, all, allFrom, every};
 ghost use Rattle.meaning.specs.Matrix.{matrix};
 ghost use Rattle.meaning.specs.Refusal.{wordsTaken, first, elements, sizeTaken, startsTaken, columnsTaken, valueTaken, scaleCountTaken, scaledChecks, matrixChecks};
-ghost use Rattle.meaning.specs.Calls.{systemChecks, productRefusal, applyRefusal, takesRefusal, recurrenceRefusal, solverRefusal};
+ghost use Rattle.meaning.specs.Calls.{systemChecks, productRefusal, takesRefusal, recurrenceRefusal, solverRefusal};
 ghost use Rattle.checks.specs.Pass.{residualAt, stateChecks, passRefusal};
-ghost use Rattle.checks.specs.Matrix.{columnTaken, rises, Ordered};
+ghost use Rattle.checks.specs.Matrix.{columnTaken, rises, Ordered, scaledApplyRefusal};
 
 // Products with a matrix: how many were made, and how many of its entries they multiplied.
 pub struct Products {
@@ -235,21 +235,22 @@ pub fn product_refusal(
     0
 }
 
-// What g(A)v into out is refused for.
+// What g(AX)v into out is refused for; without scales that is g(A)v.
 pub fn apply_refusal(
     p: u32,
     starts: &[u32],
     columns: &[u32],
     values: &[u32],
+    scales: &[u32],
     g: &[u32],
     v: &[u32],
     out: &[u32],
     work: &[u32],
 ) -> u32
-    ensures { λ r. ⌜ r ≡ applyRefusal p (matrix (now (starts .entry)) (now (columns .entry)) (now (values .entry)))
-        (now (g .entry)) (now (v .entry)) (now (out .entry)) (now (work .entry)) ⌝ }
+    ensures { λ r. ⌜ r ≡ scaledApplyRefusal p (matrix (now (starts .entry)) (now (columns .entry)) (now (values .entry)))
+        (now (scales .entry)) (now (g .entry)) (now (v .entry)) (now (out .entry)) (now (work .entry)) ⌝ }
 {
-    let number = matrix_refusal(p, starts, columns, values);
+    let number = scaled_refusal(p, starts, columns, values, scales);
     if number != 0 {
         return number;
     }

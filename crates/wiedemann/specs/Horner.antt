@@ -3,7 +3,8 @@
 --     step p A c x v   element i is c × x[i] plus the product of row i with v: Horner's step, and the product if c is 0
 --     row-reduced      a row's sum by the bounds that a loop over rows carries, reduced
 --     step-product     step p A 0 x v ≡ product p A v; step-made: what such a step leaves
---     sum-head, sum-scale, sum-swap, sum-mod-ext      laws of sums
+--     step-scaled      a step with AX from v is one with A from Xv
+--     sum-head, sum-scale, sum-swap      laws of sums
 --     power-zero, power-suc      the clauses of power
 --     combination      element j of g(A)v before it is reduced
 --     table-step, table-apply, at-product, at-apply      step, product and apply by their elements
@@ -23,9 +24,10 @@ use lib.ListN.{length, drop}
 use lib.Seq.{drop-cons, drop-length}
 use Rattle.meaning.specs.List.{at, sum, sumFrom, table}
 use Rattle.meaning.specs.Field.{times}
-use Rattle.meaning.specs.Matrix.{Matrix, size, product, power, apply}
-use Rattle.laws.specs.List.{sum-zero, sum-suc, sum-ext, sum-zeros, sum-add, sum-mod, length-table, getD-table, table-ext}
+use Rattle.meaning.specs.Matrix.{Matrix, size, product, power, apply, scaled, diagonal}
+use Rattle.laws.specs.List.{sum-zero, sum-suc, sum-ext, sum-zeros, sum-add, sum-mod, sum-mod-ext, length-table, getD-table, table-ext}
 use Rattle.residue.specs.Numbers.{mul-mod-mod}
+use Rattle.bridge.specs.Scaled.{row-scaled}
 use Rattle.checks.specs.Valid.{Valid, Vector, term, rowProduct, vector-table}
 use Rattle.modular.specs.declared.sums.Total.{Total}
 use Rattle.modular.specs.Total.{number}
@@ -57,6 +59,13 @@ step-product p A x v =
 pub step-made : (p q : ℕ) → q ≡ p → (A : Matrix) (x v w : List ℕ) → w ≡ step q A 0 x v → w ≡ product p A v
 step-made p q e A x v w made = made ∙ ap (λ m. step m A 0 x v) e ∙ step-product p A x v
 
+pub step-scaled : (p : ℕ) (A : Matrix) (X : List ℕ) (c : ℕ) (x v : List ℕ) → step p (scaled p A X) c x v ≡ step p A c x (diagonal p X v)
+unfolding step
+step-scaled p A X c x v =
+    table-ext (size A) (stepAt p (scaled p A X) c x v) (stepAt p A c x (diagonal p X v))
+    (λ i l. sym (add-mod-mod (c * at x i) (rowProduct (scaled p A X) v i) p) ∙ ap (λ s. (c * at x i + s) % p) (row-scaled p A X v i)
+    ∙ add-mod-mod (c * at x i) (rowProduct A (diagonal p X v) i) p)
+
 -- ---- sums
 
 -- (law of sums) the first term apart
@@ -75,11 +84,6 @@ sum-swap (suc m) n f =
     sum-suc m (λ i. sum n (λ j. f i j)) ∙ ap (λ x. x + sum n (λ j. f m j)) (sum-swap m n f)
     ∙ sym (sum-add n (λ j. sum m (λ i. f i j)) (λ j. f m j))
     ∙ sum-ext n (λ j. sum m (λ i. f i j) + f m j) (λ j. sum (suc m) (λ i. f i j)) (λ j l. sym (sum-suc m (λ i. f i j)))
-
--- terms that agree modulo p
-pub sum-mod-ext : (p n : ℕ) (f g : ℕ → ℕ) → ((i : ℕ) → i < n → f i % p ≡ g i % p) → sum n f % p ≡ sum n g % p
-sum-mod-ext p n f g h =
-    sym (sum-mod p n f) ∙ ap (λ x. x % p) (sum-ext n (λ i. f i % p) (λ i. g i % p) h) ∙ sum-mod p n g
 
 -- ---- powers and polynomials of a matrix
 
@@ -258,23 +262,23 @@ module _ {p : ℕ} {A : Matrix} {g v : List ℕ} {i : ℕ} {out work : List ℕ}
   pub turn-out : (i - 1) % 2 ≢ 0 → Vector p (size A) out
   turn-out n = subst (Vector p (size A)) (sym (made-even n)) (vector-apply p A (drop i g) v (valid .positive))
 
-  pub turn-to-even : {out′ : List ℕ} → (i - 1) % 2 ≡ 0 → out′ ≡ step p A (at g (i - 1)) v work → Turn p A g v (i - 1) out′ work
-  turn-to-even {out′} e made =
+  pub turn-to-even : {out′ work′ : List ℕ} → (i - 1) % 2 ≡ 0 → length work′ ≡ size A → out′ ≡ step p A (at g (i - 1)) v work → Turn p A g v (i - 1) out′ work′
+  turn-to-even {out′} e places made =
       let next = horner-goes-on p A valid g v i work out′ more (t .inside) (made-odd e) made in
       record {
         inside = omega (arith, t .inside);
         out-places = ap length next ∙ vector-apply p A (drop (i - 1) g) v (valid .positive) .places;
-        work-places = t .work-places;
+        work-places = places;
         even = λ z. next;
         odd = λ n. absurd (n e);
       }
 
-  pub turn-to-odd : {work′ : List ℕ} → (i - 1) % 2 ≢ 0 → work′ ≡ step p A (at g (i - 1)) v out → Turn p A g v (i - 1) out work′
-  turn-to-odd {work′} n made =
+  pub turn-to-odd : {out′ work′ : List ℕ} → (i - 1) % 2 ≢ 0 → length out′ ≡ size A → work′ ≡ step p A (at g (i - 1)) v out → Turn p A g v (i - 1) out′ work′
+  turn-to-odd {work′ = work′} n places made =
       let next = horner-goes-on p A valid g v i out work′ more (t .inside) (made-even n) made in
       record {
         inside = omega (arith, t .inside);
-        out-places = t .out-places;
+        out-places = places;
         work-places = ap length next ∙ vector-apply p A (drop (i - 1) g) v (valid .positive) .places;
         even = λ e. absurd (n e);
         odd = λ z. next;

@@ -8,7 +8,7 @@
 --     Shortened            terms, recurrence and f(A)r, in a slice of which the places from `base` on are r's and the first `kept` stay:
 --                          shortened, shortened-lent, shortened-window
 --     Makes, Answers       what a pass leaves; what each case of an answer says
---     Passes               what a call answers and leaves: the meaning's `pass` of what was held
+--     Passes               what a call answers and leaves: the meaning's `pass` of what was held, on AX
 --     shortened-factors    F and f are what the product asks
 --     made                 with F × f: a pass
 --     makes-passed, makes-modulus      .. its record counted together; the modulus by its other name
@@ -22,7 +22,7 @@ use native.Mathlib.Omega.{arith}
 use lib.ListN.{length, take, getD}
 use lib.Seq.{take-take}
 use Rattle.meaning.specs.List.{at, isZero}
-use Rattle.meaning.specs.Matrix.{Matrix, size, apply, multiplied}
+use Rattle.meaning.specs.Matrix.{Matrix, size, apply, multiplied, scaled}
 use Rattle.meaning.specs.Recurrence.{degree, generator}
 use Rattle.meaning.specs.Solver.{Pass, Run, projections, terms, multiply, passTerms, testAt, endPass, pass}
 use Rattle.residue.specs.Prime.{Prime}
@@ -186,8 +186,8 @@ abbrev pub Answers : ℕ → Matrix → ℕ → List ℕ → ℕ → List ℕ �
 Answers p A w u D W number (Made q) W′ = (number ≡ 0) × Makes p A w u D W q W′
 Answers p A w u D W number (Refused k) W′ = (number ≡ k) × (k ≢ 0) × (W′ ≡ W)
 
-abbrev pub Passes : ℕ → Matrix → List ℕ → ℕ → ℕ → ℕ → List ℕ → Passed → List ℕ → Type 0
-Passes p A words w j D W r W′ = Answers p A w (getD (projections p (size A) words) j []) D W (passRefusal p A words D W) r W′
+abbrev pub Passes : ℕ → Matrix → List ℕ → List ℕ → ℕ → ℕ → ℕ → List ℕ → Passed → List ℕ → Type 0
+Passes p A X words w j D W r W′ = Answers p (scaled p A X) w (getD (projections p (size A) words) j []) D W (passRefusal p A X words D W) r W′
 
 same-held : {r r′ F F′ : List ℕ} {D D′ : ℕ} {qs qs′ : List Pass} → r ≡ r′ → F ≡ F′ → D ≡ D′ → qs ≡ qs′
     → _≡_ {A = Run} (record { residual = r; factor = F; found = D; passes = qs }) (record { residual = r′; factor = F′; found = D′; passes = qs′ })
@@ -269,6 +269,6 @@ makes-passed {p} {A} {w} {u} {W} {W′} {D} {left} {q} k e long run =
     }
 
 -- the modulus by its other name
-pub makes-modulus : {m p : ℕ} {A : Matrix} {w : ℕ} (words : List ℕ) (j : ℕ) {D : ℕ} {W : List ℕ} {q : CodePass} {W′ : List ℕ} → m ≡ p
-    → Makes m A w (getD (projections m (size A) words) j []) D W q W′ → Makes p A w (getD (projections p (size A) words) j []) D W q W′
-makes-modulus {A} {w} words j {D} {W} {q} {W′} e h = subst (λ p. Makes p A w (getD (projections p (size A) words) j []) D W q W′) e h
+pub makes-modulus : {m p : ℕ} {A : Matrix} {X : List ℕ} {w : ℕ} (words : List ℕ) (j : ℕ) {D : ℕ} {W : List ℕ} {q : CodePass} {W′ : List ℕ} → m ≡ p
+    → Makes m (scaled m A X) w (getD (projections m (size A) words) j []) D W q W′ → Makes p (scaled p A X) w (getD (projections p (size A) words) j []) D W q W′
+makes-modulus {A} {X} {w} words j {D} {W} {q} {W′} e h = subst (λ p. Makes p (scaled p A X) w (getD (projections p (size A) words) j []) D W q W′) e h

@@ -3,7 +3,8 @@
 --     Other n from to        the region to write next: neither the first nor that at `from`
 --     regionAt n i           where the iterate after i products stands: region-first, region-odd, region-even; region-other: the next one
 --     Turning                what a product from one region into another asks
---     Advanced               what it leaves: Horner's step with r
+--     Prepared               the iterate times X, where the product will read it: prepared-none, prepared-first, prepared-other; prepared-turning
+--     Advanced               what a product leaves: Horner's step with r; advanced-scaled: with AX, of an iterate that was made ready
 --     regions, advanced, advanced-at      the step within the part that r and its iterates have is that
 --     Iterated               the terms of a sequence up to i, and Aⁱr in a region: iterated-none, iterated-more, iterated-from; Sequenced: all of
 --                            them, iterated-all; iterated-kept: what stands behind the terms is not asked
@@ -25,10 +26,11 @@ use lib.Dec.{eqb}
 use borrow.Author.Tests.{eq-eqb, ne-eqb}
 use Rattle.meaning.specs.List.{at, sum, padded}
 use Rattle.meaning.specs.Field.{times, isModulus}
-use Rattle.meaning.specs.Matrix.{Matrix, size, product, power, apply}
+use Rattle.meaning.specs.Matrix.{Matrix, size, product, power, apply, scaled, diagonal}
 use Rattle.meaning.specs.Recurrence.{degree, generator}
 use Rattle.meaning.specs.Solver.{dot, terms}
-use Rattle.laws.specs.List.{table-of}
+use Rattle.laws.specs.List.{length-none, table-of}
+use Rattle.bridge.specs.Scaled.{length-diagonal, diagonal-none}
 use Rattle.residue.specs.Prime.{Prime, isModulus-Prime}
 use Rattle.laws.specs.Recurrence.{monic-leading, degree-within, length-generator}
 use Rattle.bridge.specs.Recurrence.{isShortest}
@@ -37,10 +39,10 @@ use Rattle.laws.specs.Written.{Written}
 use Rattle.laws.specs.Part.{part, Apart, length-part, at-part, part-ext, written-part}
 use Rattle.wiedemann.specs.Region.{Regions}
 use Rattle.laws.specs.Part as region
-use Rattle.wiedemann.specs.Horner.{step, stepAt, table-step, step-product, power-zero, power-suc, apply-one, apply-cons, vector-product}
+use Rattle.wiedemann.specs.Horner.{step, stepAt, table-step, step-product, step-scaled, power-zero, power-suc, apply-one, apply-cons, vector-product}
 use Rattle.checks.specs.Valid.{vector-table}
 use Rattle.recurrence.specs.Recurrence.{HoldsGenerator}
-use Rattle.laws.specs.Lent.{part-at, part-cons, part-of-part, lent, length-lent, take-lent, inner-lent, same-take, same-after, written-take, written-drop, written-inner, take-padded}
+use Rattle.laws.specs.Lent.{part-at, part-cons, part-of-part, lent, length-lent, take-lent, part-lent, inner-lent, written-lent, same-take, same-after, written-take, written-drop, written-inner, take-padded}
 
 pub data Seat (n a : ℕ) : Type 0 where
   origin : a ≡ 0 → Seat n a
@@ -75,6 +77,13 @@ pub region-even : (n i : ℕ) → i ≢ 0 → i % 2 ≢ 1 → regionAt n i ≡ 2
 unfolding regionAt
 region-even n i l e =
     ap (λ t. cond t 0 (cond (eqb (i % 2) 1) n (2 * n))) (ne-eqb i 0 l) ∙ ap (λ t. cond t n (2 * n)) (ne-eqb (i % 2) 1 e)
+
+region-high : (n i : ℕ) → 0 < i → n ≤ regionAt n i
+region-high n i some = go (ℕ-discrete (i % 2) 1)
+  where
+    go : Dec (i % 2 ≡ 1) → n ≤ regionAt n i
+    go (yes e) = omega (arith, region-odd n i e)
+    go (no e) = omega (arith, region-even n i (λ z. omega (arith, z, some)) e)
 
 pub region-other : (n i : ℕ) → Other n (regionAt n i) (regionAt n (i + 1))
 region-other n i = go (ℕ-discrete i 0) (ℕ-discrete (i % 2) 1)
@@ -117,6 +126,138 @@ pub record Advanced (p : ℕ) (A : Matrix) (c : ℕ) (W : List ℕ) (from : ℕ)
   pub front : take (size A) W′ ≡ take (size A) W
   pub rest : drop (3 * size A) W′ ≡ drop (3 * size A) W
   pub holds : part to (size A) W′ ≡ step p A c (part 0 (size A) W) (part from (size A) W)
+
+pub record Prepared (p n i : ℕ) (X W : List ℕ) (at : ℕ) (W′ : List ℕ) : Type 0 where
+  pub seat : Seat n at
+  pub other : Other n at (regionAt n (i + 1))
+  pub same-length : length W′ ≡ length W
+  pub front : take n W′ ≡ take n W
+  pub rest : drop (3 * n) W′ ≡ drop (3 * n) W
+  pub holds : part at n W′ ≡ diagonal p X (part (regionAt n i) n W)
+
+-- ---- an iterate made ready for its product
+
+-- a part that was lent and written
+scaled-lent : (W : List ℕ) (a n : ℕ) (Y : List ℕ) → a + n ≤ length W → length Y ≡ n → Written W a n (at Y) (lent W a n Y)
+scaled-lent W a n Y fits long = written-lent W a n (at Y) Y fits (table-of 0 Y n (at Y) long (λ i l. refl))
+
+module _ {p n i : ℕ} {X W : List ℕ} (t : Turning p n (regionAt n i) W) where
+  low : regionAt n i ≤ 2 * n
+  low = seat-low (t .seat)
+
+  -- no scales
+  pub prepared-none : {at : ℕ} → at ≡ regionAt n i → length X ≡ 0 → Prepared p n i X W at W
+  prepared-none {at} e none =
+      subst (λ k. Prepared p n i X W k W) (sym e)
+      (record {
+        seat = t .seat;
+        other = region-other n i;
+        same-length = refl;
+        front = refl;
+        rest = refl;
+        holds =
+            sym (ap (λ Y. diagonal p Y (part (regionAt n i) n W)) (length-none X none)
+            ∙ diagonal-none p (part (regionAt n i) n W) (λ k l. t .elements .below k (omega (arith, l, t .elements .places))));
+      })
+
+  -- an iterate in its place
+  pub prepared-other : {at : ℕ} → at ≡ regionAt n i → 0 < i → Prepared p n i X W at (lent W at n (diagonal p X (part at n W)))
+  prepared-other {at} e some =
+      subst (λ k. Prepared p n i X W k (lent W k n (diagonal p X (part k n W)))) (sym e)
+      (record {
+        seat = t .seat;
+        other = region-other n i;
+        same-length = whole .same-length;
+        front = written-take n high (omega (arith, t .room)) whole;
+        rest = written-drop (3 * n) (omega (arith, low)) whole;
+        holds = part-lent W from n Y fits long;
+      })
+    where
+      from : ℕ
+      from = regionAt n i
+
+      Y : List ℕ
+      Y = diagonal p X (part from n W)
+
+      fits : from + n ≤ length W
+      fits = omega (arith, t .room, low)
+
+      long : length Y ≡ n
+      long = length-diagonal p X (part from n W) ∙ t .elements .places
+
+      high : n ≤ from
+      high = region-high n i some
+
+      whole : Written W from n (at Y) (lent W from n Y)
+      whole = scaled-lent W from n Y fits long
+
+  -- r, copied to the region that is idle then
+  pub prepared-first : {from idle : ℕ} {W₁ : List ℕ} → i ≡ 0 → from ≡ regionAt n i → idle ≡ 2 * n → Written W idle n (λ k. at W (from + k)) W₁
+      → Prepared p n i X W idle (lent W₁ idle n (diagonal p X (part idle n W₁)))
+  prepared-first {from} {idle} {W₁} first e seat w =
+      record {
+        seat = even seat;
+        other =
+            record {
+              seat = odd to;
+              high = omega (arith, to);
+              low = omega (arith, to);
+              apart = region.before (omega (arith, to, seat));
+            };
+        same-length = whole .same-length ∙ w .same-length;
+        front =
+            written-take n (omega (arith, seat)) (omega (arith, t .room, w .same-length)) whole
+            ∙ written-take n (omega (arith, seat)) (omega (arith, t .room)) w;
+        rest = written-drop (3 * n) (omega (arith, seat)) whole ∙ written-drop (3 * n) (omega (arith, seat)) w;
+        holds = part-lent W₁ idle n Y fits long ∙ ap (diagonal p X) copied;
+      }
+    where
+      to : regionAt n (i + 1) ≡ n
+      to = region-odd n (i + 1) (omega (arith, first))
+
+      fits : idle + n ≤ length W₁
+      fits = omega (arith, t .room, seat, w .same-length)
+
+      copied : part idle n W₁ ≡ part (regionAt n i) n W
+      copied =
+          written-part W idle n (λ k. at W (from + k)) W₁ (omega (arith, t .room, seat)) w
+          ∙ sym (table-of 0 (part (regionAt n i) n W) n (λ k. at W (from + k)) (t .elements .places)
+          (λ k l. at-part (regionAt n i) n W k l ∙ ap (λ a. at W (a + k)) (sym e)))
+
+      Y : List ℕ
+      Y = diagonal p X (part idle n W₁)
+
+      long : length Y ≡ n
+      long = length-diagonal p X (part idle n W₁) ∙ length-part idle n W₁ fits
+
+      whole : Written W₁ idle n (at Y) (lent W₁ idle n Y)
+      whole = scaled-lent W₁ idle n Y fits long
+
+-- what the product asks then
+pub prepared-turning : {p n i : ℕ} {X W : List ℕ} {at : ℕ} {W′ : List ℕ} → 0 < p → 3 * n ≤ length W → Vector p n (part (regionAt n i) n W)
+    → Prepared p n i X W at W′ → Turning p n at W′
+unfolding diagonal
+prepared-turning {p} {n} {i} {X} {W} {at} {W′} l room v h =
+    record {
+      seat = h .seat;
+      room = omega (arith, room, h .same-length);
+      elements =
+          subst (Vector p n) (sym (h .holds))
+          (subst (λ k. Vector p k (diagonal p X (part (regionAt n i) n W))) (v .places) (vector-table p (length (part (regionAt n i) n W)) _ l));
+    }
+
+pub advanced-scaled : {p : ℕ} {A : Matrix} {X : List ℕ} {i c at to : ℕ} {W W₁ W₂ : List ℕ} → Prepared p (size A) i X W at W₁ → Advanced p A c W₁ at W₂ to
+    → Advanced p (scaled p A X) c W (regionAt (size A) i) W₂ to
+advanced-scaled {p} {A} {X} {i} {c} {at} {to} {W} {W₁} {W₂} h a =
+    record {
+      seat = a .seat;
+      same-length = a .same-length ∙ h .same-length;
+      front = a .front ∙ h .front;
+      rest = a .rest ∙ h .rest;
+      holds =
+          a .holds ∙ ap₂ (step p A c) (h .front) (h .holds)
+          ∙ sym (step-scaled p A X c (part 0 (size A) W) (part (regionAt (size A) i) (size A) W));
+    }
 
 -- r and its iterates are lent, as a part of m = 3n places
 pub regions : {p n from to : ℕ} {W : List ℕ} (m : ℕ) → m ≡ 3 * n → Turning p n from W → Other n from to → Regions p n 0 from to (part 0 m W)

@@ -8,9 +8,10 @@ ghost use Rattle.meaning.specs.Field.{times};
 ghost use Rattle.modular.specs.Modulus.{Modular};
 ghost use Rattle.modular.specs.Total.{number};
 ghost use Rattle.modular.specs.Sums.{Summed};
-ghost use Rattle.meaning.specs.Matrix.{matrix, product, apply};
+ghost use Rattle.meaning.specs.Matrix.{matrix, product, apply, scaled};
 ghost use Rattle.meaning.specs.Calls.{productRefusal, productAfter, applyRefusal, applyAfter};
-ghost use Rattle.checks.specs.Valid.{Entries, term, Valid, Vector};
+ghost use Rattle.checks.specs.Matrix.{scaledApplyRefusal, scaledApplyAfter};
+ghost use Rattle.checks.specs.Valid.{Entries, term, Valid, ValidScaled, Vector};
 ghost use Rattle.wiedemann.specs.Horner.{step, stepAt};
 ghost use Rattle.laws.specs.Written.{Written};
 ghost use Rattle.laws.specs.Part.{part};
@@ -23,6 +24,7 @@ use checks::apply_refusal;
 use checks::product_refusal;
 use checks::wide;
 use field::Field;
+use modular::diagonal::scale;
 use modular::modulus::Modulus;
 use modular::multiplier::Multiplier;
 use modular::sums::Total;
@@ -206,23 +208,24 @@ fn multiple(m: Modulus, c: u32, v: &[u32], out: &mut [u32])
     }
 }
 
-// g(A)v into out by Horner's rule, by turns into work and into out, which has what is made of the even coefficients. Nothing is copied. The
-// answer is the products that it made: one for each coefficient after the first.
+// g(AX)v into out by Horner's rule, by turns into work and into out, which has what is made of the even coefficients; what a product reads is scaled
+// before it. Nothing is copied. The answer is the products that it made: one for each coefficient after the first.
 pub(crate) fn horner(
     m: Modulus,
     starts: &[u32],
     columns: &[u32],
     values: &[u32],
+    scales: &[u32],
     g: &[u32],
     v: &[u32],
     out: &mut [u32],
     work: &mut [u32],
 ) -> Products
-    requires { ⌜ Valid (m .p) (matrix (now starts) (now columns) (now values)) ⌝ }
+    requires { ⌜ ValidScaled (m .p) (matrix (now starts) (now columns) (now values)) (now scales) ⌝ }
     requires { ⌜ Modular m × (length (now out) ≡ length (now starts) - 1) × (length (now work) ≡ length (now starts) - 1)
         × Vector (m .p) (length (now starts) - 1) (now v) × (0 < length (now g)) × (length (now g) ≤ 4097) × Vector (m .p) (length (now g)) (now g) ⌝ }
-    ensures { λ done. ⌜ (done ≡ productsWith (length (now (g .entry)) - 1) (matrix (now (starts .entry)) (now (columns .entry)) (now (values .entry))))
-        × (now (out .exit) ≡ apply (m .p) (matrix (now (starts .entry)) (now (columns .entry)) (now (values .entry))) (now (g .entry)) (now (v .entry))) ⌝ }
+    ensures { λ done. ⌜ (done ≡ productsWith (length (now (g .entry)) - 1) (scaled (m .p) (matrix (now (starts .entry)) (now (columns .entry)) (now (values .entry))) (now (scales .entry))))
+        × (now (out .exit) ≡ apply (m .p) (scaled (m .p) (matrix (now (starts .entry)) (now (columns .entry)) (now (values .entry))) (now (scales .entry))) (now (g .entry)) (now (v .entry))) ⌝ }
 {
     let mut done = Products {
         made: 0,
@@ -237,8 +240,10 @@ pub(crate) fn horner(
     while 0 < i {
         i -= 1;
         if i % 2 == 0 {
+            scale(m, scales, work);
             done = plus(done, step(m, g[i], v, starts, columns, values, work, out));
         } else {
+            scale(m, scales, out);
             done = plus(done, step(m, g[i], v, starts, columns, values, out, work));
         }
     }
@@ -269,6 +274,47 @@ pub fn product(
     Writing::Done(done)
 }
 
+// g(AX)v into out.
+pub fn apply_scaled(
+    field: Field,
+    starts: &[u32],
+    columns: &[u32],
+    values: &[u32],
+    scales: &[u32],
+    g: &[u32],
+    v: &[u32],
+    out: &mut [u32],
+    work: &mut [u32],
+) -> Writing
+    ensures { λ r. ⌜ Writes r (scaledApplyRefusal (field .p) (matrix (now (starts .entry)) (now (columns .entry)) (now (values .entry)))
+        (now (scales .entry)) (now (g .entry)) (now (v .entry)) (now (out .entry)) (now (work .entry))) (length (now (g .entry)) - 1)
+        (matrix (now (starts .entry)) (now (columns .entry)) (now (values .entry))) ⌝ }
+    ensures { λ r. ⌜ now (out .exit) ≡ scaledApplyAfter (field .p) (matrix (now (starts .entry)) (now (columns .entry)) (now (values .entry)))
+        (now (scales .entry)) (now (g .entry)) (now (v .entry)) (now (out .entry)) (now (work .entry)) ⌝ }
+    ensures { λ r. ⌜ (scaledApplyRefusal (field .p) (matrix (now (starts .entry)) (now (columns .entry)) (now (values .entry)))
+        (now (scales .entry)) (now (g .entry)) (now (v .entry)) (now (out .entry)) (now (work .entry)) ≢ 0 → now (work .exit) ≡ now (work .entry)) ⌝ }
+{
+    let p = field.p;
+    let number = apply_refusal(p, starts, columns, values, scales, g, v, out, work);
+    if number != 0 {
+        return Writing::Refused(number);
+    }
+    let front: usize = 0;
+    let n = v.len();
+    let done = horner(
+        Modulus::of(p),
+        starts,
+        columns,
+        values,
+        scales,
+        g,
+        v,
+        out,
+        &mut work[front..n],
+    );
+    Writing::Done(done)
+}
+
 // g(A)v into out.
 pub fn apply(
     field: Field,
@@ -288,22 +334,5 @@ pub fn apply(
     ensures { λ r. ⌜ (applyRefusal (field .p) (matrix (now (starts .entry)) (now (columns .entry)) (now (values .entry)))
         (now (g .entry)) (now (v .entry)) (now (out .entry)) (now (work .entry)) ≢ 0 → now (work .exit) ≡ now (work .entry)) ⌝ }
 {
-    let p = field.p;
-    let number = apply_refusal(p, starts, columns, values, g, v, out, work);
-    if number != 0 {
-        return Writing::Refused(number);
-    }
-    let front: usize = 0;
-    let n = v.len();
-    let done = horner(
-        Modulus::of(p),
-        starts,
-        columns,
-        values,
-        g,
-        v,
-        out,
-        &mut work[front..n],
-    );
-    Writing::Done(done)
+    apply_scaled(field, starts, columns, values, &[], g, v, out, work)
 }

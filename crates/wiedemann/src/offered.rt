@@ -108,7 +108,7 @@ pub fn is_null(field: Field, starts: &[u32], columns: &[u32], values: &[u32], w:
         (matrix (now (starts .entry)) (now (columns .entry)) (now (values .entry))) ⌝ }
 {
     let p = field.p;
-    let number = system_refusal(p, starts, columns, values, w);
+    let number = system_refusal(p, starts, columns, values, &[], w);
     if number != 0 {
         return Offered::Refused(number);
     }

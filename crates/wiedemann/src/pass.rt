@@ -7,13 +7,13 @@ ghost use mathlib.Core.List.{[]};
 ghost use Prim.Native.Nat.{_+_, _-_, _*_, _≤_, _<_};
 ghost use lib.ListN.{length, getD, set};
 ghost use Rattle.meaning.specs.Field.{isModulus};
-ghost use Rattle.meaning.specs.Matrix.{matrix};
+ghost use Rattle.meaning.specs.Matrix.{matrix, scaled, diagonal};
 ghost use Rattle.meaning.specs.Solver.{projections, dot};
 ghost use Rattle.modular.specs.Modulus.{Modular};
-ghost use Rattle.checks.specs.Valid.{Valid, Vector};
+ghost use Rattle.checks.specs.Valid.{ValidScaled, Scales, Vector};
 ghost use Rattle.laws.specs.Part.{part};
 ghost use Rattle.wiedemann.specs.Projection.{Words};
-ghost use Rattle.wiedemann.specs.Turns.{regionAt, Turning, Advanced, Sequenced, Leading, Applied, Generated};
+ghost use Rattle.wiedemann.specs.Turns.{regionAt, Turning, Prepared, Advanced, Sequenced, Leading, Applied, Generated};
 ghost use Rattle.wiedemann.specs.Pass.{generatorAt, Shortened, Makes, Passes};
 ghost use Rattle.checks.specs.Pass.{State};
 ghost use Rattle.checks.specs.Products.{Few, added, productsWith};
@@ -26,6 +26,7 @@ use checks::Products;
 use checks::pass_refusal;
 use checks::residual_at;
 use field::Field;
+use modular::diagonal::scale;
 use modular::modulus::Modulus;
 use recurrence::Answer;
 use recurrence::factor::multiply;
@@ -43,26 +44,46 @@ pub(crate) fn region(n: usize, i: usize) -> usize
     if i % 2 == 1 { n } else { 2 * n }
 }
 
-// Horner's step after some products: c × r plus A times the iterate, into the next region. r and the iterates are lent to it. The answer is the
-// products that there are then.
+// The iterate after i products made ready for the next one: times X, in its place, or r, which stays, in the region that is idle then. Nothing is done
+// where there are no scales. The answer is where it stands.
+fn prepare(m: Modulus, scales: &[u32], n: usize, area: &mut [u32], i: usize) -> usize
+    requires { ⌜ Modular m × (n ≤ 4096) × Scales (m .p) n (now scales) × Turning (m .p) n (regionAt n i) (now area) ⌝ }
+    ensures { λ at. ⌜ Prepared (m .p) n i (now (scales .entry)) (now (area .entry)) at (now (area .exit)) ⌝ }
+{
+    let from = region(n, i);
+    if scales.len() == 0 {
+        return from;
+    }
+    let at = if i == 0 { 2 * n } else { from };
+    if i == 0 {
+        copy_within(area, from, at, n);
+    }
+    let end = at + n;
+    scale(m, scales, &mut area[at..end]);
+    at
+}
+
+// Horner's step after some products: c × r plus AX times the iterate, into the next region; for that the iterate is scaled first. r and the iterates
+// are lent to it. The answer is the products that there are then.
 pub(crate) fn advance(
     m: Modulus,
     c: u32,
     starts: &[u32],
     columns: &[u32],
     values: &[u32],
+    scales: &[u32],
     area: &mut [u32],
     done: Products,
 ) -> Products
-    requires { ⌜ Valid (m .p) (matrix (now starts) (now columns) (now values)) ⌝ }
+    requires { ⌜ ValidScaled (m .p) (matrix (now starts) (now columns) (now values)) (now scales) ⌝ }
     requires { ⌜ Modular m × Turning (m .p) (length (now starts) - 1) (regionAt (length (now starts) - 1) (done .made)) (now area) × Few done ⌝ }
-    ensures { λ r. ⌜ (r ≡ added done (productsWith 1 (matrix (now (starts .entry)) (now (columns .entry)) (now (values .entry)))))
-        × Advanced (m .p) (matrix (now (starts .entry)) (now (columns .entry)) (now (values .entry))) c
+    ensures { λ r. ⌜ (r ≡ added done (productsWith 1 (scaled (m .p) (matrix (now (starts .entry)) (now (columns .entry)) (now (values .entry))) (now (scales .entry)))))
+        × Advanced (m .p) (scaled (m .p) (matrix (now (starts .entry)) (now (columns .entry)) (now (values .entry))) (now (scales .entry))) c
         (now (area .entry)) (regionAt (length (now (starts .entry)) - 1) (done .made))
         (now (area .exit)) (regionAt (length (now (starts .entry)) - 1) (r .made)) ⌝ }
 {
     let n = starts.len() - 1;
-    let from = region(n, done.made);
+    let from = prepare(m, scales, n, area, done.made);
     let to = region(n, done.made + 1);
     let r: usize = 0;
     let end = 3 * n;
@@ -106,17 +127,18 @@ fn terms(
     starts: &[u32],
     columns: &[u32],
     values: &[u32],
+    scales: &[u32],
     words: &[u32],
     u: Projection,
     area: &mut [u32],
     left: usize,
 ) -> Products
-    requires { ⌜ Valid (m .p) (matrix (now starts) (now columns) (now values)) ⌝ }
+    requires { ⌜ ValidScaled (m .p) (matrix (now starts) (now columns) (now values)) (now scales) ⌝ }
     requires { ⌜ Modular m × (0 < left) × (left ≤ 4096) × Words (length (now starts) - 1) (u .vectors) (now words) ⌝ }
     requires { ⌜ (3 * (length (now starts) - 1) + 2 * left ≤ length (now area))
         × Vector (m .p) (length (now starts) - 1) (part 0 (length (now starts) - 1) (now area)) ⌝ }
-    ensures { λ done. ⌜ (done ≡ productsWith (2 * left - 1) (matrix (now (starts .entry)) (now (columns .entry)) (now (values .entry))))
-        × Sequenced (m .p) (matrix (now (starts .entry)) (now (columns .entry)) (now (values .entry))) left
+    ensures { λ done. ⌜ (done ≡ productsWith (2 * left - 1) (scaled (m .p) (matrix (now (starts .entry)) (now (columns .entry)) (now (values .entry))) (now (scales .entry))))
+        × Sequenced (m .p) (scaled (m .p) (matrix (now (starts .entry)) (now (columns .entry)) (now (values .entry))) (now (scales .entry))) left
         (getD (projections (m .p) (length (now (starts .entry)) - 1) (now (words .entry))) (u .index) [])
         (now (area .entry)) (now (area .exit)) ⌝ }
 {
@@ -127,7 +149,7 @@ fn terms(
     };
     term(m, words, u, n, area, region(n, done.made), done.made);
     while done.made + 1 < 2 * left {
-        done = advance(m, 0, starts, columns, values, area, done);
+        done = advance(m, 0, starts, columns, values, scales, area, done);
         term(m, words, u, n, area, region(n, done.made), done.made);
     }
     done
@@ -153,14 +175,15 @@ pub(crate) fn apply_within(
     starts: &[u32],
     columns: &[u32],
     values: &[u32],
+    scales: &[u32],
     area: &mut [u32],
     f: usize,
     t: usize,
 ) -> Products
-    requires { ⌜ Valid (m .p) (matrix (now starts) (now columns) (now values)) ⌝ }
+    requires { ⌜ ValidScaled (m .p) (matrix (now starts) (now columns) (now values)) (now scales) ⌝ }
     requires { ⌜ Modular m × (t ≤ 8192) × Leading (m .p) (length (now starts) - 1) (now area) f t ⌝ }
-    ensures { λ done. ⌜ (done ≡ productsWith t (matrix (now (starts .entry)) (now (columns .entry)) (now (values .entry))))
-        × Applied (m .p) (matrix (now (starts .entry)) (now (columns .entry)) (now (values .entry)))
+    ensures { λ done. ⌜ (done ≡ productsWith t (scaled (m .p) (matrix (now (starts .entry)) (now (columns .entry)) (now (values .entry))) (now (scales .entry))))
+        × Applied (m .p) (scaled (m .p) (matrix (now (starts .entry)) (now (columns .entry)) (now (values .entry))) (now (scales .entry)))
         (now (area .entry)) f t (now (area .exit)) ⌝ }
 {
     let mut done = Products {
@@ -171,7 +194,7 @@ pub(crate) fn apply_within(
     while 0 < i {
         i -= 1;
         let c = area[f + i];
-        done = advance(m, c, starts, columns, values, area, done);
+        done = advance(m, c, starts, columns, values, scales, area, done);
     }
     let n = starts.len() - 1;
     let r: usize = 0;
@@ -194,23 +217,24 @@ fn factor_of_terms(
     starts: &[u32],
     columns: &[u32],
     values: &[u32],
+    scales: &[u32],
     words: &[u32],
     u: Projection,
     area: &mut [u32],
     left: usize,
 ) -> Pass
-    requires { ⌜ Valid (m .p) (matrix (now starts) (now columns) (now values)) × (isModulus (m .p) ≡ true) ⌝ }
+    requires { ⌜ ValidScaled (m .p) (matrix (now starts) (now columns) (now values)) (now scales) × (isModulus (m .p) ≡ true) ⌝ }
     requires { ⌜ Modular m × (0 < left) × (left ≤ 4096) × Words (length (now starts) - 1) (u .vectors) (now words) ⌝ }
     requires { ⌜ (3 * (length (now starts) - 1) + (8 * left + 8) ≤ length (now area))
         × Vector (m .p) (length (now starts) - 1) (part 0 (length (now starts) - 1) (now area)) ⌝ }
-    ensures { λ q. ⌜ Shortened (m .p) (matrix (now (starts .entry)) (now (columns .entry)) (now (values .entry))) 0
+    ensures { λ q. ⌜ Shortened (m .p) (scaled (m .p) (matrix (now (starts .entry)) (now (columns .entry)) (now (values .entry))) (now (scales .entry))) 0
         (getD (projections (m .p) (length (now (starts .entry)) - 1) (now (words .entry))) (u .index) []) left 0 0
         (now (area .entry)) q (now (area .exit)) ⌝ }
 {
     let n = starts.len() - 1;
-    let first = terms(m, starts, columns, values, words, u, area, left);
+    let first = terms(m, starts, columns, values, scales, words, u, area, left);
     let t = recurrence_of_terms(m, area, 3 * n, 2 * left);
-    let more = apply_within(m, starts, columns, values, area, 3 * n + (2 * left + 2), t);
+    let more = apply_within(m, starts, columns, values, scales, area, 3 * n + (2 * left + 2), t);
     let done = plus(first, more);
     Pass {
         left,
@@ -226,25 +250,26 @@ fn take_factor(
     starts: &[u32],
     columns: &[u32],
     values: &[u32],
+    scales: &[u32],
     words: &[u32],
     u: Projection,
     area: &mut [u32],
     left: usize,
     window: u32,
 ) -> Pass
-    requires { ⌜ Valid (m .p) (matrix (now starts) (now columns) (now values)) × (isModulus (m .p) ≡ true) ⌝ }
+    requires { ⌜ ValidScaled (m .p) (matrix (now starts) (now columns) (now values)) (now scales) × (isModulus (m .p) ≡ true) ⌝ }
     requires { ⌜ Modular m × (0 < left) × (left ≤ 4096) × Words (length (now starts) - 1) (u .vectors) (now words) ⌝ }
     requires { ⌜ (6 * (length (now starts) - 1) + (8 * left + 8) ≤ length (now area))
         × Vector (m .p) (length (now starts) - 1) (part (3 * (length (now starts) - 1)) (length (now starts) - 1) (now area)) ⌝ }
-    ensures { λ q. ⌜ Shortened (m .p) (matrix (now (starts .entry)) (now (columns .entry)) (now (values .entry))) window
+    ensures { λ q. ⌜ Shortened (m .p) (scaled (m .p) (matrix (now (starts .entry)) (now (columns .entry)) (now (values .entry))) (now (scales .entry))) window
         (getD (projections (m .p) (length (now (starts .entry)) - 1) (now (words .entry))) (u .index) []) left 0 (3 * (length (now (starts .entry)) - 1))
         (now (area .entry)) q (now (area .exit)) ⌝ }
 {
     if window == 0 {
         let r = 3 * (starts.len() - 1);
-        return factor_of_terms(m, starts, columns, values, words, u, &mut area[r..], left);
+        return factor_of_terms(m, starts, columns, values, scales, words, u, &mut area[r..], left);
     }
-    factor_by_window(m, starts, columns, values, words, u, area, left, window)
+    factor_by_window(m, starts, columns, values, scales, words, u, area, left, window)
 }
 
 // ---- the call
@@ -270,15 +295,16 @@ fn pass_of_state(
     starts: &[u32],
     columns: &[u32],
     values: &[u32],
+    scales: &[u32],
     words: &[u32],
     window: u32,
     j: usize,
     d: usize,
     work: &mut [u32],
 ) -> Pass
-    requires { ⌜ Valid (m .p) (matrix (now starts) (now columns) (now values)) × (isModulus (m .p) ≡ true) × Modular m ⌝ }
+    requires { ⌜ ValidScaled (m .p) (matrix (now starts) (now columns) (now values)) (now scales) × (isModulus (m .p) ≡ true) × Modular m ⌝ }
     requires { ⌜ State (m .p) (length (now starts) - 1) d (now words) (now work) ⌝ }
-    ensures { λ q. ⌜ Makes (m .p) (matrix (now (starts .entry)) (now (columns .entry)) (now (values .entry))) window
+    ensures { λ q. ⌜ Makes (m .p) (scaled (m .p) (matrix (now (starts .entry)) (now (columns .entry)) (now (values .entry))) (now (scales .entry))) window
         (getD (projections (m .p) (length (now (starts .entry)) - 1) (now (words .entry))) j []) d (now (work .entry)) q (now (work .exit)) ⌝ }
 {
     let n = starts.len() - 1;
@@ -293,6 +319,7 @@ fn pass_of_state(
         starts,
         columns,
         values,
+        scales,
         words,
         u,
         &mut work[first..],
@@ -306,26 +333,27 @@ fn pass_of_state(
     q
 }
 
-// A pass with projection j and the window of the run whose r and F, of degree d, stand in the work slice. It asks nothing of how the run came there, and
+// A pass on AX with projection j and the window of the run whose r and F, of degree d, stand in the work slice. It asks nothing of how the run came there, and
 // refuses what is no such state; any window is one.
 pub fn make_pass(
     field: Field,
     starts: &[u32],
     columns: &[u32],
     values: &[u32],
+    scales: &[u32],
     words: &[u32],
     window: u32,
     j: usize,
     d: usize,
     work: &mut [u32],
 ) -> Passed
-    ensures { λ r. ⌜ Passes (field .p) (matrix (now (starts .entry)) (now (columns .entry)) (now (values .entry)))
+    ensures { λ r. ⌜ Passes (field .p) (matrix (now (starts .entry)) (now (columns .entry)) (now (values .entry))) (now (scales .entry))
         (now (words .entry)) window j d (now (work .entry)) r (now (work .exit)) ⌝ }
 {
-    let number = pass_refusal(field.p, starts, columns, values, words, d, work);
+    let number = pass_refusal(field.p, starts, columns, values, scales, words, d, work);
     if number != 0 {
         return Passed::Refused(number);
     }
     let m = Modulus::of(field.p);
-    Passed::Made(pass_of_state(m, starts, columns, values, words, window, j, d, work))
+    Passed::Made(pass_of_state(m, starts, columns, values, scales, words, window, j, d, work))
 }

@@ -8,10 +8,10 @@ ghost use lib.Dec.{eqb, ltb};
 ghost use lib.ListN.{length, getD};
 ghost use Rattle.meaning.specs.List.{at};
 ghost use Rattle.meaning.specs.Field.{isModulus};
-ghost use Rattle.meaning.specs.Matrix.{matrix};
+ghost use Rattle.meaning.specs.Matrix.{matrix, scaled};
 ghost use Rattle.meaning.specs.Solver.{projections};
 ghost use Rattle.modular.specs.Modulus.{Modular};
-ghost use Rattle.checks.specs.Valid.{Valid, Vector};
+ghost use Rattle.checks.specs.Valid.{ValidScaled, Vector};
 ghost use Rattle.checks.specs.Products.{productsWith};
 ghost use Rattle.laws.specs.Part.{part};
 ghost use Rattle.wiedemann.specs.Projection.{Words};
@@ -121,15 +121,16 @@ fn listen_first(
     starts: &[u32],
     columns: &[u32],
     values: &[u32],
+    scales: &[u32],
     words: &[u32],
     u: Projection,
     area: &mut [u32],
     left: usize,
 ) -> Heard
-    requires { ⌜ Valid (m .p) (matrix (now starts) (now columns) (now values)) × (isModulus (m .p) ≡ true) ⌝ }
+    requires { ⌜ ValidScaled (m .p) (matrix (now starts) (now columns) (now values)) (now scales) × (isModulus (m .p) ≡ true) ⌝ }
     requires { ⌜ Modular m × (0 < left) × (left ≤ 4096) × Words (length (now starts) - 1) (u .vectors) (now words) ⌝ }
     requires { ⌜ Room (length (now starts) - 1) left (now area) × Vector (m .p) (length (now starts) - 1) (part 0 (length (now starts) - 1) (now area)) ⌝ }
-    ensures { λ h. ⌜ Listening (m .p) (matrix (now (starts .entry)) (now (columns .entry)) (now (values .entry))) left
+    ensures { λ h. ⌜ Listening (m .p) (scaled (m .p) (matrix (now (starts .entry)) (now (columns .entry)) (now (values .entry))) (now (scales .entry))) left
         (getD (projections (m .p) (length (now (starts .entry)) - 1) (now (words .entry))) (u .index) []) (now (area .entry)) h (now (area .exit)) × (h .terms ≡ 1) ⌝ }
 {
     let n = starts.len() - 1;
@@ -147,24 +148,25 @@ fn listen_next(
     starts: &[u32],
     columns: &[u32],
     values: &[u32],
+    scales: &[u32],
     words: &[u32],
     u: Projection,
     area: &mut [u32],
     left: usize,
     heard: Heard,
 ) -> Heard
-    requires { ⌜ Valid (m .p) (matrix (now starts) (now columns) (now values)) × (isModulus (m .p) ≡ true) ⌝ }
+    requires { ⌜ ValidScaled (m .p) (matrix (now starts) (now columns) (now values)) (now scales) × (isModulus (m .p) ≡ true) ⌝ }
     requires { ⌜ Modular m × (0 < left) × (left ≤ 4096) × Words (length (now starts) - 1) (u .vectors) (now words) ⌝ }
     requires { ⌜ Room (length (now starts) - 1) left (now area) × Vector (m .p) (length (now starts) - 1) (part 0 (length (now starts) - 1) (now area)) ⌝ }
-    requires { ⌜ Listening (m .p) (matrix (now starts) (now columns) (now values)) left
+    requires { ⌜ Listening (m .p) (scaled (m .p) (matrix (now starts) (now columns) (now values)) (now scales)) left
         (getD (projections (m .p) (length (now starts) - 1) (now words)) (u .index) []) (now area) heard (now area) × (heard .terms < 2 * left) ⌝ }
-    ensures { λ h. ⌜ Listening (m .p) (matrix (now (starts .entry)) (now (columns .entry)) (now (values .entry))) left
+    ensures { λ h. ⌜ Listening (m .p) (scaled (m .p) (matrix (now (starts .entry)) (now (columns .entry)) (now (values .entry))) (now (scales .entry))) left
         (getD (projections (m .p) (length (now (starts .entry)) - 1) (now (words .entry))) (u .index) []) (now (area .entry)) h (now (area .exit)) × (h .terms ≡ heard .terms + 1) ⌝ }
 {
     let n = starts.len() - 1;
     let steps = heard.steps;
     let before = heard.done;
-    let done = advance(m, 0, starts, columns, values, area, before);
+    let done = advance(m, 0, starts, columns, values, scales, area, before);
     hear(m, words, u, n, area, left, done, steps, heard.zeros)
 }
 
@@ -191,6 +193,7 @@ fn listen(
     starts: &[u32],
     columns: &[u32],
     values: &[u32],
+    scales: &[u32],
     words: &[u32],
     u: Projection,
     area: &mut [u32],
@@ -198,19 +201,19 @@ fn listen(
     window: u32,
     from: Heard,
 ) -> Heard
-    requires { ⌜ Valid (m .p) (matrix (now starts) (now columns) (now values)) × (isModulus (m .p) ≡ true) ⌝ }
+    requires { ⌜ ValidScaled (m .p) (matrix (now starts) (now columns) (now values)) (now scales) × (isModulus (m .p) ≡ true) ⌝ }
     requires { ⌜ Modular m × (0 < left) × (left ≤ 4096) × Words (length (now starts) - 1) (u .vectors) (now words) ⌝ }
     requires { ⌜ Room (length (now starts) - 1) left (now area) × Vector (m .p) (length (now starts) - 1) (part 0 (length (now starts) - 1) (now area)) ⌝ }
-    requires { ⌜ Listening (m .p) (matrix (now starts) (now columns) (now values)) left
+    requires { ⌜ Listening (m .p) (scaled (m .p) (matrix (now starts) (now columns) (now values)) (now scales)) left
         (getD (projections (m .p) (length (now starts) - 1) (now words)) (u .index) []) (now area) from (now area) ⌝ }
-    requires { ⌜ Unasked (m .p) (matrix (now starts) (now columns) (now values)) left window (getD (projections (m .p) (length (now starts) - 1) (now words)) (u .index) [])
+    requires { ⌜ Unasked (m .p) (scaled (m .p) (matrix (now starts) (now columns) (now values)) (now scales)) left window (getD (projections (m .p) (length (now starts) - 1) (now words)) (u .index) [])
         (part 0 (length (now starts) - 1) (now area)) (from .terms) ⌝ }
-    ensures { λ h. ⌜ Listened (m .p) (matrix (now (starts .entry)) (now (columns .entry)) (now (values .entry))) left window
+    ensures { λ h. ⌜ Listened (m .p) (scaled (m .p) (matrix (now (starts .entry)) (now (columns .entry)) (now (values .entry))) (now (scales .entry))) left window
         (getD (projections (m .p) (length (now (starts .entry)) - 1) (now (words .entry))) (u .index) []) (now (area .entry)) h (now (area .exit)) ⌝ }
 {
     let mut heard = from;
     while goes_on(window, left, heard) {
-        heard = listen_next(m, starts, columns, values, words, u, area, left, heard);
+        heard = listen_next(m, starts, columns, values, scales, words, u, area, left, heard);
     }
     heard
 }
@@ -221,24 +224,26 @@ fn listen_until_due(
     starts: &[u32],
     columns: &[u32],
     values: &[u32],
+    scales: &[u32],
     words: &[u32],
     u: Projection,
     area: &mut [u32],
     left: usize,
     window: u32,
 ) -> Heard
-    requires { ⌜ Valid (m .p) (matrix (now starts) (now columns) (now values)) × (isModulus (m .p) ≡ true) ⌝ }
+    requires { ⌜ ValidScaled (m .p) (matrix (now starts) (now columns) (now values)) (now scales) × (isModulus (m .p) ≡ true) ⌝ }
     requires { ⌜ Modular m × (0 < left) × (left ≤ 4096) × Words (length (now starts) - 1) (u .vectors) (now words) ⌝ }
     requires { ⌜ Room (length (now starts) - 1) left (now area) × Vector (m .p) (length (now starts) - 1) (part 0 (length (now starts) - 1) (now area)) ⌝ }
-    ensures { λ h. ⌜ Listened (m .p) (matrix (now (starts .entry)) (now (columns .entry)) (now (values .entry))) left window
+    ensures { λ h. ⌜ Listened (m .p) (scaled (m .p) (matrix (now (starts .entry)) (now (columns .entry)) (now (values .entry))) (now (scales .entry))) left window
         (getD (projections (m .p) (length (now (starts .entry)) - 1) (now (words .entry))) (u .index) []) (now (area .entry)) h (now (area .exit)) ⌝ }
 {
-    let first = listen_first(m, starts, columns, values, words, u, area, left);
+    let first = listen_first(m, starts, columns, values, scales, words, u, area, left);
     listen(
         m,
         starts,
         columns,
         values,
+        scales,
         words,
         u,
         area,
@@ -256,19 +261,20 @@ fn conclude(
     starts: &[u32],
     columns: &[u32],
     values: &[u32],
+    scales: &[u32],
     area: &mut [u32],
     f: usize,
     length: usize,
 ) -> Products
-    requires { ⌜ Valid (m .p) (matrix (now starts) (now columns) (now values)) × Modular m × (length ≤ 8192) ⌝ }
+    requires { ⌜ ValidScaled (m .p) (matrix (now starts) (now columns) (now values)) (now scales) × Modular m × (length ≤ 8192) ⌝ }
     requires { ⌜ (3 * (lib.ListN.length (now starts) - 1) ≤ f) × (f + length < lib.ListN.length (now area)) × (f ≤ 65536) × (at (now area) f ≡ 1)
         × Vector (m .p) (lib.ListN.length (now starts) - 1) (part 0 (lib.ListN.length (now starts) - 1) (now area)) ⌝ }
-    ensures { λ done. ⌜ (done ≡ productsWith length (matrix (now (starts .entry)) (now (columns .entry)) (now (values .entry))))
-        × Turned (m .p) (matrix (now (starts .entry)) (now (columns .entry)) (now (values .entry))) (now (area .entry)) f length (now (area .exit)) ⌝ }
+    ensures { λ done. ⌜ (done ≡ productsWith length (scaled (m .p) (matrix (now (starts .entry)) (now (columns .entry)) (now (values .entry))) (now (scales .entry))))
+        × Turned (m .p) (scaled (m .p) (matrix (now (starts .entry)) (now (columns .entry)) (now (values .entry))) (now (scales .entry))) (now (area .entry)) f length (now (area .exit)) ⌝ }
 {
     let end = f + (length + 1);
     reverse(&mut area[f..end]);
-    apply_within(m, starts, columns, values, area, f, length)
+    apply_within(m, starts, columns, values, scales, area, f, length)
 }
 
 // Whether f(A)r was zero, and the products that the test took.
@@ -284,23 +290,24 @@ fn test(
     starts: &[u32],
     columns: &[u32],
     values: &[u32],
+    scales: &[u32],
     area: &mut [u32],
     left: usize,
     length: usize,
 ) -> Tested
-    requires { ⌜ Valid (m .p) (matrix (now starts) (now columns) (now values)) × Modular m × (left ≤ 4096) × (length ≤ 2 * left) ⌝ }
+    requires { ⌜ ValidScaled (m .p) (matrix (now starts) (now columns) (now values)) (now scales) × Modular m × (left ≤ 4096) × (length ≤ 2 * left) ⌝ }
     requires { ⌜ (6 * (lib.ListN.length (now starts) - 1) + (8 * left + 8) ≤ lib.ListN.length (now area))
         × (at (now area) (6 * (lib.ListN.length (now starts) - 1) + (2 * left + 2)) ≡ 1)
         × Vector (m .p) (lib.ListN.length (now starts) - 1) (part (3 * (lib.ListN.length (now starts) - 1)) (lib.ListN.length (now starts) - 1) (now area)) ⌝ }
-    ensures { λ t. ⌜ (t .done ≡ productsWith length (matrix (now (starts .entry)) (now (columns .entry)) (now (values .entry))))
-        × Tried (m .p) (matrix (now (starts .entry)) (now (columns .entry)) (now (values .entry))) left length (now (area .entry)) (t .zero) (now (area .exit)) ⌝ }
+    ensures { λ t. ⌜ (t .done ≡ productsWith length (scaled (m .p) (matrix (now (starts .entry)) (now (columns .entry)) (now (values .entry))) (now (scales .entry))))
+        × Tried (m .p) (scaled (m .p) (matrix (now (starts .entry)) (now (columns .entry)) (now (values .entry))) (now (scales .entry))) left length (now (area .entry)) (t .zero) (now (area .exit)) ⌝ }
 {
     let n = starts.len() - 1;
     let front: usize = 0;
     let r = 3 * n;
     let f = 6 * n + (2 * left + 2);
     copy_within(area, r, front, n);
-    let done = conclude(m, starts, columns, values, area, f, length);
+    let done = conclude(m, starts, columns, values, scales, area, f, length);
     if is_zero(&area[front..n]) {
         copy_within(area, front, r, n);
         return Tested { zero: true, done };
@@ -318,6 +325,7 @@ fn finish(
     starts: &[u32],
     columns: &[u32],
     values: &[u32],
+    scales: &[u32],
     words: &[u32],
     u: Projection,
     area: &mut [u32],
@@ -325,20 +333,20 @@ fn finish(
     heard: Heard,
     tried: Products,
 ) -> Pass
-    requires { ⌜ Valid (m .p) (matrix (now starts) (now columns) (now values)) × (isModulus (m .p) ≡ true) ⌝ }
+    requires { ⌜ ValidScaled (m .p) (matrix (now starts) (now columns) (now values)) (now scales) × (isModulus (m .p) ≡ true) ⌝ }
     requires { ⌜ Modular m × (0 < left) × (left ≤ 4096) × Words (length (now starts) - 1) (u .vectors) (now words) ⌝ }
     requires { ⌜ Room (length (now starts) - 1) left (now area) × Vector (m .p) (length (now starts) - 1) (part 0 (length (now starts) - 1) (now area)) ⌝ }
-    requires { ⌜ Listening (m .p) (matrix (now starts) (now columns) (now values)) left
+    requires { ⌜ Listening (m .p) (scaled (m .p) (matrix (now starts) (now columns) (now values)) (now scales)) left
         (getD (projections (m .p) (length (now starts) - 1) (now words)) (u .index) []) (now area) heard (now area) ⌝ }
-    requires { ⌜ (tried .made ≤ 8192) × (tried ≡ productsWith (tried .made) (matrix (now starts) (now columns) (now values))) ⌝ }
-    ensures { λ q. ⌜ Finished (m .p) (matrix (now (starts .entry)) (now (columns .entry)) (now (values .entry))) left
+    requires { ⌜ (tried .made ≤ 8192) × (tried ≡ productsWith (tried .made) (scaled (m .p) (matrix (now starts) (now columns) (now values)) (now scales))) ⌝ }
+    ensures { λ q. ⌜ Finished (m .p) (scaled (m .p) (matrix (now (starts .entry)) (now (columns .entry)) (now (values .entry))) (now (scales .entry))) left
         (getD (projections (m .p) (length (now (starts .entry)) - 1) (now (words .entry))) (u .index) []) (tried .made) (now (area .entry)) q (now (area .exit)) ⌝ }
 {
-    let all = listen(m, starts, columns, values, words, u, area, left, 0, heard);
+    let all = listen(m, starts, columns, values, scales, words, u, area, left, 0, heard);
     let n = starts.len() - 1;
     let steps = all.steps;
     let t = steps.L;
-    let more = conclude(m, starts, columns, values, area, 3 * n + (2 * left + 2), t);
+    let more = conclude(m, starts, columns, values, scales, area, 3 * n + (2 * left + 2), t);
     let first = plus(all.done, tried);
     let done = plus(first, more);
     Pass {
@@ -355,17 +363,18 @@ pub(crate) fn factor_by_window(
     starts: &[u32],
     columns: &[u32],
     values: &[u32],
+    scales: &[u32],
     words: &[u32],
     u: Projection,
     area: &mut [u32],
     left: usize,
     window: u32,
 ) -> Pass
-    requires { ⌜ Valid (m .p) (matrix (now starts) (now columns) (now values)) × (isModulus (m .p) ≡ true) ⌝ }
+    requires { ⌜ ValidScaled (m .p) (matrix (now starts) (now columns) (now values)) (now scales) × (isModulus (m .p) ≡ true) ⌝ }
     requires { ⌜ Modular m × (0 < left) × (left ≤ 4096) × Words (length (now starts) - 1) (u .vectors) (now words) ⌝ }
     requires { ⌜ (6 * (length (now starts) - 1) + (8 * left + 8) ≤ length (now area))
         × Vector (m .p) (length (now starts) - 1) (part (3 * (length (now starts) - 1)) (length (now starts) - 1) (now area)) ⌝ }
-    ensures { λ q. ⌜ Shortened (m .p) (matrix (now (starts .entry)) (now (columns .entry)) (now (values .entry))) window
+    ensures { λ q. ⌜ Shortened (m .p) (scaled (m .p) (matrix (now (starts .entry)) (now (columns .entry)) (now (values .entry))) (now (scales .entry))) window
         (getD (projections (m .p) (length (now (starts .entry)) - 1) (now (words .entry))) (u .index) []) left 0 (3 * (length (now (starts .entry)) - 1))
         (now (area .entry)) q (now (area .exit)) ⌝ }
 {
@@ -375,6 +384,7 @@ pub(crate) fn factor_by_window(
         starts,
         columns,
         values,
+        scales,
         words,
         u,
         &mut area[r..],
@@ -391,6 +401,7 @@ pub(crate) fn factor_by_window(
             starts,
             columns,
             values,
+            scales,
             words,
             u,
             &mut area[r..],
@@ -401,7 +412,7 @@ pub(crate) fn factor_by_window(
     }
     let steps = heard.steps;
     let t = steps.L;
-    let tested = test(m, starts, columns, values, area, left, t);
+    let tested = test(m, starts, columns, values, scales, area, left, t);
     let tried = tested.done;
     if tested.zero {
         let done = plus(heard.done, tried);
@@ -417,6 +428,7 @@ pub(crate) fn factor_by_window(
         starts,
         columns,
         values,
+        scales,
         words,
         u,
         &mut area[r..],

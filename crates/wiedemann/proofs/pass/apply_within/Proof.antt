@@ -1,7 +1,7 @@
 use Rattle.wiedemann.specs.Turns.{seat-low, regionAt, region-first, Applying, applying-none, applying-more, applied-all}
 use mathlib.Core.Logic.{inl}
 use Rattle.wiedemann.specs.Horner.{vector-apply}
-use Rattle.meaning.specs.Matrix.{matrix}
+use Rattle.meaning.specs.Matrix.{matrix, scaled}
 use Rattle.checks.specs.declared.Products.{Products}
 use Rattle.checks.specs.Products.{productsWith, products-none, products-next, products-few}
 use Rattle.laws.specs.Part.{length-part}
@@ -15,45 +15,45 @@ use Rattle.wiedemann.proofs.pass.apply_within.Statement.{statement}
 use Rattle.wiedemann.proofs.pass.apply_within.Tie as tie
 
 abbrev Inv-loop : tie.InvT-loop
-Inv-loop m starts columns values area₀ f t done₀ i₀ area done i =
-    (done .made + i ≡ t) × Applying (m .p) (matrix starts columns values) area₀ f t i (regionAt (length starts - 1) (done .made)) area
-    × (done ≡ productsWith (done .made) (matrix starts columns values))
+Inv-loop m starts columns values scales area₀ f t done₀ i₀ area done i =
+    (done .made + i ≡ t) × Applying (m .p) (scaled (m .p) (matrix starts columns values) scales) area₀ f t i (regionAt (length starts - 1) (done .made)) area
+    × (done ≡ productsWith (done .made) (scaled (m .p) (matrix starts columns values) scales))
 
 abbrev μ-loop : tie.MeasureT-loop
-μ-loop m starts columns values area₀ f t done₀ i₀ area done i = i
+μ-loop m starts columns values scales area₀ f t done₀ i₀ area done i = i
 
 loop-holds : tie.Need-loop-holds Inv-loop μ-loop
 loop-holds c =
-    let a = c .before .before .before .before .args in
+    let a = c .before .before .before .before .before .args in
     let n = length (now (a .starts)) - 1 in
-    (omega arith, subst (λ k. Applying (a .m .p) (matrix (now (a .starts)) (now (a .columns)) (now (a .values))) (now (a .area)) (a .f) (a .t) (a .t) k (now (a .area))) (sym (region-first n)) (applying-none (c .before .before .before .before .pre .1 .2)), products-none (matrix (now (a .starts)) (now (a .columns)) (now (a .values))))
+    (omega arith, subst (λ k. Applying (a .m .p) (scaled (a .m .p) (matrix (now (a .starts)) (now (a .columns)) (now (a .values))) (now (a .scales))) (now (a .area)) (a .f) (a .t) (a .t) k (now (a .area))) (sym (region-first n)) (applying-none (c .before .before .before .before .before .pre .1 .2)), products-none (scaled (a .m .p) (matrix (now (a .starts)) (now (a .columns)) (now (a .values))) (now (a .scales))))
 
 sub-i : tie.Need-sub-i Inv-loop μ-loop
 sub-i c = search needs
 
 add-c : tie.Need-add-c Inv-loop μ-loop
-add-c c = omega (arith, c .before .loop .inv .0, c .before .before .before .before .before .before .pre .1 .2 .room, c .before .before .before .before .before .before .good)
+add-c c = omega (arith, c .before .loop .inv .0, c .before .before .before .before .before .before .before .pre .1 .2 .room, c .before .before .before .before .before .before .good)
 
 mul-c : tie.Need-mul-c Inv-loop μ-loop
-mul-c c = omega (arith, c .before .loop .inv .0, c .before .before .before .before .before .before .pre .1 .2 .room, c .before .before .before .before .before .before .good)
+mul-c c = omega (arith, c .before .loop .inv .0, c .before .before .before .before .before .before .before .pre .1 .2 .room, c .before .before .before .before .before .before .good)
 
 slice-read-c : tie.Need-slice-read-c Inv-loop μ-loop
 slice-read-c c =
-    omega (arith, c .before .before .loop .inv .0, c .before .before .loop .inv .1 .same-length, c .before .loop-test .taken, c .before .before .before .before .before .before .before .pre .1 .2 .room)
+    omega (arith, c .before .before .loop .inv .0, c .before .before .loop .inv .1 .same-length, c .before .loop-test .taken, c .before .before .before .before .before .before .before .before .pre .1 .2 .room)
 
 advance-requires : tie.Need-advance-requires Inv-loop μ-loop
 advance-requires c κs =
-    let a = c .before .before .before .before .before .before .before .before .args in
-    let pre = c .before .before .before .before .before .before .before .before .pre in
+    let a = c .before .before .before .before .before .before .before .before .before .args in
+    let pre = c .before .before .before .before .before .before .before .before .before .pre in
     let loop = c .before .before .before .loop in
-    let A = matrix (now (a .starts)) (now (a .columns)) (now (a .values)) in (
+    let A = scaled (a .m .p) (matrix (now (a .starts)) (now (a .columns)) (now (a .values))) (now (a .scales)) in (
       pre .0,
       (
         pre .1 .0,
         record {
           seat = loop .inv .1 .seat;
           room = omega (arith, pre .1 .2 .above, pre .1 .2 .room, loop .inv .1 .same-length);
-          elements = rw (loop .inv .1 .holds) (vector-apply (a .m .p) A _ _ (pre .0 .positive));
+          elements = rw (loop .inv .1 .holds) (vector-apply (a .m .p) A _ _ (pre .0 .valid .positive));
         },
         products-few (pre .0) (omega (arith, loop .inv .0, pre .1 .1)) (loop .inv .2),
       ),
@@ -64,10 +64,10 @@ loop-less c = omega (arith, c .before .before .before .before .before .loop-test
 
 loop-again : tie.Need-loop-again Inv-loop μ-loop
 loop-again c =
-    let a = c .before .before .before .before .before .before .before .before .before .before .before .args in
-    let pre = c .before .before .before .before .before .before .before .before .before .before .before .pre in
+    let a = c .before .before .before .before .before .before .before .before .before .before .before .before .args in
+    let pre = c .before .before .before .before .before .before .before .before .before .before .before .before .pre in
     let loop = c .before .before .before .before .before .before .loop in
-    let A = matrix (now (a .starts)) (now (a .columns)) (now (a .values)) in
+    let A = scaled (a .m .p) (matrix (now (a .starts)) (now (a .columns)) (now (a .values))) (now (a .scales)) in
     let i = loop .i - 1 in
     let test = c .before .before .before .before .before .loop-test .taken in
     let made = c .before .before .advance .ensures in
@@ -84,7 +84,7 @@ sub-n : tie.Need-sub-n Inv-loop μ-loop
 sub-n c = search needs
 
 mul-end : tie.Need-mul-end Inv-loop μ-loop
-mul-end c = omega (arith, c .before .before .before .before .before .before .pre .0 .sized)
+mul-end c = omega (arith, c .before .before .before .before .before .before .before .pre .0 .valid .sized)
 
 mul-copy-within : tie.Need-mul-copy-within Inv-loop μ-loop
 mul-copy-within c = search needs
@@ -97,10 +97,10 @@ part-copy-within-start c = search needs
 
 part-copy-within-end : tie.Need-part-copy-within-end Inv-loop μ-loop
 part-copy-within-end c =
-    omega (arith, c .before .loop .inv .1 .same-length, c .before .before .before .before .before .before .pre .1 .2 .above, c .before .before .before .before .before .before .pre .1 .2 .room)
+    omega (arith, c .before .loop .inv .1 .same-length, c .before .before .before .before .before .before .before .pre .1 .2 .above, c .before .before .before .before .before .before .before .pre .1 .2 .room)
 
 region-requires : tie.Need-region-requires Inv-loop μ-loop
-region-requires c κs = c .before .before .before .before .before .before .before .pre .0 .sized
+region-requires c κs = c .before .before .before .before .before .before .before .before .pre .0 .valid .sized
 
 copy-within-requires : tie.Need-copy-within-requires Inv-loop μ-loop
 copy-within-requires c κs = search needs
@@ -110,10 +110,10 @@ same-length c = search needs
 
 returns : tie.Need-returns Inv-loop μ-loop
 returns c =
-    let a = c .before .before .before .before .before .before .before .before .before .before .before .args in
-    let h = c .before .before .before .before .before .before .before .before .before .before .before .pre .1 .2 in
+    let a = c .before .before .before .before .before .before .before .before .before .before .before .before .args in
+    let h = c .before .before .before .before .before .before .before .before .before .before .before .before .pre .1 .2 in
     let loop = c .before .before .before .before .before .before .loop in
-    let A = matrix (now (a .starts)) (now (a .columns)) (now (a .values)) in
+    let A = scaled (a .m .p) (matrix (now (a .starts)) (now (a .columns)) (now (a .values))) (now (a .scales)) in
     let n = length (now (a .starts)) - 1 in
     let m = 3 * n - 0 in
     let at = c .before .before .before .region .ensures in

@@ -5,7 +5,7 @@ use Rattle.checks.specs.Products.{products-add, products-few}
 use Rattle.wiedemann.specs.Turns.{vector-terms}
 use Rattle.wiedemann.specs.Pass.{shortened}
 use Rattle.checks.specs.Valid.{Vector}
-use Rattle.meaning.specs.Matrix.{matrix}
+use Rattle.meaning.specs.Matrix.{matrix, scaled}
 use Rattle.meaning.specs.Solver.{projections}
 use Rattle.laws.specs.Part.{part}
 use denote.Ref.{now}
@@ -23,7 +23,7 @@ sub-n c = search needs
 
 terms-requires : tie.Need-terms-requires
 terms-requires c κs =
-    let pre = c .before .before .before .before .before .before .pre in
+    let pre = c .before .before .before .before .before .before .before .pre in
     (pre .0 .0, (pre .1 .0, (omega (arith, pre .1 .1 .0), pre .1 .1 .1)))
 
 mul-recurrence-of-terms : tie.Need-mul-recurrence-of-terms
@@ -34,15 +34,15 @@ mul-recurrence-of-terms-2 c = search needs
 
 recurrence-of-terms-requires : tie.Need-recurrence-of-terms-requires
 recurrence-of-terms-requires c κs =
-    let a = c .before .before .before .before .before .before .before .before .before .before .args in
-    let pre = c .before .before .before .before .before .before .before .before .before .before .pre in
-    let A = matrix (now (a .starts)) (now (a .columns)) (now (a .values)) in
+    let a = c .before .before .before .before .before .before .before .before .before .before .before .args in
+    let pre = c .before .before .before .before .before .before .before .before .before .before .before .pre in
+    let A = scaled (a .m .p) (matrix (now (a .starts)) (now (a .columns)) (now (a .values))) (now (a .scales)) in
     let n = length (now (a .starts)) - 1 in
     let u = getD (projections (a .m .p) n (now (a .words))) (a .u .index) [] in
     let r = part 0 n (now (a .area)) in
     let done = c .before .before .before .terms .ensures .1 in (
-      (pre .0 .1, pre .1 .0 .0, omega (arith, pre .1 .0 .2), omega (arith, pre .0 .0 .sized)),
-      (omega (arith, done .same-length, pre .1 .1 .0), rw (done .terms) (vector-terms (a .m .p) A (a .left) u r (pre .0 .0 .positive))),
+      (pre .0 .1, pre .1 .0 .0, omega (arith, pre .1 .0 .2), omega (arith, pre .0 .0 .valid .sized)),
+      (omega (arith, done .same-length, pre .1 .1 .0), rw (done .terms) (vector-terms (a .m .p) A (a .left) u r (pre .0 .0 .valid .positive))),
     )
 
 mul-apply-within : tie.Need-mul-apply-within
@@ -59,8 +59,8 @@ add-apply-within-2 c = search needs
 
 apply-within-requires : tie.Need-apply-within-requires
 apply-within-requires c κs =
-    let a = c .before .before .before .before .before .before .before .before .before .before .before .before .before .before .args in
-    let pre = c .before .before .before .before .before .before .before .before .before .before .before .before .before .before .pre in
+    let a = c .before .before .before .before .before .before .before .before .before .before .before .before .before .before .before .args in
+    let pre = c .before .before .before .before .before .before .before .before .before .before .before .before .before .before .before .pre in
     let n = length (now (a .starts)) - 1 in
     let done = c .before .before .before .before .before .before .before .terms .ensures .1 in
     let found = c .before .before .before .recurrence-of-terms .ensures in
@@ -83,7 +83,7 @@ apply-within-requires c κs =
 
 plus-requires : tie.Need-plus-requires
 plus-requires c κs =
-    let pre = c .before .before .before .before .before .before .before .before .before .before .before .before .before .before .before .before .before .pre in
+    let pre = c .before .before .before .before .before .before .before .before .before .before .before .before .before .before .before .before .before .before .pre in
     let t = c .before .before .before .before .before .before .recurrence-of-terms .ensures .short in (
       products-few (pre .0 .0) (omega (arith, pre .1 .0 .2)) (c .before .before .before .before .before .before .before .before .before .before .terms .ensures .0),
       products-few (pre .0 .0) (omega (arith, t, pre .1 .0 .2)) (c .before .before .apply-within .ensures .0),
@@ -94,9 +94,9 @@ same-length c = search needs
 
 returns : tie.Need-returns
 returns c =
-    let a = c .before .before .before .before .before .before .before .before .before .before .before .before .before .before .before .before .before .before .args in
-    let pre = c .before .before .before .before .before .before .before .before .before .before .before .before .before .before .before .before .before .before .pre in
-    let A = matrix (now (a .starts)) (now (a .columns)) (now (a .values)) in
+    let a = c .before .before .before .before .before .before .before .before .before .before .before .before .before .before .before .before .before .before .before .args in
+    let pre = c .before .before .before .before .before .before .before .before .before .before .before .before .before .before .before .before .before .before .before .pre in
+    let A = scaled (a .m .p) (matrix (now (a .starts)) (now (a .columns)) (now (a .values))) (now (a .scales)) in
     let first = c .before .before .before .before .before .before .before .before .before .before .before .terms .ensures in
     let found = c .before .before .before .before .before .before .before .recurrence-of-terms in
     let more = c .before .before .before .apply-within .ensures in

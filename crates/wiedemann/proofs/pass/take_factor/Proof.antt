@@ -58,7 +58,7 @@ returns c =
     (shortened-lent 0 (3 * n) (3 * n) m W (omega arith) refl refl (omega arith) fits (omega (arith, room)) (call .kept .1 .1 .1 .1 .1 .1 .0 ∙ length-part (3 * n) m W fits) (call .ensures))
 
 factor-by-window-requires : tie.Need-factor-by-window-requires
-factor-by-window-requires c κs = c .before .before .before .before .before .before .before .pre
+factor-by-window-requires c κs = c .before .before .before .before .before .before .before .before .pre
 
 same-length-2 : tie.Need-same-length-2
 same-length-2 c = search needs

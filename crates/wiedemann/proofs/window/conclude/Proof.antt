@@ -3,7 +3,7 @@ use Prim.Native.Nat.{_+_, _-_}
 use native.Mathlib.Omega.{arith}
 use denote.Ref.{now}
 use lib.ListN.{length}
-use Rattle.meaning.specs.Matrix.{matrix}
+use Rattle.meaning.specs.Matrix.{matrix, scaled}
 use Rattle.laws.specs.Lent.{lent}
 use Rattle.recurrence.specs.Recurrence.{Reversed, reversed-lent}
 use Rattle.wiedemann.specs.Window.{turned-leading}
@@ -34,7 +34,7 @@ reverse-requires c κs = search needs
 
 -- q in reverse order
 turned : (c : tie.After-reverse)
-    → let a = c .before .before .before .before .before .before .args in
+    → let a = c .before .before .before .before .before .before .before .args in
     Reversed (now (a .area)) (a .f) (a .length) (lent (now (a .area)) (a .f) (a .f + (a .length + 1) - a .f) (c .reverse .last .0))
 turned c =
     let start = c .before .before .before .before .before .before in
@@ -48,7 +48,7 @@ apply-within-requires c κs =
     let start = c .before .before .before .before .before .before .before .before .before in
     let a = start .args in
     let pre = start .pre in
-    let A = matrix (now (a .starts)) (now (a .columns)) (now (a .values)) in
+    let A = scaled (a .m .p) (matrix (now (a .starts)) (now (a .columns)) (now (a .values))) (now (a .scales)) in
     (pre .0 .0, (pre .0 .1, pre .0 .2, turned-leading (a .m .p) A (a .f) (a .length) (pre .1 .0) (pre .1 .1) (turned (c .before .before .before)) (pre .1 .3) (pre .1 .4)))
 
 same-length : tie.Need-same-length

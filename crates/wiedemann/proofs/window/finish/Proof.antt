@@ -4,7 +4,7 @@ use Prim.Native.Nat.{_+_, _-_, _*_}
 use native.Mathlib.Omega.{arith}
 use denote.Ref.{now}
 use lib.ListN.{length, getD}
-use Rattle.meaning.specs.Matrix.{matrix}
+use Rattle.meaning.specs.Matrix.{matrix, scaled}
 use Rattle.meaning.specs.Solver.{projections}
 use Rattle.checks.specs.Valid.{Vector}
 use Rattle.residue.specs.Prime.{isModulus-Prime}
@@ -21,7 +21,7 @@ listen-requires c κs =
     let start = c .before .before .before .before .before .before in
     let a = start .args in
     let pre = start .pre in
-    let A = matrix (now (a .starts)) (now (a .columns)) (now (a .values)) in
+    let A = scaled (a .m .p) (matrix (now (a .starts)) (now (a .columns)) (now (a .values))) (now (a .scales)) in
     let n = length (now (a .starts)) - 1 in
     let u = getD (projections (a .m .p) n (now (a .words))) (a .u .index) [] in
     (pre .0, (pre .1 .0, (pre .1 .1 .0, (pre .1 .1 .1 .0, unasked-none (a .m .p) A (a .left) u _ _))))
@@ -46,7 +46,7 @@ conclude-requires c κs =
     let start = c .before .before .before .before .before .before .before .before .before .before .before in
     let a = start .args in
     let pre = start .pre in
-    let A = matrix (now (a .starts)) (now (a .columns)) (now (a .values)) in
+    let A = scaled (a .m .p) (matrix (now (a .starts)) (now (a .columns)) (now (a .values))) (now (a .scales)) in
     let n = length (now (a .starts)) - 1 in
     let prime = isModulus-Prime (a .m .p) (pre .0 .1) in
     let all = c .before .before .before .before .listen .ensures in
@@ -68,7 +68,7 @@ plus-requires c κs =
     let start = c .before .before .before .before .before .before .before .before .before .before .before .before .before .before in
     let a = start .args in
     let pre = start .pre in
-    let A = matrix (now (a .starts)) (now (a .columns)) (now (a .values)) in
+    let A = scaled (a .m .p) (matrix (now (a .starts)) (now (a .columns)) (now (a .values))) (now (a .scales)) in
     let n = length (now (a .starts)) - 1 in
     let prime = isModulus-Prime (a .m .p) (pre .0 .1) in
     let all = c .before .before .before .before .before .before .before .listen .ensures in (
@@ -78,13 +78,13 @@ plus-requires c κs =
 
 -- the products of the terms and of the test
 first : (c : tie.After-plus)
-    → let a = c .before .before .before .before .before .before .before .before .before .before .before .before .before .before .before .args in
-    c .plus .result ≡ productsWith (2 * a .left - 1 + a .tried .made) (matrix (now (a .starts)) (now (a .columns)) (now (a .values)))
+    → let a = c .before .before .before .before .before .before .before .before .before .before .before .before .before .before .before .before .args in
+    c .plus .result ≡ productsWith (2 * a .left - 1 + a .tried .made) (scaled (a .m .p) (matrix (now (a .starts)) (now (a .columns)) (now (a .values))) (now (a .scales)))
 first c =
     let start = c .before .before .before .before .before .before .before .before .before .before .before .before .before .before .before in
     let a = start .args in
     let pre = start .pre in
-    let A = matrix (now (a .starts)) (now (a .columns)) (now (a .values)) in
+    let A = scaled (a .m .p) (matrix (now (a .starts)) (now (a .columns)) (now (a .values))) (now (a .scales)) in
     let n = length (now (a .starts)) - 1 in
     let prime = isModulus-Prime (a .m .p) (pre .0 .1) in
     let all = c .before .before .before .before .before .before .before .before .listen .ensures in
@@ -99,7 +99,7 @@ plus-requires-2 c κs =
     let start = c .before .before .before .before .before .before .before .before .before .before .before .before .before .before .before in
     let a = start .args in
     let pre = start .pre in
-    let A = matrix (now (a .starts)) (now (a .columns)) (now (a .values)) in
+    let A = scaled (a .m .p) (matrix (now (a .starts)) (now (a .columns)) (now (a .values))) (now (a .scales)) in
     let n = length (now (a .starts)) - 1 in
     let prime = isModulus-Prime (a .m .p) (pre .0 .1) in
     let all = c .before .before .before .before .before .before .before .before .listen .ensures in
@@ -117,7 +117,7 @@ returns c =
     let start = c .before .before .before .before .before .before .before .before .before .before .before .before .before .before .before .before in
     let a = start .args in
     let pre = start .pre in
-    let A = matrix (now (a .starts)) (now (a .columns)) (now (a .values)) in
+    let A = scaled (a .m .p) (matrix (now (a .starts)) (now (a .columns)) (now (a .values))) (now (a .scales)) in
     let n = length (now (a .starts)) - 1 in
     let prime = isModulus-Prime (a .m .p) (pre .0 .1) in
     let all = c .before .before .before .before .before .before .before .before .before .listen .ensures in

@@ -8,7 +8,7 @@ use mathlib.Core.List.{[]}
 use lib.Dec.{ltb}
 use lib.ListN.{getD}
 use borrow.Author.Tests.{ltb-true, not-true}
-use Rattle.meaning.specs.Matrix.{matrix}
+use Rattle.meaning.specs.Matrix.{matrix, scaled}
 use Rattle.meaning.specs.Solver.{projections}
 use Rattle.laws.specs.Bool.{and-left, and-right}
 use Rattle.laws.specs.Part.{part}
@@ -19,39 +19,39 @@ use Rattle.wiedemann.proofs.window.listen.Statement.{statement}
 use Rattle.wiedemann.proofs.window.listen.Tie as tie
 
 abbrev Inv-loop : tie.InvT-loop
-Inv-loop m starts columns values words u area₀ left window heard₀ area heard =
-    Listening (m .p) (matrix starts columns values) left (getD (projections (m .p) (length starts - 1) words) (u .index) []) area₀ heard area
-    × Unasked (m .p) (matrix starts columns values) left window (getD (projections (m .p) (length starts - 1) words) (u .index) []) (part 0 (length starts - 1) area₀) (heard .terms)
+Inv-loop m starts columns values scales words u area₀ left window heard₀ area heard =
+    Listening (m .p) (scaled (m .p) (matrix starts columns values) scales) left (getD (projections (m .p) (length starts - 1) words) (u .index) []) area₀ heard area
+    × Unasked (m .p) (scaled (m .p) (matrix starts columns values) scales) left window (getD (projections (m .p) (length starts - 1) words) (u .index) []) (part 0 (length starts - 1) area₀) (heard .terms)
 
 abbrev μ-loop : tie.MeasureT-loop
-μ-loop m starts columns values words u area₀ left window heard₀ area heard = 2 * left - heard .terms
+μ-loop m starts columns values scales words u area₀ left window heard₀ area heard = 2 * left - heard .terms
 
 loop-holds : tie.Need-loop-holds Inv-loop μ-loop
-loop-holds c = let pre = c .before .before .before .before .before .pre in (pre .1 .1 .1 .0, pre .1 .1 .1 .1)
+loop-holds c = let pre = c .before .before .before .before .before .before .pre in (pre .1 .1 .1 .0, pre .1 .1 .1 .1)
 
 goes-on-requires : tie.Need-goes-on-requires Inv-loop μ-loop
-goes-on-requires c κs = c .before .before .before .before .before .before .pre .1 .0 .2
+goes-on-requires c κs = c .before .before .before .before .before .before .before .pre .1 .0 .2
 
 -- a term is missing, and no test is due
 both : (c : tie.Then1 Inv-loop μ-loop)
     → let h = c .before .before .loop .heard in
-    let a = c .before .before .before .before .before .before .before .before .args in
+    let a = c .before .before .before .before .before .before .before .before .before .args in
     ltb (h .terms) (2 * a .left) && not (dueBy (a .window) (h .zeros) (h .steps .L)) ≡ true
 both c = sym (c .before .goes-on .ensures) ∙ c .if1 .taken
 
-more : (c : tie.Then1 Inv-loop μ-loop) → c .before .before .loop .heard .terms < 2 * c .before .before .before .before .before .before .before .before .args .left
+more : (c : tie.Then1 Inv-loop μ-loop) → c .before .before .loop .heard .terms < 2 * c .before .before .before .before .before .before .before .before .before .args .left
 more c = ltb-true _ _ (and-left _ _ (both c))
 
 not-yet : (c : tie.Then1 Inv-loop μ-loop)
     → let h = c .before .before .loop .heard in
-    dueBy (c .before .before .before .before .before .before .before .before .args .window) (h .zeros) (h .steps .L) ≡ false
+    dueBy (c .before .before .before .before .before .before .before .before .before .args .window) (h .zeros) (h .steps .L) ≡ false
 not-yet c =
     let h = c .before .before .loop .heard in
-    not-true _ (and-right (ltb (h .terms) (2 * c .before .before .before .before .before .before .before .before .args .left)) _ (both c))
+    not-true _ (and-right (ltb (h .terms) (2 * c .before .before .before .before .before .before .before .before .before .args .left)) _ (both c))
 
 listen-next-requires : tie.Need-listen-next-requires Inv-loop μ-loop
 listen-next-requires c κs =
-    let pre = c .before .before .before .before .before .before .before .before .before .pre in
+    let pre = c .before .before .before .before .before .before .before .before .before .before .pre in
     let inv = c .before .before .before .loop .inv .0 in
     let held = inv .iterated in (
       pre .0,
@@ -69,9 +69,9 @@ loop-less c = omega (arith, more (c .before .before .before .before), c .before 
 
 loop-again : tie.Need-loop-again Inv-loop μ-loop
 loop-again c =
-    let pre = c .before .before .before .before .before .before .before .before .before .before .before .before .pre in
-    let a = c .before .before .before .before .before .before .before .before .before .before .before .before .args in
-    let A = matrix (now (a .starts)) (now (a .columns)) (now (a .values)) in
+    let pre = c .before .before .before .before .before .before .before .before .before .before .before .before .before .pre in
+    let a = c .before .before .before .before .before .before .before .before .before .before .before .before .before .args in
+    let A = scaled (a .m .p) (matrix (now (a .starts)) (now (a .columns)) (now (a .values))) (now (a .scales)) in
     let u = getD (projections (a .m .p) (length (now (a .starts)) - 1) (now (a .words))) (a .u .index) [] in
     let loop = c .before .before .before .before .before .before .loop in
     let made = c .before .before .listen-next .ensures in

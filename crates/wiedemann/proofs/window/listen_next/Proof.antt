@@ -11,13 +11,13 @@ sub-n c = search needs
 
 advance-requires : tie.Need-advance-requires
 advance-requires c κs =
-    let pre = c .before .before .before .before .before .before .before .before .pre in
+    let pre = c .before .before .before .before .before .before .before .before .before .pre in
     let l = pre .1 .1 .1 .0 in
     (pre .0 .0, (pre .1 .0 .0, listening-turning (pre .0 .0) (pre .1 .1 .0 .0) (pre .1 .1 .0 .1) l, products-few (pre .0 .0) (omega (arith, l .counted, l .high, pre .1 .0 .2)) (l .products)))
 
 hear-requires : tie.Need-hear-requires
 hear-requires c κs =
-    let pre = c .before .before .before .before .before .before .before .before .before .before .before .before .pre in
+    let pre = c .before .before .before .before .before .before .before .before .before .before .before .before .before .pre in
     let next = c .before .before .before .advance .ensures in
     let room = pre .1 .1 .0 .0 in
     ((pre .0 .1, pre .1 .0 .0, pre .1 .0 .3, room-as (next .1 .same-length) room), listening-to-hear (pre .0 .0) room (pre .1 .1 .0 .1) (pre .1 .1 .1 .0) (pre .1 .1 .1 .1) (next .0) (next .1))
@@ -27,7 +27,7 @@ same-length c = search needs
 
 returns : tie.Need-returns
 returns c =
-    let pre = c .before .before .before .before .before .before .before .before .before .before .before .before .before .before .before .pre in
+    let pre = c .before .before .before .before .before .before .before .before .before .before .before .before .before .before .before .before .pre in
     let next = c .before .before .before .before .before .before .advance .ensures in
     listening-next (pre .0 .0) (pre .1 .1 .0 .0) (pre .1 .1 .0 .1) (pre .1 .1 .1 .0) (pre .1 .1 .1 .1) (next .0) (next .1) (c .before .before .hear .ensures)
 

@@ -3,7 +3,7 @@ use mathlib.Core.List.{[]}
 use Prim.Native.Nat.{_-_}
 use denote.Ref.{now}
 use lib.ListN.{length, getD}
-use Rattle.meaning.specs.Matrix.{matrix}
+use Rattle.meaning.specs.Matrix.{matrix, scaled}
 use Rattle.meaning.specs.Solver.{projections}
 use Rattle.checks.specs.Valid.{Vector}
 use Rattle.wiedemann.specs.Window.{room-as, listening-from, unasked-first, listened-from}
@@ -12,14 +12,14 @@ use Rattle.wiedemann.proofs.window.listen_until_due.Statement.{statemen
 use Rattle.wiedemann.proofs.window.listen_until_due.Tie as tie
 
 listen-first-requires : tie.Need-listen-first-requires
-listen-first-requires c κs = c .before .before .before .before .before .before .pre
+listen-first-requires c κs = c .before .before .before .before .before .before .before .pre
 
 listen-requires : tie.Need-listen-requires
 listen-requires c κs =
     let start = c .before .before .before .before .before .before .before .before .before .before in
     let a = start .args in
     let pre = start .pre in
-    let A = matrix (now (a .starts)) (now (a .columns)) (now (a .values)) in
+    let A = scaled (a .m .p) (matrix (now (a .starts)) (now (a .columns)) (now (a .values))) (now (a .scales)) in
     let n = length (now (a .starts)) - 1 in
     let u = getD (projections (a .m .p) n (now (a .words))) (a .u .index) [] in
     let first = c .before .before .before .listen-first .ensures in

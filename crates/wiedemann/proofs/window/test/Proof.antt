@@ -5,7 +5,7 @@ use denote.Ref.{now}
 use lib.ListN.{length}
 use mathlib.Core.Logic.{inl, inr}
 use Rattle.meaning.specs.List.{at, isZero}
-use Rattle.meaning.specs.Matrix.{matrix}
+use Rattle.meaning.specs.Matrix.{matrix, scaled}
 use Rattle.laws.specs.Part.{part}
 use Rattle.laws.specs.Lent.{part-at}
 use Rattle.laws.specs.Written.{Written}
@@ -38,7 +38,7 @@ copy-within-requires c κs = search needs
 
 -- r is copied to the front
 copied : (c : tie.After-copy-within)
-    → let a = c .before .before .before .before .before .before .args in
+    → let a = c .before .before .before .before .before .before .before .args in
     let n = length (now (a .starts)) - 1 in
     Written (now (a .area)) 0 n (λ i. at (now (a .area)) (3 * n + i)) (c .copy-within .last .0)
 copied c =
@@ -52,9 +52,9 @@ conclude-requires c κs =
     let start = c .before .before .before .before .before .before .before .before .before in
     let a = start .args in
     let pre = start .pre in
-    let A = matrix (now (a .starts)) (now (a .columns)) (now (a .values)) in
+    let A = scaled (a .m .p) (matrix (now (a .starts)) (now (a .columns)) (now (a .values))) (now (a .scales)) in
     let w = copied (c .before .before .before) in
-    let sized = pre .0 .0 .sized in
+    let sized = pre .0 .0 .valid .sized in
     ((pre .0 .0, pre .0 .1, omega (arith, pre .0 .2, pre .0 .3)), (omega arith, omega (arith, w .same-length, pre .1 .0, pre .0 .3), omega (arith, sized, pre .0 .2), copied-one A (a .left) w (pre .1 .1), copied-vector A (a .left) (pre .1 .0) w (pre .1 .2)))
 
 mul-is-zero : tie.Need-mul-is-zero
@@ -77,9 +77,9 @@ is-zero-requires : tie.Need-is-zero-requires
 is-zero-requires c κs = search needs
 
 -- whether f(A)r is zero
-found : (c : tie.After-is-zero) → let a = c .before .before .before .before .before .before .before .before .before .before .before .before .before .before .before .args in isZero (part 0 (length (now (a .starts)) - 1) (c .before .before .before .before .before .conclude .last .1 .1 .1 .1 .0)) ≡ c .is-zero .result
+found : (c : tie.After-is-zero) → let a = c .before .before .before .before .before .before .before .before .before .before .before .before .before .before .before .before .args in isZero (part 0 (length (now (a .starts)) - 1) (c .before .before .before .before .before .conclude .last .1 .1 .1 .1 .0)) ≡ c .is-zero .result
 found c =
-    let n = length (now (c .before .before .before .before .before .before .before .before .before .before .before .before .before .before .before .args .starts)) - 1 in
+    let n = length (now (c .before .before .before .before .before .before .before .before .before .before .before .before .before .before .before .before .args .starts)) - 1 in
     sym (c .is-zero .ensures ∙ ap isZero (part-at _ 0 (n - 0) 0 n refl (omega arith)))
 
 copy-within-requires-2 : tie.Need-copy-within-requires-2
@@ -93,7 +93,7 @@ returns c =
     let start = c .before .before .before .before .before .before .before .before .before .before .before .before .before .before .before .before .before .before .before .before in
     let a = start .args in
     let pre = start .pre in
-    let A = matrix (now (a .starts)) (now (a .columns)) (now (a .values)) in
+    let A = scaled (a .m .p) (matrix (now (a .starts)) (now (a .columns)) (now (a .values))) (now (a .scales)) in
     let n = length (now (a .starts)) - 1 in
     let w = copied (c .before .before .before .before .before .before .before .before .before .before .before .before .before .before) in
     let done = c .before .before .before .before .before .before .before .before .before .before .conclude .ensures in
@@ -132,7 +132,7 @@ returns-2 c =
     let start = c .before .before .before .before .before .before .before .before .before .before .before .before .before .before .before .before .before .before .before .before in
     let a = start .args in
     let pre = start .pre in
-    let A = matrix (now (a .starts)) (now (a .columns)) (now (a .values)) in
+    let A = scaled (a .m .p) (matrix (now (a .starts)) (now (a .columns)) (now (a .values))) (now (a .scales)) in
     let n = length (now (a .starts)) - 1 in
     let w = copied (c .before .before .before .before .before .before .before .before .before .before .before .before .before .before) in
     let done = c .before .before .before .before .before .before .before .before .before .before .conclude .ensures in
