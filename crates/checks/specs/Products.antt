@@ -2,17 +2,19 @@
 --     productsWith k A       k products with A
 --     added                  some products and some more
 --     products-none, products-add, products-next      .. with A; one more
+--     products-scaled        .. with AX
 --     Few, products-few      what keeps a sum of two within 64 bits: up to 65,536 products each; so it is of those with a valid matrix,
 --     per-product-low        each of which multiplies at most 65,536 entries
 --     rows-ended, product-ended, row-behind      a loop over all rows is one product, which goes from the first row's start to the last one's end
 use mathlib.Core.Path.{_≡_, refl, sym, ap, ap₂, _∙_}
+use mathlib.Core.List.{List}
 use Prim.Native.Nat.{ℕ, zero, suc, _+_, _-_, _≤_, _<_}
 use native.Mathlib.Numerals.{add-one}
 use native.Mathlib.Omega.{arith}
 use lib.ListN.{length}
 use Rattle.meaning.specs.List.{at}
-use Rattle.meaning.specs.Matrix.{Matrix, size, perProduct, multiplied}
-use Rattle.laws.specs.Products.{multiplied-none, multiplied-one, multiplied-add, multiplied-most, rows-entries}
+use Rattle.meaning.specs.Matrix.{Matrix, size, perProduct, multiplied, scaled}
+use Rattle.laws.specs.Products.{multiplied-none, multiplied-one, multiplied-add, multiplied-most, multiplied-scaled, rows-entries}
 use Rattle.checks.specs.declared.Products.{Products}
 use Rattle.checks.specs.Valid.{Valid}
 
@@ -32,6 +34,10 @@ products-add A j k m e f g =
 
 pub products-next : (A : Matrix) {a r : Products} → a ≡ productsWith (a .made) A → r ≡ added a (productsWith 1 A) → r ≡ productsWith (r .made) A
 products-next A {a} {r} e f = f ∙ products-add A (a .made) 1 (r .made) e refl (sym (ap (λ (x : Products). x .made) f))
+
+-- products with AX are counted as those with A
+pub products-scaled : (p : ℕ) (A : Matrix) (X : List ℕ) (k : ℕ) → productsWith k A ≡ productsWith k (scaled p A X)
+products-scaled p A X k = ap {B = Products} (λ m. record { made = k; multiplied = m }) (sym (multiplied-scaled p A X k))
 
 -- ---- 64 bits
 

@@ -4,6 +4,7 @@
 --     row-reduced      a row's sum by the bounds that a loop over rows carries, reduced
 --     step-product     step p A 0 x v ≡ product p A v; step-made: what such a step leaves
 --     step-scaled      a step with AX from v is one with A from Xv
+--     scaled-vector    what the code leaves of a vector that it scales is Xv
 --     sum-head, sum-scale, sum-swap      laws of sums
 --     power-zero, power-suc      the clauses of power
 --     combination      element j of g(A)v before it is reduced
@@ -13,23 +14,32 @@
 --     horner-begins, horner-goes-on      the rule as a loop runs it: from the last coefficient, and by one step more
 --     Turn               the rule by turns between two slices: turn-even, turn-odd where it begins; turn-work, turn-out: what is read next; turn-to-even,
 --                        turn-to-odd: a step more
---     vector-step, vector-product, vector-apply      what is reduced has elements below p
+--     after-plain        without scales g(AX)v is g(A)v
+--     vector-diagonal, vector-step, vector-product, vector-apply      what is reduced has elements below p
 use mathlib.Core.Path.{_≡_, refl, sym, ap, ap₂, _∙_, subst}
-use mathlib.Core.Logic.{_≢_}
+use mathlib.Core.Logic.{_≢_, _⊎_, inl, inr}
 use mathlib.Core.List.{List, [], _∷_}
 use Prim.Native.Nat.{ℕ, zero, suc, _+_, _*_, _-_, _%_, _<_}
 use native.Mathlib.Nat.{zero-add, add-zero, zero-mul, mul-zero, mul-add, mul-left-comm, add-mod-mod}
+use native.Mathlib.Decide.{ℕ-discrete}
 use native.Mathlib.Omega.{arith}
 use lib.ListN.{length, drop}
 use lib.Seq.{drop-cons, drop-length}
 use Rattle.meaning.specs.List.{at, sum, sumFrom, table}
 use Rattle.meaning.specs.Field.{times}
-use Rattle.meaning.specs.Matrix.{Matrix, size, product, power, apply, scaled, diagonal}
+use Rattle.meaning.specs.Matrix.{Matrix, size, product, power, apply, scaleAt, scaled, diagonal}
 use Rattle.laws.specs.List.{sum-zero, sum-suc, sum-ext, sum-zeros, sum-add, sum-mod, sum-mod-ext, length-table, getD-table, table-ext}
 use Rattle.residue.specs.Numbers.{mul-mod-mod}
-use Rattle.bridge.specs.Scaled.{row-scaled}
-use Rattle.checks.specs.Valid.{Valid, Vector, term, rowProduct, vector-table}
+use Rattle.bridge.specs.Scaled.{row-scaled, scaled-none}
+use Rattle.meaning.specs.Refusal.{unlessRefused}
+use Rattle.meaning.specs.Calls.{applyRefusal, applyAfter}
+use Rattle.laws.specs.Refusal.{unlessRefused-some}
+use Rattle.checks.specs.Matrix.{scaledApplyRefusal, scaledApplyAfter, apply-plain, apply-accepted}
+use Rattle.checks.specs.Valid.{Valid, Scales, Vector, term, rowProduct, vector-table}
+use Rattle.modular.specs.declared.modulus.Modulus.{Modulus}
 use Rattle.modular.specs.declared.sums.Total.{Total}
+use Rattle.modular.specs.Modulus.{Modular}
+use Rattle.modular.specs.Diagonal.{scaledBy, scale-of}
 use Rattle.modular.specs.Total.{number}
 
 abbrev pub stepAt : ℕ → Matrix → ℕ → List ℕ → List ℕ → ℕ → ℕ
@@ -65,6 +75,14 @@ step-scaled p A X c x v =
     table-ext (size A) (stepAt p (scaled p A X) c x v) (stepAt p A c x (diagonal p X v))
     (λ i l. sym (add-mod-mod (c * at x i) (rowProduct (scaled p A X) v i) p) ∙ ap (λ s. (c * at x i + s) % p) (row-scaled p A X v i)
     ∙ add-mod-mod (c * at x i) (rowProduct A (diagonal p X v) i) p)
+
+-- what the code leaves of a vector that it scales
+pub scaled-vector : {m : Modulus} {n : ℕ} {X v : List ℕ} → Modular m → Scales (m .p) n X → Vector (m .p) n v → scaledBy m X v ≡ diagonal (m .p) X v
+scaled-vector {m} {n} {X} {v} h x w = scale-of m X v h (number (x .number)) (x .below) (λ j l. w .below j (omega (arith, l, w .places)))
+  where
+    number : (length X ≡ 0) ⊎ (length X ≡ n) → (length X ≡ 0) ⊎ (length X ≡ length v)
+    number (inl z) = inl z
+    number (inr e) = inr (e ∙ sym (w .places))
 
 -- ---- sums
 
@@ -199,6 +217,10 @@ horner-goes-on p A h g v i w w′ l k held made =
 
 -- ---- their elements
 
+pub vector-diagonal : (p : ℕ) (X v : List ℕ) {n : ℕ} → 0 < p → Vector p n v → Vector p n (diagonal p X v)
+unfolding diagonal
+vector-diagonal p X v l h = subst (λ k. Vector p k (diagonal p X v)) (h .places) (vector-table p (length v) (λ j. at v j * scaleAt X j) l)
+
 pub vector-step : (p : ℕ) (A : Matrix) (c : ℕ) (x v : List ℕ) → 0 < p → Vector p (size A) (step p A c x v)
 unfolding step
 vector-step p A c x v l = vector-table p (size A) (λ i. c * at x i + rowProduct A v i) l
@@ -283,3 +305,20 @@ module _ {p : ℕ} {A : Matrix} {g v : List ℕ} {i : ℕ} {out work : List ℕ}
         even = λ e. absurd (n e);
         odd = λ z. next;
       }
+
+-- ---- no scales
+
+-- g(AX)v without scales is g(A)v
+pub after-plain : (p : ℕ) (A : Matrix) (g v out work : List ℕ) → scaledApplyAfter p A [] g v out work ≡ applyAfter p A g v out work
+after-plain p A g v out work = go (ℕ-discrete (applyRefusal p A g v out work) 0)
+  where
+    same : scaledApplyRefusal p A [] g v out work ≡ applyRefusal p A g v out work
+    same = apply-plain p A g v out work
+
+    go : Dec (applyRefusal p A g v out work ≡ 0) → scaledApplyAfter p A [] g v out work ≡ applyAfter p A g v out work
+    go (yes z) =
+        let valid = apply-accepted p A [] g v out work (same ∙ z) .valid .valid in
+        ap₂ (λ k M. unlessRefused k (apply p M g v) out) same (scaled-none p A (valid .value))
+    go (no q) =
+        unlessRefused-some (scaledApplyRefusal p A [] g v out work) (apply p (scaled p A []) g v) out (λ z. q (sym same ∙ z))
+        ∙ sym (unlessRefused-some (applyRefusal p A g v out work) (apply p A g v) out q)

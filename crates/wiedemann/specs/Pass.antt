@@ -269,6 +269,6 @@ makes-passed {p} {A} {w} {u} {W} {W′} {D} {left} {q} k e long run =
     }
 
 -- the modulus by its other name
-pub makes-modulus : {m p : ℕ} {A : Matrix} {X : List ℕ} {w : ℕ} (words : List ℕ) (j : ℕ) {D : ℕ} {W : List ℕ} {q : CodePass} {W′ : List ℕ} → m ≡ p
+pub makes-modulus : {m p : ℕ} (A : Matrix) (X : List ℕ) {w : ℕ} (words : List ℕ) (j : ℕ) {D : ℕ} {W : List ℕ} {q : CodePass} {W′ : List ℕ} → m ≡ p
     → Makes m (scaled m A X) w (getD (projections m (size A) words) j []) D W q W′ → Makes p (scaled p A X) w (getD (projections p (size A) words) j []) D W q W′
-makes-modulus {A} {X} {w} words j {D} {W} {q} {W′} e h = subst (λ p. Makes p (scaled p A X) w (getD (projections p (size A) words) j []) D W q W′) e h
+makes-modulus A X {w} words j {D} {W} {q} {W′} e h = subst (λ p. Makes p (scaled p A X) w (getD (projections p (size A) words) j []) D W q W′) e h

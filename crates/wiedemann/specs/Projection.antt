@@ -20,11 +20,10 @@ use lib.ListN.{length, getD, List·getD-eq-default}
 use borrow.Author.Tests.{eq-eqb, ne-eqb}
 use Rattle.meaning.specs.List.{at, sum, table}
 use Rattle.meaning.specs.Solver.{vectorCount, projections, dot}
-use Rattle.laws.specs.List.{sum-suc, sum-zeros, getD-table}
+use Rattle.laws.specs.List.{sum-suc, sum-zeros, sum-mod-ext, getD-table}
 use Rattle.meaning.specs.Refusal.{wordsTaken}
 use Rattle.laws.specs.Solver.{vectorCount-div, vectorCount-whole, vectorCount-few, length-projections, projection-unit}
 use Rattle.residue.specs.Numbers.{mod-mul-mod}
-use Rattle.wiedemann.specs.Horner.{sum-mod-ext}
 
 abbrev pub wordTerm : List ℕ → List ℕ → ℕ → ℕ
 wordTerm words v i = at words i * at v i

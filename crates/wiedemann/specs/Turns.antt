@@ -3,7 +3,7 @@
 --     Other n from to        the region to write next: neither the first nor that at `from`
 --     regionAt n i           where the iterate after i products stands: region-first, region-odd, region-even; region-other: the next one
 --     Turning                what a product from one region into another asks
---     Prepared               the iterate times X, where the product will read it: prepared-none, prepared-first, prepared-other; prepared-turning
+--     Prepared               the iterate times X, where the product will read it: copied-part, prepared-none, prepared-other, prepared-first; prepared-turning
 --     Advanced               what a product leaves: Horner's step with r; advanced-scaled: with AX, of an iterate that was made ready
 --     regions, advanced, advanced-at      the step within the part that r and its iterates have is that
 --     Iterated               the terms of a sequence up to i, and Aⁱr in a region: iterated-none, iterated-more, iterated-from; Sequenced: all of
@@ -39,7 +39,7 @@ use Rattle.laws.specs.Written.{Written}
 use Rattle.laws.specs.Part.{part, Apart, length-part, at-part, part-ext, written-part}
 use Rattle.wiedemann.specs.Region.{Regions}
 use Rattle.laws.specs.Part as region
-use Rattle.wiedemann.specs.Horner.{step, stepAt, table-step, step-product, step-scaled, power-zero, power-suc, apply-one, apply-cons, vector-product}
+use Rattle.wiedemann.specs.Horner.{step, stepAt, table-step, step-product, step-scaled, vector-diagonal, power-zero, power-suc, apply-one, apply-cons, vector-product}
 use Rattle.checks.specs.Valid.{vector-table}
 use Rattle.recurrence.specs.Recurrence.{HoldsGenerator}
 use Rattle.laws.specs.Lent.{part-at, part-cons, part-of-part, lent, length-lent, take-lent, part-lent, inner-lent, written-lent, same-take, same-after, written-take, written-drop, written-inner, take-padded}
@@ -127,13 +127,13 @@ pub record Advanced (p : ℕ) (A : Matrix) (c : ℕ) (W : List ℕ) (from : ℕ)
   pub rest : drop (3 * size A) W′ ≡ drop (3 * size A) W
   pub holds : part to (size A) W′ ≡ step p A c (part 0 (size A) W) (part from (size A) W)
 
-pub record Prepared (p n i : ℕ) (X W : List ℕ) (at : ℕ) (W′ : List ℕ) : Type 0 where
-  pub seat : Seat n at
-  pub other : Other n at (regionAt n (i + 1))
+pub record Prepared (p n i : ℕ) (X W : List ℕ) (place : ℕ) (W′ : List ℕ) : Type 0 where
+  pub seat : Seat n place
+  pub other : Other n place (regionAt n (i + 1))
   pub same-length : length W′ ≡ length W
   pub front : take n W′ ≡ take n W
   pub rest : drop (3 * n) W′ ≡ drop (3 * n) W
-  pub holds : part at n W′ ≡ diagonal p X (part (regionAt n i) n W)
+  pub holds : part place n W′ ≡ diagonal p X (part (regionAt n i) n W)
 
 -- ---- an iterate made ready for its product
 
@@ -141,13 +141,16 @@ pub record Prepared (p n i : ℕ) (X W : List ℕ) (at : ℕ) (W′ : List ℕ) 
 scaled-lent : (W : List ℕ) (a n : ℕ) (Y : List ℕ) → a + n ≤ length W → length Y ≡ n → Written W a n (at Y) (lent W a n Y)
 scaled-lent W a n Y fits long = written-lent W a n (at Y) Y fits (table-of 0 Y n (at Y) long (λ i l. refl))
 
-module _ {p n i : ℕ} {X W : List ℕ} (t : Turning p n (regionAt n i) W) where
-  low : regionAt n i ≤ 2 * n
-  low = seat-low (t .seat)
+-- an iterate that was copied to the last region
+pub copied-part : {p n from idle : ℕ} {W W₁ : List ℕ} → Turning p n from W → idle ≡ 2 * n → Written W idle n (λ k. at W (from + k)) W₁ → part idle n W₁ ≡ part from n W
+copied-part {p} {n} {from} {idle} {W} {W₁} t seat w =
+    written-part W idle n (λ k. at W (from + k)) W₁ (omega (arith, t .room, seat)) w
+    ∙ sym (table-of 0 (part from n W) n (λ k. at W (from + k)) (t .elements .places) (λ k l. at-part from n W k l))
 
+module _ {p n i : ℕ} {X W : List ℕ} (t : Turning p n (regionAt n i) W) where
   -- no scales
-  pub prepared-none : {at : ℕ} → at ≡ regionAt n i → length X ≡ 0 → Prepared p n i X W at W
-  prepared-none {at} e none =
+  pub prepared-none : {place : ℕ} → place ≡ regionAt n i → length X ≡ 0 → Prepared p n i X W place W
+  prepared-none {place} e none =
       subst (λ k. Prepared p n i X W k W) (sym e)
       (record {
         seat = t .seat;
@@ -161,15 +164,15 @@ module _ {p n i : ℕ} {X W : List ℕ} (t : Turning p n (regionAt n i) W) where
       })
 
   -- an iterate in its place
-  pub prepared-other : {at : ℕ} → at ≡ regionAt n i → 0 < i → Prepared p n i X W at (lent W at n (diagonal p X (part at n W)))
-  prepared-other {at} e some =
+  pub prepared-other : {place : ℕ} → place ≡ regionAt n i → 0 < i → Prepared p n i X W place (lent W place n (diagonal p X (part place n W)))
+  prepared-other {place} e some =
       subst (λ k. Prepared p n i X W k (lent W k n (diagonal p X (part k n W)))) (sym e)
       (record {
         seat = t .seat;
         other = region-other n i;
         same-length = whole .same-length;
         front = written-take n high (omega (arith, t .room)) whole;
-        rest = written-drop (3 * n) (omega (arith, low)) whole;
+        rest = written-drop (3 * n) (omega (arith, seat-low (t .seat))) whole;
         holds = part-lent W from n Y fits long;
       })
     where
@@ -180,7 +183,7 @@ module _ {p n i : ℕ} {X W : List ℕ} (t : Turning p n (regionAt n i) W) where
       Y = diagonal p X (part from n W)
 
       fits : from + n ≤ length W
-      fits = omega (arith, t .room, low)
+      fits = omega (arith, t .room, seat-low (t .seat))
 
       long : length Y ≡ n
       long = length-diagonal p X (part from n W) ∙ t .elements .places
@@ -209,7 +212,7 @@ module _ {p n i : ℕ} {X W : List ℕ} (t : Turning p n (regionAt n i) W) where
             written-take n (omega (arith, seat)) (omega (arith, t .room, w .same-length)) whole
             ∙ written-take n (omega (arith, seat)) (omega (arith, t .room)) w;
         rest = written-drop (3 * n) (omega (arith, seat)) whole ∙ written-drop (3 * n) (omega (arith, seat)) w;
-        holds = part-lent W₁ idle n Y fits long ∙ ap (diagonal p X) copied;
+        holds = part-lent W₁ idle n Y fits long ∙ ap (diagonal p X) (copied-part (subst (λ k. Turning p n k W) (sym e) t) seat w ∙ ap (λ k. part k n W) e);
       }
     where
       to : regionAt n (i + 1) ≡ n
@@ -217,12 +220,6 @@ module _ {p n i : ℕ} {X W : List ℕ} (t : Turning p n (regionAt n i) W) where
 
       fits : idle + n ≤ length W₁
       fits = omega (arith, t .room, seat, w .same-length)
-
-      copied : part idle n W₁ ≡ part (regionAt n i) n W
-      copied =
-          written-part W idle n (λ k. at W (from + k)) W₁ (omega (arith, t .room, seat)) w
-          ∙ sym (table-of 0 (part (regionAt n i) n W) n (λ k. at W (from + k)) (t .elements .places)
-          (λ k l. at-part (regionAt n i) n W k l ∙ ap (λ a. at W (a + k)) (sym e)))
 
       Y : List ℕ
       Y = diagonal p X (part idle n W₁)
@@ -234,21 +231,17 @@ module _ {p n i : ℕ} {X W : List ℕ} (t : Turning p n (regionAt n i) W) where
       whole = scaled-lent W₁ idle n Y fits long
 
 -- what the product asks then
-pub prepared-turning : {p n i : ℕ} {X W : List ℕ} {at : ℕ} {W′ : List ℕ} → 0 < p → 3 * n ≤ length W → Vector p n (part (regionAt n i) n W)
-    → Prepared p n i X W at W′ → Turning p n at W′
-unfolding diagonal
-prepared-turning {p} {n} {i} {X} {W} {at} {W′} l room v h =
+pub prepared-turning : {p n i : ℕ} {X W : List ℕ} {place : ℕ} {W′ : List ℕ} → 0 < p → Turning p n (regionAt n i) W → Prepared p n i X W place W′ → Turning p n place W′
+prepared-turning {p} {n} {i} {X} {W} {place} {W′} l t h =
     record {
       seat = h .seat;
-      room = omega (arith, room, h .same-length);
-      elements =
-          subst (Vector p n) (sym (h .holds))
-          (subst (λ k. Vector p k (diagonal p X (part (regionAt n i) n W))) (v .places) (vector-table p (length (part (regionAt n i) n W)) _ l));
+      room = omega (arith, t .room, h .same-length);
+      elements = subst (Vector p n) (sym (h .holds)) (vector-diagonal p X (part (regionAt n i) n W) l (t .elements));
     }
 
-pub advanced-scaled : {p : ℕ} {A : Matrix} {X : List ℕ} {i c at to : ℕ} {W W₁ W₂ : List ℕ} → Prepared p (size A) i X W at W₁ → Advanced p A c W₁ at W₂ to
+pub advanced-scaled : {p : ℕ} {A : Matrix} {X : List ℕ} {i c place to : ℕ} {W W₁ W₂ : List ℕ} → Prepared p (size A) i X W place W₁ → Advanced p A c W₁ place W₂ to
     → Advanced p (scaled p A X) c W (regionAt (size A) i) W₂ to
-advanced-scaled {p} {A} {X} {i} {c} {at} {to} {W} {W₁} {W₂} h a =
+advanced-scaled {p} {A} {X} {i} {c} {place} {to} {W} {W₁} {W₂} h a =
     record {
       seat = a .seat;
       same-length = a .same-length ∙ h .same-length;

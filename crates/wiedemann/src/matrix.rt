@@ -208,6 +208,30 @@ fn multiple(m: Modulus, c: u32, v: &[u32], out: &mut [u32])
     }
 }
 
+// Horner's step with AX: v is scaled in its place, and its product with A then is AX's with what it was.
+fn scaled_step(
+    m: Modulus,
+    c: u32,
+    x: &[u32],
+    starts: &[u32],
+    columns: &[u32],
+    values: &[u32],
+    scales: &[u32],
+    v: &mut [u32],
+    out: &mut [u32],
+) -> Products
+    requires { ⌜ ValidScaled (m .p) (matrix (now starts) (now columns) (now values)) (now scales) ⌝ }
+    requires { ⌜ Modular m × (length (now out) ≡ length (now starts) - 1) × (length (now x) ≡ length (now starts) - 1)
+        × Vector (m .p) (length (now starts) - 1) (now v) ⌝ }
+    ensures { λ done. ⌜ (done ≡ productsWith 1 (scaled (m .p) (matrix (now (starts .entry)) (now (columns .entry)) (now (values .entry))) (now (scales .entry))))
+        × (now (out .exit) ≡ step (m .p) (scaled (m .p) (matrix (now (starts .entry)) (now (columns .entry)) (now (values .entry))) (now (scales .entry)))
+        c (now (x .entry)) (now (v .entry)))
+        × (length (now (v .exit)) ≡ length (now (v .entry))) ⌝ }
+{
+    scale(m, scales, v);
+    step(m, c, x, starts, columns, values, v, out)
+}
+
 // g(AX)v into out by Horner's rule, by turns into work and into out, which has what is made of the even coefficients; what a product reads is scaled
 // before it. Nothing is copied. The answer is the products that it made: one for each coefficient after the first.
 pub(crate) fn horner(
@@ -240,11 +264,11 @@ pub(crate) fn horner(
     while 0 < i {
         i -= 1;
         if i % 2 == 0 {
-            scale(m, scales, work);
-            done = plus(done, step(m, g[i], v, starts, columns, values, work, out));
+            let more = scaled_step(m, g[i], v, starts, columns, values, scales, work, out);
+            done = plus(done, more);
         } else {
-            scale(m, scales, out);
-            done = plus(done, step(m, g[i], v, starts, columns, values, out, work));
+            let more = scaled_step(m, g[i], v, starts, columns, values, scales, out, work);
+            done = plus(done, more);
         }
     }
     done

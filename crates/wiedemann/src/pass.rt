@@ -12,6 +12,7 @@ ghost use Rattle.meaning.specs.Solver.{projections, dot};
 ghost use Rattle.modular.specs.Modulus.{Modular};
 ghost use Rattle.checks.specs.Valid.{ValidScaled, Scales, Vector};
 ghost use Rattle.laws.specs.Part.{part};
+ghost use Rattle.laws.specs.Lent.{lent};
 ghost use Rattle.wiedemann.specs.Projection.{Words};
 ghost use Rattle.wiedemann.specs.Turns.{regionAt, Turning, Prepared, Advanced, Sequenced, Leading, Applied, Generated};
 ghost use Rattle.wiedemann.specs.Pass.{generatorAt, Shortened, Makes, Passes};
@@ -44,6 +45,16 @@ pub(crate) fn region(n: usize, i: usize) -> usize
     if i % 2 == 1 { n } else { 2 * n }
 }
 
+// The n places from `at` on times X.
+fn scale_part(m: Modulus, scales: &[u32], n: usize, area: &mut [u32], at: usize)
+    requires { ⌜ Modular m × (n ≤ 4096) × (at ≤ 8192) × (at + n ≤ length (now area)) × Scales (m .p) n (now scales)
+        × Vector (m .p) n (part at n (now area)) ⌝ }
+    ensures { λ _. ⌜ now (area .exit) ≡ lent (now (area .entry)) at n (diagonal (m .p) (now (scales .entry)) (part at n (now (area .entry)))) ⌝ }
+{
+    let end = at + n;
+    scale(m, scales, &mut area[at..end]);
+}
+
 // The iterate after i products made ready for the next one: times X, in its place, or r, which stays, in the region that is idle then. Nothing is done
 // where there are no scales. The answer is where it stands.
 fn prepare(m: Modulus, scales: &[u32], n: usize, area: &mut [u32], i: usize) -> usize
@@ -54,13 +65,14 @@ fn prepare(m: Modulus, scales: &[u32], n: usize, area: &mut [u32], i: usize) -> 
     if scales.len() == 0 {
         return from;
     }
-    let at = if i == 0 { 2 * n } else { from };
     if i == 0 {
-        copy_within(area, from, at, n);
+        let idle = 2 * n;
+        copy_within(area, from, idle, n);
+        scale_part(m, scales, n, area, idle);
+        return idle;
     }
-    let end = at + n;
-    scale(m, scales, &mut area[at..end]);
-    at
+    scale_part(m, scales, n, area, from);
+    from
 }
 
 // Horner's step after some products: c × r plus AX times the iterate, into the next region; for that the iterate is scaled first. r and the iterates
@@ -234,7 +246,16 @@ fn factor_of_terms(
     let n = starts.len() - 1;
     let first = terms(m, starts, columns, values, scales, words, u, area, left);
     let t = recurrence_of_terms(m, area, 3 * n, 2 * left);
-    let more = apply_within(m, starts, columns, values, scales, area, 3 * n + (2 * left + 2), t);
+    let more = apply_within(
+        m,
+        starts,
+        columns,
+        values,
+        scales,
+        area,
+        3 * n + (2 * left + 2),
+        t,
+    );
     let done = plus(first, more);
     Pass {
         left,
@@ -267,9 +288,30 @@ fn take_factor(
 {
     if window == 0 {
         let r = 3 * (starts.len() - 1);
-        return factor_of_terms(m, starts, columns, values, scales, words, u, &mut area[r..], left);
+        return factor_of_terms(
+            m,
+            starts,
+            columns,
+            values,
+            scales,
+            words,
+            u,
+            &mut area[r..],
+            left,
+        );
     }
-    factor_by_window(m, starts, columns, values, scales, words, u, area, left, window)
+    factor_by_window(
+        m,
+        starts,
+        columns,
+        values,
+        scales,
+        words,
+        u,
+        area,
+        left,
+        window,
+    )
 }
 
 // ---- the call
@@ -355,5 +397,16 @@ pub fn make_pass(
         return Passed::Refused(number);
     }
     let m = Modulus::of(field.p);
-    Passed::Made(pass_of_state(m, starts, columns, values, scales, words, window, j, d, work))
+    Passed::Made(pass_of_state(
+        m,
+        starts,
+        columns,
+        values,
+        scales,
+        words,
+        window,
+        j,
+        d,
+        work,
+    ))
 }

@@ -213,7 +213,18 @@ fn listen(
 {
     let mut heard = from;
     while goes_on(window, left, heard) {
-        heard = listen_next(m, starts, columns, values, scales, words, u, area, left, heard);
+        heard = listen_next(
+            m,
+            starts,
+            columns,
+            values,
+            scales,
+            words,
+            u,
+            area,
+            left,
+            heard,
+        );
     }
     heard
 }
@@ -342,11 +353,32 @@ fn finish(
     ensures { λ q. ⌜ Finished (m .p) (scaled (m .p) (matrix (now (starts .entry)) (now (columns .entry)) (now (values .entry))) (now (scales .entry))) left
         (getD (projections (m .p) (length (now (starts .entry)) - 1) (now (words .entry))) (u .index) []) (tried .made) (now (area .entry)) q (now (area .exit)) ⌝ }
 {
-    let all = listen(m, starts, columns, values, scales, words, u, area, left, 0, heard);
+    let all = listen(
+        m,
+        starts,
+        columns,
+        values,
+        scales,
+        words,
+        u,
+        area,
+        left,
+        0,
+        heard,
+    );
     let n = starts.len() - 1;
     let steps = all.steps;
     let t = steps.L;
-    let more = conclude(m, starts, columns, values, scales, area, 3 * n + (2 * left + 2), t);
+    let more = conclude(
+        m,
+        starts,
+        columns,
+        values,
+        scales,
+        area,
+        3 * n + (2 * left + 2),
+        t,
+    );
     let first = plus(all.done, tried);
     let done = plus(first, more);
     Pass {

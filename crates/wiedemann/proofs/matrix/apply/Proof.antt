@@ -1,39 +1,20 @@
-use mathlib.Core.Path.{_≡_, refl, sym, ap, _∙_, subst}
+use mathlib.Core.Path.{_≡_, sym, ap, _∙_, subst}
 use Prim.Native.Nat.{_-_}
-use native.Mathlib.Nat.{sub-zero}
-use native.Mathlib.Omega.{arith}
 use lib.ListN.{length}
 use denote.Ref.{now}
-use Rattle.meaning.specs.Matrix.{matrix, apply}
-use Rattle.meaning.specs.Calls.{applyRefusal}
-use Rattle.checks.specs.Matrix.{Applicable, apply-accepted}
-use Rattle.checks.specs.Answers.{writes-refused, writes-done}
-use Rattle.laws.specs.Part.{length-part}
-use Rattle.modular.specs.Modulus.{Modular, modular-of}
+use Rattle.meaning.specs.Matrix.{matrix}
+use Rattle.checks.specs.Matrix.{apply-plain}
+use Rattle.checks.specs.Answers.{Writes}
+use Rattle.wiedemann.specs.Horner.{after-plain}
 use borrow.Author.Needs.{needs}
 use Rattle.wiedemann.proofs.matrix.apply.Statement.{statement}
 use Rattle.wiedemann.proofs.matrix.apply.Tie as tie
 
-none : (c : tie.Else1)
-    → let at = c .before .before .before .before .before .before .before .before .before .before .before .args in
-    applyRefusal (at .field .p) (matrix (now (at .starts)) (now (at .columns)) (now (at .values))) (now (at .g)) (now (at .v)) (now (at .out)) (now (at .work)) ≡ 0
-none c = sym (c .before .apply-refusal .ensures) ∙ c .if1 .left
+slice-aggregate-apply-scaled : tie.Need-slice-aggregate-apply-scaled
+slice-aggregate-apply-scaled c = search needs
 
-accepted : (c : tie.Else1)
-    → let at = c .before .before .before .before .before .before .before .before .before .before .before .args in
-    Applicable (at .field .p) (matrix (now (at .starts)) (now (at .columns)) (now (at .values))) (now (at .g)) (now (at .v)) (now (at .out)) (now (at .work))
-accepted c =
-    let at = c .before .before .before .before .before .before .before .before .before .before .before .args in
-    apply-accepted (at .field .p) (matrix (now (at .starts)) (now (at .columns)) (now (at .values))) (now (at .g)) (now (at .v)) (now (at .out)) (now (at .work)) (none c)
-
--- the modulus that was made
-modulus : (c : tie.After-of) → (c .of .result .p ≡ c .before .before .before .before .before .before .before .before .before .before .before .before .args .field .p) × Modular (c .of .result)
-modulus c =
-    let known = accepted (c .before) .valid in
-    modular-of (c .of .result) (c .before .before .before .before .before .before .before .before .before .before .before .before .args .field .p) (c .of .ensures) (known .positive) (known .small)
-
-apply-refusal-requires : tie.Need-apply-refusal-requires
-apply-refusal-requires c κs = search needs
+apply-scaled-requires : tie.Need-apply-scaled-requires
+apply-scaled-requires c κs = search needs
 
 same-length : tie.Need-same-length
 same-length c = search needs
@@ -43,69 +24,23 @@ same-length-2 c = search needs
 
 returns : tie.Need-returns
 returns c =
-    let at = c .before .before .before .before .before .before .before .before .before .before .before .args in
+    let at = c .before .before .before .before .before .before .before .before .before .before .before .before .before .before .before .args in
     let A = matrix (now (at .starts)) (now (at .columns)) (now (at .values)) in
-    let number = c .before .apply-refusal in
-    let said = writes-refused (number .result) (applyRefusal (at .field .p) A (now (at .g)) (now (at .v)) (now (at .out)) (now (at .work)))
-    (apply (at .field .p) A (now (at .g)) (now (at .v))) (now (at .out)) (number .ensures) (c .if1 .taken) in
-    (said .0, (said .1, λ q. refl))
-
-of-requires : tie.Need-of-requires
-of-requires c κs = search needs
-
-mul-horner : tie.Need-mul-horner
-mul-horner c = search needs
-
-sub-horner : tie.Need-sub-horner
-sub-horner c = search needs
-
-part-horner-start : tie.Need-part-horner-start
-part-horner-start c = search needs
-
-part-horner-end : tie.Need-part-horner-end
-part-horner-end c = let known = accepted (c .before .before) in omega (arith, known .vector .places, known .room)
-
-horner-requires : tie.Need-horner-requires
-horner-requires c κs =
-    let at = c .before .before .before .before .before .before .before .before .before .before .before .before .before .before .args in
-    let made = modulus (c .before .before) in
-    let n = length (now (at .v)) in
-    let known =
-    subst (λ p. Applicable p (matrix (now (at .starts)) (now (at .columns)) (now (at .values))) (now (at .g)) (now (at .v)) (now (at .out)) (now (at .work))) (sym (made .0)) (accepted (c .before .before .before)) in
-    let lent = length-part 0 (n - 0) (now (at .work)) (omega (arith, known .vector .places, known .room)) ∙ sub-zero n ∙ known .vector .places in
-    (known .valid, (made .1, known .places, lent, known .vector, known .some, omega (arith, known .few, known .valid .sized), known .coefficients))
-
-same-length-3 : tie.Need-same-length-3
-same-length-3 c = search needs
-
-same-length-4 : tie.Need-same-length-4
-same-length-4 c = search needs
-
-returns-2 : tie.Need-returns-2
-returns-2 c =
-    let at = c .before .before .before .before .before .before .before .before .before .before .before .before .before .before .before .before .before .before .before .args in
-    let A = matrix (now (at .starts)) (now (at .columns)) (now (at .values)) in
-    let zero = none (c .before .before .before .before .before .before .before .before) in
-    let made = c .before .before .before .before .horner in
-    let said =
-    writes-done (applyRefusal (at .field .p) A (now (at .g)) (now (at .v)) (now (at .out)) (now (at .work))) (apply (at .field .p) A (now (at .g)) (now (at .v)))
-    (now (at .out)) (made .last .1 .1 .1 .1 .1 .1 .0) zero (made .ensures .0) (made .ensures .1 ∙ ap (λ p. apply p A (now (at .g)) (now (at .v))) (modulus (c .before .before .before .before .before .before .before) .0)) in
-    (said .0, (said .1, λ q. absurd (q zero)))
+    let plain = apply-plain (at .field .p) A (now (at .g)) (now (at .v)) (now (at .out)) (now (at .work)) in
+    let made = c .before .before .before .before .apply-scaled in (
+      subst (λ k. Writes (made .result) k (length (now (at .g)) - 1) A) plain (made .ensures .0),
+      (
+        made .ensures .1 .0 ∙ after-plain (at .field .p) A (now (at .g)) (now (at .v)) (now (at .out)) (now (at .work)),
+        λ q. made .ensures .1 .1 (λ z. q (sym plain ∙ z)),
+      ),
+    )
 
 pub apply-spec : {M : Type 1} → statement M
 apply-spec =
     tie.close
     (tie.spec
-    apply-refusal-requires
+    slice-aggregate-apply-scaled
+    apply-scaled-requires
     same-length
     same-length-2
-    returns
-    of-requires
-    mul-horner
-    sub-horner
-    part-horner-start
-    part-horner-end
-    horner-requires
-    same-length-3
-    same-length-4
-    returns-2)
+    returns)

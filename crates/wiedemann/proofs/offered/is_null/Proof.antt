@@ -1,5 +1,6 @@
 use mathlib.Core.Path.{_≡_, sym, ap, ap₂, _∙_, subst}
 use mathlib.Core.Bool.{false, not, _&&_}
+use mathlib.Core.List.{[]}
 use denote.Ref.{now}
 use Rattle.meaning.specs.List.{isZero}
 use Rattle.meaning.specs.Matrix.{matrix, product}
@@ -14,43 +15,46 @@ use Rattle.wiedemann.proofs.offered.is_null.Statement.{statement}
 use Rattle.wiedemann.proofs.offered.is_null.Tie as tie
 
 none : (c : tie.Else1)
-    → let at = c .before .before .before .before .before .before .args in
+    → let at = c .before .before .before .before .before .before .before .args in
     isNullRefusal (at .field .p) (matrix (now (at .starts)) (now (at .columns)) (now (at .values))) (now (at .w)) ≡ 0
 unfolding isNullRefusal
 none c = sym (c .before .system-refusal .ensures) ∙ c .if1 .left
 
 accepted : (c : tie.Else1)
-    → let at = c .before .before .before .before .before .before .args in
+    → let at = c .before .before .before .before .before .before .before .args in
     Accepted (at .field .p) (matrix (now (at .starts)) (now (at .columns)) (now (at .values))) (now (at .w))
 unfolding isNullRefusal
 accepted c =
-    let at = c .before .before .before .before .before .before .args in
-    system-accepted (at .field .p) (matrix (now (at .starts)) (now (at .columns)) (now (at .values))) (now (at .w)) (none c)
+    let at = c .before .before .before .before .before .before .before .args in
+    system-accepted (at .field .p) (matrix (now (at .starts)) (now (at .columns)) (now (at .values))) [] (now (at .w)) (none c)
 
 answer : (c : tie.Else1)
-    → let at = c .before .before .before .before .before .before .args in
+    → let at = c .before .before .before .before .before .before .before .args in
     isNullAnswer (at .field .p) (matrix (now (at .starts)) (now (at .columns)) (now (at .values))) (now (at .w))
     ≡ not (isZero (now (at .w))) && isZero (product (at .field .p) (matrix (now (at .starts)) (now (at .columns)) (now (at .values))) (now (at .w)))
 unfolding isNull
 answer c =
-    let at = c .before .before .before .before .before .before .args in
+    let at = c .before .before .before .before .before .before .before .args in
     let A = matrix (now (at .starts)) (now (at .columns)) (now (at .values)) in
     unlessRefused-none (isNullRefusal (at .field .p) A (now (at .w))) (isNull (at .field .p) A (now (at .w))) false (none c)
 
 -- the modulus that was made
-modulus : (c : tie.After-of) → (c .of .result .p ≡ c .before .before .before .before .before .before .before .args .field .p) × Modular (c .of .result)
+modulus : (c : tie.After-of) → (c .of .result .p ≡ c .before .before .before .before .before .before .before .before .args .field .p) × Modular (c .of .result)
 modulus c =
     let known = accepted (c .before) .valid in
-    modular-of (c .of .result) (c .before .before .before .before .before .before .before .args .field .p) (c .of .ensures) (known .positive) (known .small)
+    modular-of (c .of .result) (c .before .before .before .before .before .before .before .before .args .field .p) (c .of .ensures) (known .positive) (known .small)
 
 -- w's product is zero
 vanished : (c : tie.After-vanishes)
-    → let at = c .before .before .before .before .before .before .before .before .args in
+    → let at = c .before .before .before .before .before .before .before .before .before .args in
     isZero (product (at .field .p) (matrix (now (at .starts)) (now (at .columns)) (now (at .values))) (now (at .w))) ≡ c .vanishes .result .equal
 vanished c =
-    let at = c .before .before .before .before .before .before .before .before .args in
+    let at = c .before .before .before .before .before .before .before .before .before .args in
     ap (λ p. isZero (product p (matrix (now (at .starts)) (now (at .columns)) (now (at .values))) (now (at .w)))) (sym (modulus (c .before) .0))
     ∙ sym (c .vanishes .ensures .1)
+
+slice-aggregate-system-refusal : tie.Need-slice-aggregate-system-refusal
+slice-aggregate-system-refusal c = search needs
 
 system-refusal-requires : tie.Need-system-refusal-requires
 system-refusal-requires c κs = search needs
@@ -58,7 +62,7 @@ system-refusal-requires c κs = search needs
 returns : tie.Need-returns
 unfolding isNullRefusal
 returns c =
-    let at = c .before .before .before .before .before .before .args in
+    let at = c .before .before .before .before .before .before .before .args in
     let A = matrix (now (at .starts)) (now (at .columns)) (now (at .values)) in
     let number = c .before .system-refusal in
     decides-refused (number .result) (isNullRefusal (at .field .p) A (now (at .w))) (isNull (at .field .p) A (now (at .w))) (number .ensures) (c .if1 .taken)
@@ -68,7 +72,7 @@ of-requires c κs = search needs
 
 vanishes-requires : tie.Need-vanishes-requires
 vanishes-requires c κs =
-    let at = c .before .before .before .before .before .before .before .args in
+    let at = c .before .before .before .before .before .before .before .before .args in
     let known =
     subst (λ p. Accepted p (matrix (now (at .starts)) (now (at .columns)) (now (at .values))) (now (at .w))) (sym (modulus c .0)) (accepted (c .before)) in
     (known .valid, (modulus c .1, known .vector))
@@ -98,6 +102,7 @@ pub is-null-spec : {M : Type 1} → statement M
 is-null-spec =
     tie.close
     (tie.spec
+    slice-aggregate-system-refusal
     system-refusal-requires
     returns
     of-requires

@@ -1,3 +1,4 @@
+use Rattle.checks.specs.Valid.{valid-scaled}
 use Rattle.wiedemann.specs.Turns.{seat-low, regionAt, region-first, Applying, applying-none, applying-more, applied-all}
 use mathlib.Core.Logic.{inl}
 use Rattle.wiedemann.specs.Horner.{vector-apply}
@@ -32,10 +33,10 @@ sub-i : tie.Need-sub-i Inv-loop μ-loop
 sub-i c = search needs
 
 add-c : tie.Need-add-c Inv-loop μ-loop
-add-c c = omega (arith, c .before .loop .inv .0, c .before .before .before .before .before .before .before .pre .1 .2 .room, c .before .before .before .before .before .before .good)
+add-c c = omega (arith, c .before .loop .inv .0, c .before .before .before .before .before .before .before .pre .1 .2 .room, c .before .before .before .before .before .before .before .good)
 
 mul-c : tie.Need-mul-c Inv-loop μ-loop
-mul-c c = omega (arith, c .before .loop .inv .0, c .before .before .before .before .before .before .before .pre .1 .2 .room, c .before .before .before .before .before .before .good)
+mul-c c = omega (arith, c .before .loop .inv .0, c .before .before .before .before .before .before .before .pre .1 .2 .room, c .before .before .before .before .before .before .before .good)
 
 slice-read-c : tie.Need-slice-read-c Inv-loop μ-loop
 slice-read-c c =
@@ -55,7 +56,7 @@ advance-requires c κs =
           room = omega (arith, pre .1 .2 .above, pre .1 .2 .room, loop .inv .1 .same-length);
           elements = rw (loop .inv .1 .holds) (vector-apply (a .m .p) A _ _ (pre .0 .valid .positive));
         },
-        products-few (pre .0) (omega (arith, loop .inv .0, pre .1 .1)) (loop .inv .2),
+        products-few (valid-scaled _ (pre .0 .valid)) (omega (arith, loop .inv .0, pre .1 .1)) (loop .inv .2),
       ),
     )
 
@@ -75,7 +76,7 @@ loop-again c =
     let back : loop .i ≡ i + 1 = omega (arith, test) in
     let n = length (now (a .starts)) - 1 in (
       omega (arith, loop .inv .0, one, test),
-      applying-more _ (pre .0) (pre .1 .2) (subst (λ m. Applying (a .m .p) A (now (a .area)) (a .f) (a .t) m (regionAt n (loop .done .made)) (loop .area)) back (loop .inv .1))
+      applying-more _ (valid-scaled _ (pre .0 .valid)) (pre .1 .2) (subst (λ m. Applying (a .m .p) A (now (a .area)) (a .f) (a .t) m (regionAt n (loop .done .made)) (loop .area)) back (loop .inv .1))
           (omega (arith, loop .inv .0, test)) refl (made .1),
       products-next A (loop .inv .2) (made .0),
     )

@@ -4,7 +4,7 @@ use Rattle.checks.specs.declared.Products.{Products}
 use Rattle.checks.specs.Products.{products-add, products-few}
 use Rattle.wiedemann.specs.Turns.{vector-terms}
 use Rattle.wiedemann.specs.Pass.{shortened}
-use Rattle.checks.specs.Valid.{Vector}
+use Rattle.checks.specs.Valid.{valid-scaled, Vector}
 use Rattle.meaning.specs.Matrix.{matrix, scaled}
 use Rattle.meaning.specs.Solver.{projections}
 use Rattle.laws.specs.Part.{part}
@@ -85,8 +85,8 @@ plus-requires : tie.Need-plus-requires
 plus-requires c κs =
     let pre = c .before .before .before .before .before .before .before .before .before .before .before .before .before .before .before .before .before .before .pre in
     let t = c .before .before .before .before .before .before .recurrence-of-terms .ensures .short in (
-      products-few (pre .0 .0) (omega (arith, pre .1 .0 .2)) (c .before .before .before .before .before .before .before .before .before .before .terms .ensures .0),
-      products-few (pre .0 .0) (omega (arith, t, pre .1 .0 .2)) (c .before .before .apply-within .ensures .0),
+      products-few (valid-scaled _ (pre .0 .0 .valid)) (omega (arith, pre .1 .0 .2)) (c .before .before .before .before .before .before .before .before .before .before .terms .ensures .0),
+      products-few (valid-scaled _ (pre .0 .0 .valid)) (omega (arith, t, pre .1 .0 .2)) (c .before .before .apply-within .ensures .0),
     )
 
 same-length : tie.Need-same-length

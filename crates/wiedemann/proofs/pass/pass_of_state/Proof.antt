@@ -24,7 +24,7 @@ returned c =
     let a = c .before .before .before .before .before .before .before .before .before .before .args in
     let W = now (a .work) in
     let first = 2 * (length (now (a .starts)) - 1) + 1 in
-    lent W first (length W - first) (c .before .before .take-factor .last .1 .1 .1 .1 .1 .1 .0)
+    lent W first (length W - first) (c .before .before .take-factor .last .1 .1 .1 .1 .1 .1 .1 .0)
 
 -- terms, recurrence and f(A)r, seen from the whole slice
 done : (c : tie.After-slice-known2)
@@ -32,7 +32,7 @@ done : (c : tie.After-slice-known2)
     let n = length (now (a .starts)) - 1 in
     Shortened (a .m .p) (scaled (a .m .p) (matrix (now (a .starts)) (now (a .columns)) (now (a .values))) (now (a .scales))) (a .window) (getD (projections (a .m .p) n (now (a .words))) (a .j) []) (n - a .d) (2 * n + 1) (residualAt n) (now (a .work)) (c .before .before .take-factor .result) (returned c)
 done c =
-    let start = c .before .before .before .before .before .before .before .before .before in
+    let start = c .before .before .before .before .before .before .before .before .before .before in
     let a = start .args in
     let W = now (a .work) in
     let n = length (now (a .starts)) - 1 in
@@ -42,10 +42,10 @@ done c =
     let m = length W - first in
     let fits : first + m ≤ length W = omega (arith, room) in
     let call = c .before .before .take-factor in
-    shortened-lent first first (residualAt n) m W (omega arith) refl refl (omega arith) fits (omega (arith, room, below)) (call .kept .1 .1 .1 .1 .1 .1 .0 ∙ length-part first m W fits) (call .ensures)
+    shortened-lent first first (residualAt n) m W (omega arith) refl refl (omega arith) fits (omega (arith, room, below)) (call .kept .1 .1 .1 .1 .1 .1 .1 .0 ∙ length-part first m W fits) (call .ensures)
 
 sub-n : tie.Need-sub-n
-sub-n c = omega (arith, c .before .before .before .before .before .before .pre .0 .0 .one-more)
+sub-n c = omega (arith, c .before .before .before .before .before .before .pre .0 .0 .valid .one-more)
 
 sub-left : tie.Need-sub-left
 sub-left c = omega (arith, c .before .before .before .before .before .before .pre .1 .below)

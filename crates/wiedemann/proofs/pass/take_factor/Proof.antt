@@ -31,7 +31,7 @@ part-factor-of-terms-end c = search needs
 
 factor-of-terms-requires : tie.Need-factor-of-terms-requires
 factor-of-terms-requires c κs =
-    let start = c .before .before .before .before .before .before .before in
+    let start = c .before .before .before .before .before .before .before .before in
     let a = start .args in
     let pre = start .pre in
     let W = now (a .area) in
@@ -46,7 +46,7 @@ same-length c = search needs
 
 returns : tie.Need-returns
 returns c =
-    let start = c .before .before .before .before .before .before .before .before .before .before in
+    let start = c .before .before .before .before .before .before .before .before .before .before .before in
     let a = start .args in
     let W = now (a .area) in
     let n = length (now (a .starts)) - 1 in
@@ -55,7 +55,7 @@ returns c =
     let fits : 3 * n + m ≤ length W = omega (arith, room) in
     let call = c .before .before .factor-of-terms in
     shortened-window (sym (c .before .before .before .before .if1 .taken))
-    (shortened-lent 0 (3 * n) (3 * n) m W (omega arith) refl refl (omega arith) fits (omega (arith, room)) (call .kept .1 .1 .1 .1 .1 .1 .0 ∙ length-part (3 * n) m W fits) (call .ensures))
+    (shortened-lent 0 (3 * n) (3 * n) m W (omega arith) refl refl (omega arith) fits (omega (arith, room)) (call .kept .1 .1 .1 .1 .1 .1 .1 .0 ∙ length-part (3 * n) m W fits) (call .ensures))
 
 factor-by-window-requires : tie.Need-factor-by-window-requires
 factor-by-window-requires c κs = c .before .before .before .before .before .before .before .before .pre

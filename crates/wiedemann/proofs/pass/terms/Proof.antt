@@ -1,7 +1,7 @@
 use Rattle.wiedemann.specs.Turns.{seat-low, regionAt, region-first, vector-power, Iterated, iterated-none, iterated-more, iterated-from, iterated-all}
 use Rattle.wiedemann.specs.Horner.{vector-step}
 use Rattle.laws.specs.Part.{part}
-use Rattle.checks.specs.Valid.{Vector}
+use Rattle.checks.specs.Valid.{valid-scaled, Vector}
 use Rattle.meaning.specs.Solver.{dot, projections}
 use Rattle.meaning.specs.Matrix.{matrix, scaled}
 use Rattle.checks.specs.declared.Products.{Products}
@@ -91,7 +91,7 @@ advance-requires c κs =
           room = omega (arith, loop .inv .1, loop .inv .3 .same-length);
           elements = rw (loop .inv .3 .holds) (vector-power (a .m .p) A (loop .done .made) _ (pre .0 .valid .positive) (loop .inv .2));
         },
-        products-few (pre .0) (omega (arith, loop .inv .0, pre .1 .0 .2)) (loop .inv .4),
+        products-few (valid-scaled _ (pre .0 .valid)) (omega (arith, loop .inv .0, pre .1 .0 .2)) (loop .inv .4),
       ),
     )
 

@@ -37,7 +37,7 @@ turned : (c : tie.After-reverse)
     → let a = c .before .before .before .before .before .before .before .args in
     Reversed (now (a .area)) (a .f) (a .length) (lent (now (a .area)) (a .f) (a .f + (a .length + 1) - a .f) (c .reverse .last .0))
 turned c =
-    let start = c .before .before .before .before .before .before in
+    let start = c .before .before .before .before .before .before .before in
     let a = start .args in
     let n = a .f + (a .length + 1) - a .f in
     let size : n ≡ a .length + 1 = omega arith in
@@ -45,7 +45,7 @@ turned c =
 
 apply-within-requires : tie.Need-apply-within-requires
 apply-within-requires c κs =
-    let start = c .before .before .before .before .before .before .before .before .before in
+    let start = c .before .before .before .before .before .before .before .before .before .before in
     let a = start .args in
     let pre = start .pre in
     let A = scaled (a .m .p) (matrix (now (a .starts)) (now (a .columns)) (now (a .values))) (now (a .scales)) in

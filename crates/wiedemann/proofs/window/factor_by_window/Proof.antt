@@ -6,7 +6,7 @@ use lib.ListN.{length}
 use Rattle.meaning.specs.Matrix.{matrix, scaled}
 use Rattle.laws.specs.Part.{length-part}
 use Rattle.laws.specs.Lent.{lent, length-lent, part-at, part-of-part}
-use Rattle.checks.specs.Valid.{Vector}
+use Rattle.checks.specs.Valid.{valid-scaled, Vector}
 use Rattle.checks.specs.declared.Products.{Products}
 use Rattle.checks.specs.Products.{productsWith, products-none, products-add, products-few}
 use Rattle.residue.specs.Prime.{isModulus-Prime}
@@ -36,7 +36,7 @@ part-listen-until-due-end c = search needs
 
 listen-until-due-requires : tie.Need-listen-until-due-requires
 listen-until-due-requires c κs =
-    let start = c .before .before .before .before .before .before in
+    let start = c .before .before .before .before .before .before .before in
     let a = start .args in
     let pre = start .pre in
     let n = length (now (a .starts)) - 1 in
@@ -63,18 +63,18 @@ lent-again : (c : tie.After-listen-until-due)
     → let a = c .before .before .before .before .before .before .before .before .args in
     let n = length (now (a .starts)) - 1 in
     let m = length (now (a .area)) - 3 * n in
-    (3 * n + m ≤ length (now (a .area))) × (3 * n + (8 * a .left + 8) ≤ m) × (length (c .listen-until-due .last .1 .1 .1 .1 .1 .1 .0) ≡ m)
+    (3 * n + m ≤ length (now (a .area))) × (3 * n + (8 * a .left + 8) ≤ m) × (length (c .listen-until-due .last .1 .1 .1 .1 .1 .1 .1 .0) ≡ m)
 lent-again c =
-    let start = c .before .before .before .before .before .before .before in
+    let start = c .before .before .before .before .before .before .before .before in
     let a = start .args in
     let n = length (now (a .starts)) - 1 in
     let m = length (now (a .area)) - 3 * n in
     let fits : 3 * n + m ≤ length (now (a .area)) = omega (arith, start .pre .1 .1 .0) in
-    (fits, omega (arith, start .pre .1 .1 .0), c .listen-until-due .kept .1 .1 .1 .1 .1 .1 .0 ∙ length-part (3 * n) m (now (a .area)) fits)
+    (fits, omega (arith, start .pre .1 .1 .0), c .listen-until-due .kept .1 .1 .1 .1 .1 .1 .1 .0 ∙ length-part (3 * n) m (now (a .area)) fits)
 
 mul-finish : tie.Need-mul-finish
 mul-finish c =
-    let start = c .before .before .before .before .before .before .before .before .before .before .before in
+    let start = c .before .before .before .before .before .before .before .before .before .before .before .before in
     let a = start .args in
     let pre = start .pre in
     let A = scaled (a .m .p) (matrix (now (a .starts)) (now (a .columns)) (now (a .values))) (now (a .scales)) in
@@ -90,11 +90,11 @@ mul-finish c =
     let room = known .1 in
     let same = known .2 in
     let l = call .ensures in
-    omega (arith, length-lent B (3 * n) m (call .last .1 .1 .1 .1 .1 .1 .0) fits same, fits, sized)
+    omega (arith, length-lent B (3 * n) m (call .last .1 .1 .1 .1 .1 .1 .1 .0) fits same, fits, sized)
 
 sub-finish : tie.Need-sub-finish
 sub-finish c =
-    let start = c .before .before .before .before .before .before .before .before .before .before .before in
+    let start = c .before .before .before .before .before .before .before .before .before .before .before .before in
     let a = start .args in
     let pre = start .pre in
     let A = scaled (a .m .p) (matrix (now (a .starts)) (now (a .columns)) (now (a .values))) (now (a .scales)) in
@@ -110,11 +110,11 @@ sub-finish c =
     let room = known .1 in
     let same = known .2 in
     let l = call .ensures in
-    omega (arith, length-lent B (3 * n) m (call .last .1 .1 .1 .1 .1 .1 .0) fits same, fits, sized)
+    omega (arith, length-lent B (3 * n) m (call .last .1 .1 .1 .1 .1 .1 .1 .0) fits same, fits, sized)
 
 part-finish-start : tie.Need-part-finish-start
 part-finish-start c =
-    let start = c .before .before .before .before .before .before .before .before .before .before .before in
+    let start = c .before .before .before .before .before .before .before .before .before .before .before .before in
     let a = start .args in
     let pre = start .pre in
     let A = scaled (a .m .p) (matrix (now (a .starts)) (now (a .columns)) (now (a .values))) (now (a .scales)) in
@@ -130,14 +130,14 @@ part-finish-start c =
     let room = known .1 in
     let same = known .2 in
     let l = call .ensures in
-    omega (arith, length-lent B (3 * n) m (call .last .1 .1 .1 .1 .1 .1 .0) fits same, fits, sized)
+    omega (arith, length-lent B (3 * n) m (call .last .1 .1 .1 .1 .1 .1 .1 .0) fits same, fits, sized)
 
 part-finish-end : tie.Need-part-finish-end
 part-finish-end c = search needs
 
 finish-requires : tie.Need-finish-requires
 finish-requires c κs =
-    let start = c .before .before .before .before .before .before .before .before .before .before .before .before in
+    let start = c .before .before .before .before .before .before .before .before .before .before .before .before .before in
     let a = start .args in
     let pre = start .pre in
     let A = scaled (a .m .p) (matrix (now (a .starts)) (now (a .columns)) (now (a .values))) (now (a .scales)) in
@@ -153,7 +153,7 @@ finish-requires c κs =
     let room = known .1 in
     let same = known .2 in
     let l = call .ensures in
-    let R₁ = call .last .1 .1 .1 .1 .1 .1 .0 in
+    let R₁ = call .last .1 .1 .1 .1 .1 .1 .1 .0 in
     let B₁ = lent B (3 * n) m R₁ in
     let long = length-lent B (3 * n) m R₁ fits same in
     let m₂ = length B₁ - 3 * n in
@@ -173,7 +173,7 @@ same-length c = search needs
 
 returns : tie.Need-returns
 returns c =
-    let start = c .before .before .before .before .before .before .before .before .before .before .before .before .before .before .before in
+    let start = c .before .before .before .before .before .before .before .before .before .before .before .before .before .before .before .before in
     let a = start .args in
     let pre = start .pre in
     let A = scaled (a .m .p) (matrix (now (a .starts)) (now (a .columns)) (now (a .values))) (now (a .scales)) in
@@ -189,19 +189,19 @@ returns c =
     let room = known .1 in
     let same = known .2 in
     let l = call .ensures in
-    let R₁ = call .last .1 .1 .1 .1 .1 .1 .0 in
+    let R₁ = call .last .1 .1 .1 .1 .1 .1 .1 .0 in
     let B₁ = lent B (3 * n) m R₁ in
     let long = length-lent B (3 * n) m R₁ fits same in
     let m₂ = length B₁ - 3 * n in
     let again : m₂ ≡ m = omega (arith, long) in
     let done = c .before .before .finish in
     let fits₂ : 3 * n + m₂ ≤ length B₁ = omega (arith, again, long, fits) in
-    window.finished-shortened B m prime sized few fits room same l B₁ m₂ again refl 0 long (done .kept .1 .1 .1 .1 .1 .1 .0 ∙ length-part (3 * n) m₂ B₁ fits₂)
+    window.finished-shortened B m prime sized few fits room same l B₁ m₂ again refl 0 long (done .kept .1 .1 .1 .1 .1 .1 .1 .0 ∙ length-part (3 * n) m₂ B₁ fits₂)
     (window.window-whole B m prime sized few fits room same l (c .before .before .before .before .if1 .taken)) (done .ensures)
 
 test-requires : tie.Need-test-requires
 test-requires c κs =
-    let start = c .before .before .before .before .before .before .before .before .before .before .before .before .before in
+    let start = c .before .before .before .before .before .before .before .before .before .before .before .before .before .before in
     let a = start .args in
     let pre = start .pre in
     let A = scaled (a .m .p) (matrix (now (a .starts)) (now (a .columns)) (now (a .values))) (now (a .scales)) in
@@ -217,7 +217,7 @@ test-requires c κs =
     let room = known .1 in
     let same = known .2 in
     let l = call .ensures in
-    let R₁ = call .last .1 .1 .1 .1 .1 .1 .0 in
+    let R₁ = call .last .1 .1 .1 .1 .1 .1 .1 .0 in
     let long = length-lent B (3 * n) m R₁ fits same in
     let low = window.heard-low B m prime sized few fits room same l in (
       (pre .0 .0, pre .1 .0 .0, few, omega (arith, low, l .listening .high)),
@@ -226,7 +226,7 @@ test-requires c κs =
 
 plus-requires : tie.Need-plus-requires
 plus-requires c κs =
-    let start = c .before .before .before .before .before .before .before .before .before .before .before .before .before .before .before .before .before .before in
+    let start = c .before .before .before .before .before .before .before .before .before .before .before .before .before .before .before .before .before .before .before in
     let a = start .args in
     let pre = start .pre in
     let A = scaled (a .m .p) (matrix (now (a .starts)) (now (a .columns)) (now (a .values))) (now (a .scales)) in
@@ -243,8 +243,8 @@ plus-requires c κs =
     let same = known .2 in
     let l = call .ensures in
     let low = window.heard-low B m prime sized few fits room same l in (
-      products-few (pre .0 .0) (omega (arith, l .listening .counted, l .listening .high, few)) (l .listening .products),
-      products-few (pre .0 .0) (omega (arith, low, l .listening .high, few)) (c .before .before .before .before .test .ensures .0),
+      products-few (valid-scaled _ (pre .0 .0 .valid)) (omega (arith, l .listening .counted, l .listening .high, few)) (l .listening .products),
+      products-few (valid-scaled _ (pre .0 .0 .valid)) (omega (arith, low, l .listening .high, few)) (c .before .before .before .before .test .ensures .0),
     )
 
 same-length-2 : tie.Need-same-length-2
@@ -252,7 +252,7 @@ same-length-2 c = search needs
 
 returns-2 : tie.Need-returns-2
 returns-2 c =
-    let start = c .before .before .before .before .before .before .before .before .before .before .before .before .before .before .before .before .before .before .before in
+    let start = c .before .before .before .before .before .before .before .before .before .before .before .before .before .before .before .before .before .before .before .before in
     let a = start .args in
     let pre = start .pre in
     let A = scaled (a .m .p) (matrix (now (a .starts)) (now (a .columns)) (now (a .values))) (now (a .scales)) in
@@ -279,7 +279,7 @@ returns-2 c =
 
 mul-finish-2 : tie.Need-mul-finish-2
 mul-finish-2 c =
-    let start = c .before .before .before .before .before .before .before .before .before .before .before .before .before .before .before .before .before .before in
+    let start = c .before .before .before .before .before .before .before .before .before .before .before .before .before .before .before .before .before .before .before in
     let a = start .args in
     let pre = start .pre in
     let A = scaled (a .m .p) (matrix (now (a .starts)) (now (a .columns)) (now (a .values))) (now (a .scales)) in
@@ -296,15 +296,15 @@ mul-finish-2 c =
     let same = known .2 in
     let l = call .ensures in
     let test = c .before .before .before .before .test in
-    let B₂ = test .last .1 .1 .1 .1 .0 in
-    let long = test .ensures .1 .same-length ∙ length-lent B (3 * n) m (call .last .1 .1 .1 .1 .1 .1 .0) fits same in
+    let B₂ = test .last .1 .1 .1 .1 .1 .0 in
+    let long = test .ensures .1 .same-length ∙ length-lent B (3 * n) m (call .last .1 .1 .1 .1 .1 .1 .1 .0) fits same in
     let m₂ = length B₂ - 3 * n in
     let again : m₂ ≡ m = omega (arith, long) in
     omega (arith, long, fits, sized)
 
 sub-finish-2 : tie.Need-sub-finish-2
 sub-finish-2 c =
-    let start = c .before .before .before .before .before .before .before .before .before .before .before .before .before .before .before .before .before .before in
+    let start = c .before .before .before .before .before .before .before .before .before .before .before .before .before .before .before .before .before .before .before in
     let a = start .args in
     let pre = start .pre in
     let A = scaled (a .m .p) (matrix (now (a .starts)) (now (a .columns)) (now (a .values))) (now (a .scales)) in
@@ -321,15 +321,15 @@ sub-finish-2 c =
     let same = known .2 in
     let l = call .ensures in
     let test = c .before .before .before .before .test in
-    let B₂ = test .last .1 .1 .1 .1 .0 in
-    let long = test .ensures .1 .same-length ∙ length-lent B (3 * n) m (call .last .1 .1 .1 .1 .1 .1 .0) fits same in
+    let B₂ = test .last .1 .1 .1 .1 .1 .0 in
+    let long = test .ensures .1 .same-length ∙ length-lent B (3 * n) m (call .last .1 .1 .1 .1 .1 .1 .1 .0) fits same in
     let m₂ = length B₂ - 3 * n in
     let again : m₂ ≡ m = omega (arith, long) in
     omega (arith, long, fits, sized)
 
 part-finish-start-2 : tie.Need-part-finish-start-2
 part-finish-start-2 c =
-    let start = c .before .before .before .before .before .before .before .before .before .before .before .before .before .before .before .before .before .before in
+    let start = c .before .before .before .before .before .before .before .before .before .before .before .before .before .before .before .before .before .before .before in
     let a = start .args in
     let pre = start .pre in
     let A = scaled (a .m .p) (matrix (now (a .starts)) (now (a .columns)) (now (a .values))) (now (a .scales)) in
@@ -346,8 +346,8 @@ part-finish-start-2 c =
     let same = known .2 in
     let l = call .ensures in
     let test = c .before .before .before .before .test in
-    let B₂ = test .last .1 .1 .1 .1 .0 in
-    let long = test .ensures .1 .same-length ∙ length-lent B (3 * n) m (call .last .1 .1 .1 .1 .1 .1 .0) fits same in
+    let B₂ = test .last .1 .1 .1 .1 .1 .0 in
+    let long = test .ensures .1 .same-length ∙ length-lent B (3 * n) m (call .last .1 .1 .1 .1 .1 .1 .1 .0) fits same in
     let m₂ = length B₂ - 3 * n in
     let again : m₂ ≡ m = omega (arith, long) in
     omega (arith, long, fits, sized)
@@ -357,7 +357,7 @@ part-finish-end-2 c = search needs
 
 finish-requires-2 : tie.Need-finish-requires-2
 finish-requires-2 c κs =
-    let start = c .before .before .before .before .before .before .before .before .before .before .before .before .before .before .before .before .before .before .before in
+    let start = c .before .before .before .before .before .before .before .before .before .before .before .before .before .before .before .before .before .before .before .before in
     let a = start .args in
     let pre = start .pre in
     let A = scaled (a .m .p) (matrix (now (a .starts)) (now (a .columns)) (now (a .values))) (now (a .scales)) in
@@ -374,8 +374,8 @@ finish-requires-2 c κs =
     let same = known .2 in
     let l = call .ensures in
     let test = c .before .before .before .before .before .test in
-    let B₂ = test .last .1 .1 .1 .1 .0 in
-    let long = test .ensures .1 .same-length ∙ length-lent B (3 * n) m (call .last .1 .1 .1 .1 .1 .1 .0) fits same in
+    let B₂ = test .last .1 .1 .1 .1 .1 .0 in
+    let long = test .ensures .1 .same-length ∙ length-lent B (3 * n) m (call .last .1 .1 .1 .1 .1 .1 .1 .0) fits same in
     let m₂ = length B₂ - 3 * n in
     let again : m₂ ≡ m = omega (arith, long) in
     let rest = test .ensures .1 .failed (c .before .if2 .left) in
@@ -396,7 +396,7 @@ same-length-3 c = search needs
 
 returns-3 : tie.Need-returns-3
 returns-3 c =
-    let start = c .before .before .before .before .before .before .before .before .before .before .before .before .before .before .before .before .before .before .before .before .before .before in
+    let start = c .before .before .before .before .before .before .before .before .before .before .before .before .before .before .before .before .before .before .before .before .before .before .before in
     let a = start .args in
     let pre = start .pre in
     let A = scaled (a .m .p) (matrix (now (a .starts)) (now (a .columns)) (now (a .values))) (now (a .scales)) in
@@ -413,8 +413,8 @@ returns-3 c =
     let same = known .2 in
     let l = call .ensures in
     let test = c .before .before .before .before .before .before .before .before .test in
-    let B₂ = test .last .1 .1 .1 .1 .0 in
-    let long = test .ensures .1 .same-length ∙ length-lent B (3 * n) m (call .last .1 .1 .1 .1 .1 .1 .0) fits same in
+    let B₂ = test .last .1 .1 .1 .1 .1 .0 in
+    let long = test .ensures .1 .same-length ∙ length-lent B (3 * n) m (call .last .1 .1 .1 .1 .1 .1 .1 .0) fits same in
     let m₂ = length B₂ - 3 * n in
     let again : m₂ ≡ m = omega (arith, long) in
     let rest = test .ensures .1 .failed (c .before .before .before .before .if2 .left) in
@@ -422,7 +422,7 @@ returns-3 c =
     let more : call .result .terms < 2 * a .left = omega (arith, l .listening .high, c .before .before .before .before .before .before .before .before .before .before .before .if1 .left) in
     let done = c .before .before .finish2 in
     let fits₂ : 3 * n + m₂ ≤ length B₂ = omega (arith, again, long, fits) in
-    window.finished-shortened B m prime sized few fits room same l B₂ m₂ again rest (test .result .done .made) long (done .kept .1 .1 .1 .1 .1 .1 .0 ∙ length-part (3 * n) m₂ B₂ fits₂)
+    window.finished-shortened B m prime sized few fits room same l B₂ m₂ again rest (test .result .done .made) long (done .kept .1 .1 .1 .1 .1 .1 .1 .0 ∙ length-part (3 * n) m₂ B₂ fits₂)
     (window.window-on B m prime sized few fits room same l more (test .ensures .1) made (c .before .before .before .before .if2 .left)) (done .ensures)
 
 pub factor-by-window-spec : {M : Type 1} → statement M

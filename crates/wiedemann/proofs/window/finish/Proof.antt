@@ -6,7 +6,7 @@ use denote.Ref.{now}
 use lib.ListN.{length, getD}
 use Rattle.meaning.specs.Matrix.{matrix, scaled}
 use Rattle.meaning.specs.Solver.{projections}
-use Rattle.checks.specs.Valid.{Vector}
+use Rattle.checks.specs.Valid.{valid-scaled, Vector}
 use Rattle.residue.specs.Prime.{isModulus-Prime}
 use Rattle.checks.specs.declared.Products.{Products}
 use Rattle.checks.specs.Products.{productsWith, products-add, products-few}
@@ -18,7 +18,7 @@ use Rattle.wiedemann.proofs.window.finish.Tie as tie
 
 listen-requires : tie.Need-listen-requires
 listen-requires c κs =
-    let start = c .before .before .before .before .before .before in
+    let start = c .before .before .before .before .before .before .before in
     let a = start .args in
     let pre = start .pre in
     let A = scaled (a .m .p) (matrix (now (a .starts)) (now (a .columns)) (now (a .values))) (now (a .scales)) in
@@ -27,7 +27,7 @@ listen-requires c κs =
     (pre .0, (pre .1 .0, (pre .1 .1 .0, (pre .1 .1 .1 .0, unasked-none (a .m .p) A (a .left) u _ _))))
 
 sub-n : tie.Need-sub-n
-sub-n c = search needs
+sub-n c = omega (arith, c .before .before .before .before .before .before .before .before .before .before .pre .0 .0 .valid .one-more)
 
 mul-conclude : tie.Need-mul-conclude
 mul-conclude c = search needs
@@ -43,7 +43,7 @@ add-conclude-2 c = search needs
 
 conclude-requires : tie.Need-conclude-requires
 conclude-requires c κs =
-    let start = c .before .before .before .before .before .before .before .before .before .before .before in
+    let start = c .before .before .before .before .before .before .before .before .before .before .before .before in
     let a = start .args in
     let pre = start .pre in
     let A = scaled (a .m .p) (matrix (now (a .starts)) (now (a .columns)) (now (a .values))) (now (a .scales)) in
@@ -65,15 +65,15 @@ conclude-requires c κs =
 
 plus-requires : tie.Need-plus-requires
 plus-requires c κs =
-    let start = c .before .before .before .before .before .before .before .before .before .before .before .before .before .before in
+    let start = c .before .before .before .before .before .before .before .before .before .before .before .before .before .before .before in
     let a = start .args in
     let pre = start .pre in
     let A = scaled (a .m .p) (matrix (now (a .starts)) (now (a .columns)) (now (a .values))) (now (a .scales)) in
     let n = length (now (a .starts)) - 1 in
     let prime = isModulus-Prime (a .m .p) (pre .0 .1) in
     let all = c .before .before .before .before .before .before .before .listen .ensures in (
-      products-few (pre .0 .0) (omega (arith, all .listening .counted, all .listening .high, pre .1 .0 .2)) (all .listening .products),
-      products-few (pre .0 .0) (omega (arith, pre .1 .1 .1 .1 .0)) (pre .1 .1 .1 .1 .1),
+      products-few (valid-scaled _ (pre .0 .0 .valid)) (omega (arith, all .listening .counted, all .listening .high, pre .1 .0 .2)) (all .listening .products),
+      products-few (valid-scaled _ (pre .0 .0 .valid)) (omega (arith, pre .1 .1 .1 .1 .0)) (pre .1 .1 .1 .1 .1),
     )
 
 -- the products of the terms and of the test
@@ -81,7 +81,7 @@ first : (c : tie.After-plus)
     → let a = c .before .before .before .before .before .before .before .before .before .before .before .before .before .before .before .before .args in
     c .plus .result ≡ productsWith (2 * a .left - 1 + a .tried .made) (scaled (a .m .p) (matrix (now (a .starts)) (now (a .columns)) (now (a .values))) (now (a .scales)))
 first c =
-    let start = c .before .before .before .before .before .before .before .before .before .before .before .before .before .before .before in
+    let start = c .before .before .before .before .before .before .before .before .before .before .before .before .before .before .before .before in
     let a = start .args in
     let pre = start .pre in
     let A = scaled (a .m .p) (matrix (now (a .starts)) (now (a .columns)) (now (a .values))) (now (a .scales)) in
@@ -96,7 +96,7 @@ first c =
 
 plus-requires-2 : tie.Need-plus-requires-2
 plus-requires-2 c κs =
-    let start = c .before .before .before .before .before .before .before .before .before .before .before .before .before .before .before in
+    let start = c .before .before .before .before .before .before .before .before .before .before .before .before .before .before .before .before in
     let a = start .args in
     let pre = start .pre in
     let A = scaled (a .m .p) (matrix (now (a .starts)) (now (a .columns)) (now (a .values))) (now (a .scales)) in
@@ -105,8 +105,8 @@ plus-requires-2 c κs =
     let all = c .before .before .before .before .before .before .before .before .listen .ensures in
     let room = room-as (all .listening .iterated .same-length) (pre .1 .1 .0 .0) in
     let low = listening-low prime room (all .listening) in (
-      products-few (pre .0 .0) (omega (arith, pre .1 .1 .1 .1 .0, pre .1 .0 .2)) (first c),
-      products-few (pre .0 .0) (omega (arith, low, all .listening .high, pre .1 .0 .2)) (c .before .before .before .conclude .ensures .0),
+      products-few (valid-scaled _ (pre .0 .0 .valid)) (omega (arith, pre .1 .1 .1 .1 .0, pre .1 .0 .2)) (first c),
+      products-few (valid-scaled _ (pre .0 .0 .valid)) (omega (arith, low, all .listening .high, pre .1 .0 .2)) (c .before .before .before .conclude .ensures .0),
     )
 
 same-length : tie.Need-same-length
@@ -114,7 +114,7 @@ same-length c = search needs
 
 returns : tie.Need-returns
 returns c =
-    let start = c .before .before .before .before .before .before .before .before .before .before .before .before .before .before .before .before in
+    let start = c .before .before .before .before .before .before .before .before .before .before .before .before .before .before .before .before .before in
     let a = start .args in
     let pre = start .pre in
     let A = scaled (a .m .p) (matrix (now (a .starts)) (now (a .columns)) (now (a .values))) (now (a .scales)) in

@@ -16,7 +16,7 @@ start-steps-requires c κs = let pre = c .before .before .before .before .before
 
 hear-requires : tie.Need-hear-requires
 hear-requires c κs =
-    let start = c .before .before .before .before .before .before .before .before .before .before in
+    let start = c .before .before .before .before .before .before .before .before .before .before .before in
     let pre = start .pre in
     let begun = c .before .before .before .start-steps .ensures in
     ((pre .0 .1, pre .1 .0 .0, pre .1 .0 .3, room-as (begun .same-length) (pre .1 .1 .0)), begun-to-hear (pre .1 .0 .1) (pre .1 .1 .0) (pre .1 .1 .1) begun)
@@ -26,7 +26,7 @@ same-length c = search needs
 
 returns : tie.Need-returns
 returns c =
-    let start = c .before .before .before .before .before .before .before .before .before .before .before .before .before in
+    let start = c .before .before .before .before .before .before .before .before .before .before .before .before .before .before in
     let a = start .args in
     let pre = start .pre in
     listening-first (pre .1 .0 .1) (pre .1 .1 .0) (c .before .before .before .before .before .before .start-steps .ensures) refl (products-none (scaled (a .m .p) (matrix (now (a .starts)) (now (a .columns)) (now (a .values))) (now (a .scales)))) (c .before .before .hear .ensures)

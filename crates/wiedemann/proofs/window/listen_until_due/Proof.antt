@@ -16,7 +16,7 @@ listen-first-requires c κs = c .before .before .before .before .before .before 
 
 listen-requires : tie.Need-listen-requires
 listen-requires c κs =
-    let start = c .before .before .before .before .before .before .before .before .before .before in
+    let start = c .before .before .before .before .before .before .before .before .before .before .before in
     let a = start .args in
     let pre = start .pre in
     let A = scaled (a .m .p) (matrix (now (a .starts)) (now (a .columns)) (now (a .values))) (now (a .scales)) in

@@ -42,14 +42,14 @@ copied : (c : tie.After-copy-within)
     let n = length (now (a .starts)) - 1 in
     Written (now (a .area)) 0 n (λ i. at (now (a .area)) (3 * n + i)) (c .copy-within .last .0)
 copied c =
-    let start = c .before .before .before .before .before .before in
+    let start = c .before .before .before .before .before .before .before in
     let a = start .args in
     let n = length (now (a .starts)) - 1 in
     c .copy-within .ensures .copied (omega (arith, start .pre .1 .0), omega (arith, start .pre .1 .0), inl (omega arith))
 
 conclude-requires : tie.Need-conclude-requires
 conclude-requires c κs =
-    let start = c .before .before .before .before .before .before .before .before .before in
+    let start = c .before .before .before .before .before .before .before .before .before .before in
     let a = start .args in
     let pre = start .pre in
     let A = scaled (a .m .p) (matrix (now (a .starts)) (now (a .columns)) (now (a .values))) (now (a .scales)) in
@@ -68,7 +68,7 @@ part-is-zero-start c = search needs
 
 part-is-zero-end : tie.Need-part-is-zero-end
 part-is-zero-end c =
-    let start = c .before .before .before .before .before .before .before .before .before .before .before .before .before in
+    let start = c .before .before .before .before .before .before .before .before .before .before .before .before .before .before in
     let w = copied (c .before .before .before .before .before .before .before) in
     let turned = c .before .before .before .conclude .ensures .1 in
     omega (arith, start .pre .1 .0, w .same-length, turned .1 .same-length, turned .2 .same-length)
@@ -77,7 +77,7 @@ is-zero-requires : tie.Need-is-zero-requires
 is-zero-requires c κs = search needs
 
 -- whether f(A)r is zero
-found : (c : tie.After-is-zero) → let a = c .before .before .before .before .before .before .before .before .before .before .before .before .before .before .before .before .args in isZero (part 0 (length (now (a .starts)) - 1) (c .before .before .before .before .before .conclude .last .1 .1 .1 .1 .0)) ≡ c .is-zero .result
+found : (c : tie.After-is-zero) → let a = c .before .before .before .before .before .before .before .before .before .before .before .before .before .before .before .before .args in isZero (part 0 (length (now (a .starts)) - 1) (c .before .before .before .before .before .conclude .last .1 .1 .1 .1 .1 .0)) ≡ c .is-zero .result
 found c =
     let n = length (now (c .before .before .before .before .before .before .before .before .before .before .before .before .before .before .before .before .args .starts)) - 1 in
     sym (c .is-zero .ensures ∙ ap isZero (part-at _ 0 (n - 0) 0 n refl (omega arith)))
@@ -90,7 +90,7 @@ same-length c = search needs
 
 returns : tie.Need-returns
 returns c =
-    let start = c .before .before .before .before .before .before .before .before .before .before .before .before .before .before .before .before .before .before .before .before in
+    let start = c .before .before .before .before .before .before .before .before .before .before .before .before .before .before .before .before .before .before .before .before .before in
     let a = start .args in
     let pre = start .pre in
     let A = scaled (a .m .p) (matrix (now (a .starts)) (now (a .columns)) (now (a .values))) (now (a .scales)) in
@@ -129,7 +129,7 @@ same-length-2 c = search needs
 
 returns-2 : tie.Need-returns-2
 returns-2 c =
-    let start = c .before .before .before .before .before .before .before .before .before .before .before .before .before .before .before .before .before .before .before .before in
+    let start = c .before .before .before .before .before .before .before .before .before .before .before .before .before .before .before .before .before .before .before .before .before in
     let a = start .args in
     let pre = start .pre in
     let A = scaled (a .m .p) (matrix (now (a .starts)) (now (a .columns)) (now (a .values))) (now (a .scales)) in
