@@ -1,7 +1,7 @@
 -- The second condition's last sentence, of the meanings: "a system that is written and read comes back equal, and an accepted text written
 -- again has the same bytes".
 --     text-accepted, accepted-text   first (textChecks text) ≡ 0, and what it says: each from the other
---     scalesOf n X                   the n scales that X stands for; scales-same: X itself if it has n elements; scales-none: n ones if it has none
+--     scalesOf n X                   the n scales that X stands for; scales-same: X itself if it has n elements; scales-ones: n ones if it has none
 --     WrittenAndRead p A X b         what holds of an accepted system's text
 --     written-and-read               .. of every accepted system
 --     systemOf text                  the system of a text
@@ -56,8 +56,8 @@ scalesOf n X = table n (scaleAt X)
 pub scales-same : (n : ℕ) (X : List ℕ) → length X ≡ n → scalesOf n X ≡ X
 scales-same n X e = sym (table-of 1 X n (scaleAt X) e (λ i l. refl))
 
-pub scales-none : (n : ℕ) → scalesOf n [] ≡ table n (λ i. 1)
-scales-none n = refl
+pub scales-ones : (n : ℕ) → scalesOf n [] ≡ table n (λ i. 1)
+scales-ones n = refl
 
 pub record WrittenAndRead (p : ℕ) (A : Matrix) (X b : List ℕ) : Type 0 where
   pub in-form : inForm (write p A X b) ≡ true
