@@ -1,5 +1,5 @@
-// The writer of system texts: checks 3 to 9 and 11, and then the text. Document 01, "System text"; the contracts cite meaning's Text and
-// Calls, and specs/Answers gives the paper's number and length for each case of an answer.
+// The writer of system texts: checks 3 to 9 and 11, and then the text. Document 01, "System text", with request (vi)'s `s` lines; the contracts
+// cite meaning's Text and Calls, and specs/Answers gives the paper's number and length for each case of an answer.
 mod lines;
 
 use crate::lines::whole_text;
@@ -21,22 +21,26 @@ pub fn write(
     starts: &[u32],
     columns: &[u32],
     values: &[u32],
+    scales: &[u32],
     right: &[u32],
     out: &mut [u8],
 ) -> Written
-    ensures { λ r. ⌜ refusalOfWritten r ≡ writerRefusal p (matrix (now (starts .entry)) (now (columns .entry)) (now (values .entry))) (now (right .entry)) (now (out .entry)) ⌝ }
-    ensures { λ r. ⌜ lengthOfWritten r ≡ writerAnswer p (matrix (now (starts .entry)) (now (columns .entry)) (now (values .entry))) (now (right .entry)) (now (out .entry)) ⌝ }
-    ensures { λ _. ⌜ now (out .exit) ≡ writerAfter p (matrix (now (starts .entry)) (now (columns .entry)) (now (values .entry))) (now (right .entry)) (now (out .entry)) ⌝ }
+    ensures { λ r. ⌜ refusalOfWritten r ≡ writerRefusal p (matrix (now (starts .entry)) (now (columns .entry)) (now (values .entry)))
+        (now (scales .entry)) (now (right .entry)) (now (out .entry)) ⌝ }
+    ensures { λ r. ⌜ lengthOfWritten r ≡ writerAnswer p (matrix (now (starts .entry)) (now (columns .entry)) (now (values .entry)))
+        (now (scales .entry)) (now (right .entry)) (now (out .entry)) ⌝ }
+    ensures { λ _. ⌜ now (out .exit) ≡ writerAfter p (matrix (now (starts .entry)) (now (columns .entry)) (now (values .entry)))
+        (now (scales .entry)) (now (right .entry)) (now (out .entry)) ⌝ }
 {
-    let number = system_refusal(p, starts, columns, values, right);
+    let number = system_refusal(p, starts, columns, values, scales, right);
     if number != 0 {
         return Written::Refused(number);
     }
     let mut none = [0u8; 1];
-    let length = whole_text(&mut none, p, starts, columns, values, right);
+    let length = whole_text(&mut none, p, starts, columns, values, scales, right);
     if out.len() < length {
         return Written::Refused(11);
     }
-    whole_text(out, p, starts, columns, values, right);
+    whole_text(out, p, starts, columns, values, scales, right);
     Written::Length(length)
 }

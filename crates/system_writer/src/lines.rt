@@ -2,11 +2,16 @@
 // without room they measure the text.
 ghost use Prim.Native.Nat.{_-_, _≤_, _<_};
 ghost use mathlib.Core.Path.{_≡_};
+ghost use mathlib.Core.Bool.{true};
+ghost use lib.Dec.{leb};
 ghost use lib.ListN.{length};
+ghost use Rattle.meaning.specs.List.{every};
 ghost use Rattle.meaning.specs.Matrix.{matrix};
-ghost use Rattle.meaning.specs.Text.{write};
+ghost use Rattle.meaning.specs.Text.{writeScales, write};
+ghost use Rattle.laws.specs.Accepted.{AcceptedScales};
+ghost use Rattle.text_laws.specs.Coordinates.{allOnes};
 ghost use Rattle.line_writer.specs.Written.{Wrote};
-ghost use Rattle.system_writer.specs.Writes.{Rows, headerText, rowText, rowsText, rightText};
+ghost use Rattle.system_writer.specs.Writes.{Rows, headerText, rowText, rowsText, placeText, rightText};
 use checks::wide;
 use line_writer::put_line;
 
@@ -63,20 +68,52 @@ pub(crate) fn all_rows(
     next
 }
 
-// The `b` lines, for the elements that are not 0, and the end.
-pub(crate) fn right_side(out: &mut [u8], at: usize, right: &[u32]) -> usize
-    ensures { λ r. ⌜ Wrote (now (out .entry)) at (rightText (now (right .entry))) r (now (out .exit)) ⌝ }
+// A line for each element that is not 0: a letter, the place and the element.
+pub(crate) fn place_lines(out: &mut [u8], at: usize, letter: &[u8], v: &[u32]) -> usize
+    ensures { λ r. ⌜ Wrote (now (out .entry)) at (placeText (now (letter .entry)) (now (v .entry))) r (now (out .exit)) ⌝ }
 {
     let mut next = at;
     let mut i: usize = 0;
-    while i < right.len() {
-        let value = right[i];
+    while i < v.len() {
+        let value = v[i];
         i += 1;
         if value == 0 {
             continue;
         }
-        next = put_line(out, next, b"b", &[i as u64, long(value)]);
+        next = put_line(out, next, letter, &[i as u64, long(value)]);
     }
+    next
+}
+
+// Whether every scale is 1, or there is none.
+fn all_ones(scales: &[u32]) -> bool
+    ensures { λ r. ⌜ r ≡ allOnes (now (scales .entry)) ⌝ }
+{
+    let mut ones = true;
+    let mut i: usize = 0;
+    while i < scales.len() {
+        ones = ones & (scales[i] == 1);
+        i += 1;
+    }
+    ones
+}
+
+// The `s` lines, exactly if some scale isn't 1; no scale is 0.
+pub(crate) fn scale_lines(out: &mut [u8], at: usize, scales: &[u32]) -> usize
+    requires { ⌜ every (leb 1) (now scales) ≡ true ⌝ }
+    ensures { λ r. ⌜ Wrote (now (out .entry)) at (writeScales (length (now (scales .entry))) (now (scales .entry))) r (now (out .exit)) ⌝ }
+{
+    if all_ones(scales) {
+        return at;
+    }
+    place_lines(out, at, b"s", scales)
+}
+
+// The `b` lines and the end.
+pub(crate) fn right_side(out: &mut [u8], at: usize, right: &[u32]) -> usize
+    ensures { λ r. ⌜ Wrote (now (out .entry)) at (rightText (now (right .entry))) r (now (out .exit)) ⌝ }
+{
+    let next = place_lines(out, at, b"b", right);
     put_line(out, next, b"end", &[])
 }
 
@@ -94,14 +131,18 @@ pub(crate) fn whole_text(
     starts: &[u32],
     columns: &[u32],
     values: &[u32],
+    scales: &[u32],
     right: &[u32],
 ) -> usize
     requires { ⌜ Rows (now starts) (now columns) (now values) ⌝ }
+    requires { ⌜ AcceptedScales p (length (now starts) - 1) (now scales) ⌝ }
     requires { ⌜ length (now right) ≡ length (now starts) - 1 ⌝ }
-    ensures { λ r. ⌜ Wrote (now (out .entry)) 0 (write p (matrix (now (starts .entry)) (now (columns .entry)) (now (values .entry))) (now (right .entry))) r (now (out .exit)) ⌝ }
+    ensures { λ r. ⌜ Wrote (now (out .entry)) 0 (write p (matrix (now (starts .entry)) (now (columns .entry)) (now (values .entry)))
+        (now (scales .entry)) (now (right .entry))) r (now (out .exit)) ⌝ }
 {
     let n = (starts.len() - 1) as u64;
     let next = header(out, p, n, columns.len() as u64);
     let next = all_rows(out, next, starts, columns, values);
+    let next = scale_lines(out, next, scales);
     right_side(out, next, right)
 }

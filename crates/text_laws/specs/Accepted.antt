@@ -1,6 +1,7 @@
 -- What a document's checks say when they turn nothing down, as facts on numbers; what a system's say is in laws, and passed on here.
 --     row-before, column-before, before-row, before-column      what before says
 --     place-taken n e                an entry's row and column are 1 to n
+--     AcceptedLines p n es           lines of a place and a value, `s` or `b`: the places are 1 to n and rise strictly, the values are 1 to p − 1
 --     AcceptedDocument d             d passes a document's checks
 --     document-accepted, accepted-document     first (documentChecks d) ≡ 0 and these facts: each from the other
 use mathlib.Core.Path.{_≡_, ap, _∙_}
@@ -15,11 +16,11 @@ use borrow.Author.Tests.{ltb-true, leb-true, eqb-true, lt-ltb, le-ltb, le-leb, e
 use Rattle.meaning.specs.List.{at, every, chain}
 use Rattle.meaning.specs.Field.{isModulus}
 use Rattle.meaning.specs.Text.{Document, row}
-use Rattle.meaning.specs.Refusal.{first, within, rowsTaken, valueTaken, countTaken, before, placesTaken, documentChecks}
+use Rattle.meaning.specs.Refusal.{first, within, rowsTaken, valueTaken, scaleCountTaken, countTaken, before, rowsRise, someScale, placesTaken, valuesTaken, documentChecks}
 use Rattle.laws.specs.Bool.{and-left, and-right, and-both, and-five, or-right, test-cases}
 use Rattle.laws.specs.Refusal.{first-nil, first-passed, first-pass}
 pub use Rattle.laws.specs.Refusal.{within-low, within-high, within-of}
-pub use Rattle.laws.specs.Accepted.{modulus-low, modulus-high, start, column, value, AcceptedSystem, system-accepted, accepted-system}
+pub use Rattle.laws.specs.Accepted.{modulus-low, modulus-high, start, column, value, AcceptedSystem, AcceptedScales, system-accepted, system-scales, accepted-system}
 
 pub row-before : (e f : List ℕ) → row e < row f → before e f ≡ true
 unfolding before
@@ -54,64 +55,74 @@ before-column e f h q =
 abbrev pub place-taken : ℕ → List ℕ → Bool
 place-taken n e = within 1 n (row e) && within 1 n (at e 1)
 
+pub record AcceptedLines (p n : ℕ) (es : List (List ℕ)) : Type 0 where
+  pub rows : every (λ e. within 1 n (row e)) es ≡ true
+  pub rows-ordered : chain (λ e f. ltb (row e) (row f)) es ≡ true
+  pub values : every (λ e. valueTaken p (at e 1)) es ≡ true
+
 pub record AcceptedDocument (d : Document) : Type 0 where
   pub prime : isModulus (d .modulus) ≡ true
   pub size-high : d .size ≤ 4096
   pub counted : d .count ≡ length (d .entries)
   pub few : length (d .entries) ≤ 65536
+  pub scale-number : scaleCountTaken (d .size) (length (d .scales)) ≡ true
   pub places : every (place-taken (d .size)) (d .entries) ≡ true
   pub ordered : chain before (d .entries) ≡ true
-  pub rows : every (λ e. within 1 (d .size) (row e)) (d .elements) ≡ true
-  pub rows-ordered : chain (λ e f. ltb (row e) (row f)) (d .elements) ≡ true
+  pub some-scale : someScale (d .scales) ≡ true
   pub values : every (λ e. valueTaken (d .modulus) (at e 2)) (d .entries) ≡ true
-  pub right-values : every (λ e. valueTaken (d .modulus) (at e 1)) (d .elements) ≡ true
+  pub scale-lines : AcceptedLines (d .modulus) (d .size) (d .scales)
+  pub element-lines : AcceptedLines (d .modulus) (d .size) (d .elements)
+
+accepted-lines : (p n : ℕ) (es : List (List ℕ)) → rowsRise n es ≡ true → every (λ e. valueTaken p (at e 1)) es ≡ true → AcceptedLines p n es
+accepted-lines p n es r v =
+    let rows = every (λ e. within 1 n (row e)) es in
+    let ordered = chain (λ e f. ltb (row e) (row f)) es in
+    record { rows = and-left rows ordered r; rows-ordered = and-right rows ordered r; values = v }
+
+lines-rise : {p n : ℕ} {es : List (List ℕ)} → AcceptedLines p n es → rowsRise n es ≡ true
+lines-rise a = and-both (a .rows) (a .rows-ordered)
 
 pub document-accepted : (d : Document) → first (documentChecks d) ≡ 0 → AcceptedDocument d
-unfolding documentChecks countTaken placesTaken
+unfolding documentChecks countTaken placesTaken valuesTaken
 document-accepted d e =
     let c3 = first-passed 3 (isModulus (d .modulus)) _ (omega arith) e in
     let c4 = first-passed 4 (rowsTaken (d .size)) _ (omega arith) (c3 .1) in
     let c5 = first-passed 5 (countTaken d) _ (omega arith) (c4 .1) in
     let c6 = first-passed 6 (placesTaken d) _ (omega arith) (c5 .1) in
-    let c7 =
-    first-passed 7 (every (λ e. valueTaken (d .modulus) (at e 2)) (d .entries) && every (λ e. valueTaken (d .modulus) (at e 1)) (d .elements)) _
-    (omega arith) (c6 .1) in
-    go (c3 .0) (c4 .0) (c5 .0) (c6 .0) (c7 .0)
-  where
-    go : isModulus (d .modulus) ≡ true → rowsTaken (d .size) ≡ true
-        → eqb (d .count) (length (d .entries)) && leb (length (d .entries)) 65536 ≡ true
-        → every (place-taken (d .size)) (d .entries) && chain before (d .entries) && every (λ e. within 1 (d .size) (row e)) (d .elements)
-        && chain (λ e f. ltb (row e) (row f)) (d .elements) ≡ true
-        → every (λ e. valueTaken (d .modulus) (at e 2)) (d .entries) && every (λ e. valueTaken (d .modulus) (at e 1)) (d .elements) ≡ true
-        → AcceptedDocument d
-    go c3 c4 c5 c6 c7 =
-        let s =
-        and-five true (every (place-taken (d .size)) (d .entries)) (chain before (d .entries))
-        (every (λ e. within 1 (d .size) (row e)) (d .elements))
-        (chain (λ e f. ltb (row e) (row f)) (d .elements)) c6 in
-        record {
-          prime = c3;
-          size-high = leb-true (d .size) 4096 c4;
-          counted =
-              eqb-true (d .count) (length (d .entries))
-              (and-left (eqb (d .count) (length (d .entries))) (leb (length (d .entries)) 65536) c5);
-          few = leb-true (length (d .entries)) 65536 (and-right (eqb (d .count) (length (d .entries))) (leb (length (d .entries)) 65536) c5);
-          places = s .1;
-          ordered = s .2;
-          rows = s .3;
-          rows-ordered = s .4;
-          values = and-left (every (λ e. valueTaken (d .modulus) (at e 2)) (d .entries))
-              (every (λ e. valueTaken (d .modulus) (at e 1)) (d .elements)) c7;
-          right-values = and-right (every (λ e. valueTaken (d .modulus) (at e 2)) (d .entries))
-              (every (λ e. valueTaken (d .modulus) (at e 1)) (d .elements)) c7;
-        }
+    let c7 = first-passed 7 (valuesTaken d) _ (omega arith) (c6 .1) in
+    let counts =
+    and-five true true (eqb (d .count) (length (d .entries))) (leb (length (d .entries)) 65536)
+    (scaleCountTaken (d .size) (length (d .scales))) (c5 .0) in
+    let places =
+    and-five true (every (place-taken (d .size)) (d .entries)) (chain before (d .entries))
+    (rowsRise (d .size) (d .scales) && someScale (d .scales)) (rowsRise (d .size) (d .elements)) (c6 .0) in
+    let values =
+    and-five true true (every (λ e. valueTaken (d .modulus) (at e 2)) (d .entries)) (every (λ e. valueTaken (d .modulus) (at e 1)) (d .scales))
+    (every (λ e. valueTaken (d .modulus) (at e 1)) (d .elements)) (c7 .0) in
+    record {
+      prime = c3 .0;
+      size-high = leb-true (d .size) 4096 (c4 .0);
+      counted = eqb-true (d .count) (length (d .entries)) (counts .2);
+      few = leb-true (length (d .entries)) 65536 (counts .3);
+      scale-number = counts .4;
+      places = places .1;
+      ordered = places .2;
+      some-scale = and-right (rowsRise (d .size) (d .scales)) (someScale (d .scales)) (places .3);
+      values = values .2;
+      scale-lines =
+          accepted-lines (d .modulus) (d .size) (d .scales)
+          (and-left (rowsRise (d .size) (d .scales)) (someScale (d .scales)) (places .3)) (values .3);
+      element-lines = accepted-lines (d .modulus) (d .size) (d .elements) (places .4) (values .4);
+    }
 
 pub accepted-document : (d : Document) → AcceptedDocument d → first (documentChecks d) ≡ 0
-unfolding documentChecks countTaken placesTaken
+unfolding documentChecks countTaken placesTaken valuesTaken
 accepted-document d a =
     first-pass 3 (isModulus (d .modulus)) _ (a .prime)
     (first-pass 4 (rowsTaken (d .size)) _ (le-leb (d .size) 4096 (a .size-high))
-    (first-pass 5 (countTaken d) _ (and-both (eq-eqb (d .count) (length (d .entries)) (a .counted))
-    (le-leb (length (d .entries)) 65536 (a .few)))
-    (first-pass 6 (placesTaken d) _ (and-both (and-both (and-both (a .places) (a .ordered)) (a .rows)) (a .rows-ordered))
-    (first-pass 7 _ [] (and-both (a .values) (a .right-values)) first-nil))))
+    (first-pass 5 (countTaken d) _
+    (and-both (and-both (eq-eqb (d .count) (length (d .entries)) (a .counted)) (le-leb (length (d .entries)) 65536 (a .few))) (a .scale-number))
+    (first-pass 6 (placesTaken d) _
+    (and-both (and-both (and-both (a .places) (a .ordered)) (and-both (lines-rise (a .scale-lines)) (a .some-scale)))
+    (lines-rise (a .element-lines)))
+    (first-pass 7 (valuesTaken d) [] (and-both (and-both (a .values) (a .scale-lines .values)) (a .element-lines .values)) first-nil))))

@@ -29,7 +29,7 @@ use lib.Dec.{eqb, leb}
 use lib.ListN.{length, drop, length-map}
 use borrow.Author.Tests.{not-true, le-leb, leb-true}
 use Rattle.meaning.specs.List.{every, equal, flat, bytes}
-use Rattle.meaning.specs.Text.{decimal, valueOf, isNumeral, line, parts, Form, header, entry, element, ending, nothing, broken, Line, hasForm, formOf, lineOf, lines, rank}
+use Rattle.meaning.specs.Text.{decimal, valueOf, isNumeral, line, parts, Form, header, entry, scale, element, ending, nothing, broken, Line, hasForm, formOf, lineOf, lines, rank}
 use Rattle.laws.specs.Bool.{and-left, and-right, and-both, and-false-left, never}
 use Rattle.laws.specs.List.{every-nil, equal→≡}
 use Rattle.text_laws.specs.Lists.{flat-nil, flat-cons, every-head, every-tail, every-more, every-map, every-weaken}
@@ -39,6 +39,7 @@ use Rattle.text_laws.specs.Line.{free, joined, joined-one, joined-two, j
 abbrev pub word : Form → List ℕ
 word header = bytes "system"
 word entry = bytes "a"
+word scale = bytes "s"
 word element = bytes "b"
 word ending = bytes "end"
 word nothing = []
@@ -47,6 +48,7 @@ word broken = []
 abbrev pub arity : Form → ℕ
 arity header = 3
 arity entry = 3
+arity scale = 2
 arity element = 2
 arity ending = 0
 arity nothing = 0
@@ -62,7 +64,7 @@ abbrev pub small : ℕ → Bool
 small k = leb k 4294967295
 
 abbrev pub known : Line → Bool
-known l = not (eqb (rank (l .form)) 5)
+known l = not (eqb (rank (l .form)) 6)
 
 abbrev pub fits : Line → Bool
 fits l = eqb (length (l .numbers)) (arity (l .form)) && every small (l .numbers)
@@ -115,22 +117,23 @@ has-form-fits v k (w ∷ ws) e =
     (and-left (equal w v && eqb (length ws) k) (every isNumeral ws) e))
     (numerals-small ws (and-right (equal w v && eqb (length ws) k) (every isNumeral ws) e))
 
-abbrev pick : Bool → Bool → Bool → Bool → Bool → Form
-pick a b c d e = cond a header (cond b entry (cond c element (cond d ending (cond e nothing broken))))
+abbrev pick : Bool → Bool → Bool → Bool → Bool → Bool → Form
+pick a b c d e f = cond a header (cond b entry (cond c scale (cond d element (cond e ending (cond f nothing broken)))))
 
 abbrev has : Form → List (List ℕ) → Bool
 has f ws = hasForm (word f) (arity f) ws
 
-form-of : (ws : List (List ℕ)) → formOf ws ≡ pick (has header ws) (has entry ws) (has element ws) (has ending ws) (has nothing ws)
+form-of : (ws : List (List ℕ)) → formOf ws ≡ pick (has header ws) (has entry ws) (has scale ws) (has element ws) (has ending ws) (has nothing ws)
 unfolding formOf
 form-of ws = refl
 
 -- a word of a form and its numerals have that form
-pub form-of-word : (f : Form) (ws : List (List ℕ)) → eqb (rank f) 5 ≡ false → eqb (length ws) (arity f) ≡ true → every isNumeral ws ≡ true
+pub form-of-word : (f : Form) (ws : List (List ℕ)) → eqb (rank f) 6 ≡ false → eqb (length ws) (arity f) ≡ true → every isNumeral ws ≡ true
     → formOf (word f ∷ ws) ≡ f
 unfolding formOf hasForm equal bytes
 form-of-word header ws b e n = rw (e, n)
 form-of-word entry ws b e n = rw (e, n)
+form-of-word scale ws b e n = rw (e, n)
 form-of-word element ws b e n = rw (e, n)
 form-of-word ending ws b e n = rw (e, n)
 form-of-word nothing ws b e n = rw (e, n)
@@ -139,23 +142,24 @@ form-of-word broken ws b e n = absurd (true≢false b)
 -- a line that isn't broken has the form that it is said to have
 pub form-cases : (ws : List (List ℕ)) → (formOf ws ≡ broken) ⊎ (has (formOf ws) ws ≡ true)
 form-cases ws =
-    go (has header ws) (has entry ws) (has element ws) (has ending ws) (has nothing ws) refl refl refl refl refl
+    go (has header ws) (has entry ws) (has scale ws) (has element ws) (has ending ws) (has nothing ws) refl refl refl refl refl refl
   where
-    at-form : (f : Form) → formOf ws ≡ f → has f ws ≡ true → (formOf ws ≡ broken) ⊎ (has (formOf ws) ws ≡ true)
-    at-form f e h = inr (subst (λ g. has g ws ≡ true) (sym e) h)
+    at-form : (g : Form) → formOf ws ≡ g → has g ws ≡ true → (formOf ws ≡ broken) ⊎ (has (formOf ws) ws ≡ true)
+    at-form g e h = inr (subst (λ k. has k ws ≡ true) (sym e) h)
 
-    to : (a b c d e : Bool) → has header ws ≡ a → has entry ws ≡ b → has element ws ≡ c → has ending ws ≡ d → has nothing ws ≡ e
-        → formOf ws ≡ pick a b c d e
-    to a b c d e p q r s t = form-of ws ∙ (λ i. pick (p i) (q i) (r i) (s i) (t i))
+    to : (a b c d e f : Bool) → has header ws ≡ a → has entry ws ≡ b → has scale ws ≡ c → has element ws ≡ d → has ending ws ≡ e
+        → has nothing ws ≡ f → formOf ws ≡ pick a b c d e f
+    to a b c d e f p q r s t u = form-of ws ∙ (λ i. pick (p i) (q i) (r i) (s i) (t i) (u i))
 
-    go : (a b c d e : Bool) → has header ws ≡ a → has entry ws ≡ b → has element ws ≡ c → has ending ws ≡ d → has nothing ws ≡ e
-        → (formOf ws ≡ broken) ⊎ (has (formOf ws) ws ≡ true)
-    go true b c d e p q r s t = at-form header (to true b c d e p q r s t) p
-    go false true c d e p q r s t = at-form entry (to false true c d e p q r s t) q
-    go false false true d e p q r s t = at-form element (to false false true d e p q r s t) r
-    go false false false true e p q r s t = at-form ending (to false false false true e p q r s t) s
-    go false false false false true p q r s t = at-form nothing (to false false false false true p q r s t) t
-    go false false false false false p q r s t = inl (to false false false false false p q r s t)
+    go : (a b c d e f : Bool) → has header ws ≡ a → has entry ws ≡ b → has scale ws ≡ c → has element ws ≡ d → has ending ws ≡ e
+        → has nothing ws ≡ f → (formOf ws ≡ broken) ⊎ (has (formOf ws) ws ≡ true)
+    go true b c d e f p q r s t u = at-form header (to true b c d e f p q r s t u) p
+    go false true c d e f p q r s t u = at-form entry (to false true c d e f p q r s t u) q
+    go false false true d e f p q r s t u = at-form scale (to false false true d e f p q r s t u) r
+    go false false false true e f p q r s t u = at-form element (to false false false true e f p q r s t u) s
+    go false false false false true f p q r s t u = at-form ending (to false false false false true f p q r s t u) t
+    go false false false false false true p q r s t u = at-form nothing (to false false false false false true p q r s t u) u
+    go false false false false false false p q r s t u = inl (to false false false false false false p q r s t u)
 
 -- ---- a line and its fields
 
@@ -177,14 +181,14 @@ lineOf-fields l e =
     let s : every small (l .numbers) ≡ true = and-right (eqb (length (l .numbers)) (arity (l .form))) (every small (l .numbers)) f in
     line-of (fields l)
     ∙ ap₂ say
-    (form-of-word (l .form) (map decimal (l .numbers)) (not-true (eqb (rank (l .form)) 5) (and-left (known l) (fits l) e))
+    (form-of-word (l .form) (map decimal (l .numbers)) (not-true (eqb (rank (l .form)) 6) (and-left (known l) (fits l) e))
     (ap (λ n. eqb n (arity (l .form))) (length-map (l .numbers) decimal)
     ∙ and-left (eqb (length (l .numbers)) (arity (l .form))) (every small (l .numbers)) f)
     (decimals-numerals (l .numbers) s))
     (values-back (l .numbers))
 
 broken-unknown : (ws : List (List ℕ)) → formOf ws ≡ broken → known (lineOf ws) ≡ false
-broken-unknown ws e = ap known (line-of ws) ∙ ap (λ f. not (eqb (rank f) 5)) e
+broken-unknown ws e = ap known (line-of ws) ∙ ap (λ f. not (eqb (rank f) 6)) e
 
 pub fields-lineOf : (ws : List (List ℕ)) → known (lineOf ws) ≡ true → fields (lineOf ws) ≡ ws
 fields-lineOf ws k = ap fields (line-of ws) ∙ go (form-cases ws)
@@ -214,6 +218,7 @@ pub word-free : (f : Form) → (free 9 (word f) ≡ true) × (free 10 (word f) �
 unfolding bytes every
 word-free header = (refl, refl)
 word-free entry = (refl, refl)
+word-free scale = (refl, refl)
 word-free element = (refl, refl)
 word-free ending = (refl, refl)
 word-free nothing = (refl, refl)

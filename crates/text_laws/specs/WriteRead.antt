@@ -1,34 +1,35 @@
 -- From an accepted system to its document and back.
---     starts-within        no start is above a later one
---     columns-back, values-back, starts-back, right-back      each part comes back from the document
+--     columns-back, values-back, starts-back      each part of the matrix comes back from the document
 --     entries-count        the document has an entry for each column
---     system-document      system (documentOf p A b) is p, A and b
---     accepted-document-of documentOf p A b passes the checks
+--     placed-back          n places from their lines: the value where there is a line, `none` where there is none
+--     scales-full          scales that aren't all 1 are n
+--     right-back, scales-back      .. so the right side comes back, and so do the scales, n of them also where none were given
+--     system-document      system (documentOf p A X b) is p, A, these scales and b
+--     accepted-document-of documentOf p A X b passes the checks
 --     shaped-document-of   .. and is shaped
 use mathlib.Core.Path.{_≡_, refl, sym, ap, ap₂, _∙_}
 use mathlib.Core.Logic.{_⊎_, inl, inr}
 use mathlib.Core.Bool.{Bool, true, false, not, cond}
 use mathlib.Core.List.{List, [], _∷_, _++_, map, append-nil}
 use Prim.Native.Nat.{ℕ, zero, suc, _+_, _-_, _≤_, _<_, min}
-use native.Mathlib.Nat.{eq-or-lt-of-le}
 use native.Mathlib.Omega.{arith}
-use native.Mathlib.Numerals.{add-one}
 use lib.Dec.{eqb, ltb, leb}
-use lib.ListN.{getD, length, length-append, length-map}
+use lib.ListN.{getD, length, length-append, length-map, List·getD-eq-default}
 use borrow.Author.Tests.{ltb-true, eqb-true, eqb-false, lt-ltb, le-leb, lt-leb, eq-eqb, ne-eqb}
 use Rattle.meaning.specs.List.{at, table, every, chain, select, flat}
-use Rattle.meaning.specs.Matrix.{Matrix, matrix, size}
-use Rattle.meaning.specs.Text.{entry, element, row, system}
-use Rattle.meaning.specs.Refusal.{within, valueTaken, before}
-use Rattle.laws.specs.Bool.{and-right, and-both}
-use Rattle.laws.specs.List.{table-ext, table-of, length-table, every-nil, every-at}
-use Rattle.text_laws.specs.Lists.{select-nil, select-append, select-all, every-one, every-more}
-use Rattle.text_laws.specs.Tables.{every-table, flat-table-zero, flat-table-suc, every-flat-table, flat-rows, map-table, map-flat-table, chain-one, chain-nil, chain-table, select-none, chain-flat-table}
+use Rattle.meaning.specs.Matrix.{Matrix, matrix, size, scaleAt}
+use Rattle.meaning.specs.Text.{Form, entry, scale, element, row, placed, system}
+use Rattle.meaning.specs.Refusal.{within, valueTaken, scaleCountTaken, before, someScale}
+use Rattle.laws.specs.Bool.{and-right, and-both, or-right, or-true-right, never, test-cases}
+use Rattle.laws.specs.List.{table-ext, table-of, length-table, every-nil, every-at, length-none}
+use Rattle.laws.specs.Accepted.{start-within}
+use Rattle.text_laws.specs.Lists.{getD-inside, select-nil, select-append, select-all, every-one, every-more, every-map}
+use Rattle.text_laws.specs.Tables.{every-table, flat-table-zero, flat-table-suc, flat-table-none, flat-table-one, every-flat-table, flat-rows, map-table, map-flat-table, chain-one, chain-nil, chain-table, select-none, chain-flat-table}
 use Rattle.text_laws.specs.Numeral.{small-or-large}
-use Rattle.text_laws.specs.Form.{say, small, fits}
-use Rattle.text_laws.specs.Document.{shaped}
-use Rattle.text_laws.specs.Accepted.{start, column, value, row-before, column-before, AcceptedSystem, AcceptedDocument, place-taken, within-of, modulus-high}
-use Rattle.text_laws.specs.Coordinates.{entryAt, rowEntries, elementAt, documentOf}
+use Rattle.text_laws.specs.Form.{arity, say, small, fits}
+use Rattle.text_laws.specs.Document.{fit, shaped}
+use Rattle.text_laws.specs.Accepted.{start, column, value, row-before, column-before, AcceptedSystem, AcceptedScales, AcceptedLines, AcceptedDocument, place-taken, within-of, modulus-high}
+use Rattle.text_laws.specs.Coordinates.{entryAt, rowEntries, lineAt, placedLines, allOnes, scaleLines, elementLines, documentOf}
 
 small-below : (x : ℕ) → x ≤ 2147483647 → small x ≡ true
 small-below x h = le-leb x 4294967295 (omega arith)
@@ -39,57 +40,158 @@ small-two x y f g = every-more small x (y ∷ []) (small-below x f) (every-one s
 small-three : (x y z : ℕ) → x ≤ 2147483647 → y ≤ 2147483647 → z ≤ 2147483647 → every small (x ∷ y ∷ z ∷ []) ≡ true
 small-three x y z f g h = every-more small x (y ∷ z ∷ []) (small-below x f) (small-two y z g h)
 
--- ---- the elements of a right side
+value-small : (p x : ℕ) → p ≤ 2147483647 → valueTaken p x ≡ true → x ≤ 2147483647
+value-small p x h e = omega (arith, ltb-true x p (and-right (leb 1 x) (ltb x p) e))
 
-module _ (b : List ℕ) where
-  element-test : (t : List ℕ → Bool) (i : ℕ) → (eqb (at b i) 0 ≡ false → t ((i + 1) ∷ at b i ∷ []) ≡ true) → every t (elementAt b i) ≡ true
-  element-test t i h = go (eqb (at b i) 0) h
+-- ---- lines of a place and a value, `s` or `b`
+
+module _ (skip : ℕ → Bool) (v : List ℕ) where
+  line-test : (t : List ℕ → Bool) (i : ℕ) → (skip i ≡ false → t ((i + 1) ∷ at v i ∷ []) ≡ true) → every t (lineAt skip v i) ≡ true
+  line-test t i h = go (skip i) h
     where
-      go : (z : Bool) → (z ≡ false → t ((i + 1) ∷ at b i ∷ []) ≡ true) → every t (cond z [] (((i + 1) ∷ at b i ∷ []) ∷ [])) ≡ true
+      go : (z : Bool) → (z ≡ false → t ((i + 1) ∷ at v i ∷ []) ≡ true) → every t (cond z [] (((i + 1) ∷ at v i ∷ []) ∷ [])) ≡ true
       go true h = every-nil t
-      go false h = every-one t ((i + 1) ∷ at b i ∷ []) (h refl)
+      go false h = every-one t ((i + 1) ∷ at v i ∷ []) (h refl)
 
-  picked-before : (i m : ℕ) → m ≤ i → select (λ e. eqb (row e) (i + 1)) (flat (table m (elementAt b))) ≡ []
+  picked-before : (i m : ℕ) → m ≤ i → select (λ e. eqb (row e) (i + 1)) (placedLines m skip v) ≡ []
   picked-before i m h =
-      select-none (λ e. eqb (row e) (i + 1)) (flat (table m (elementAt b)))
-      (every-flat-table (λ e. not (eqb (row e) (i + 1))) m (elementAt b)
-      (λ j l. element-test (λ e. not (eqb (row e) (i + 1))) j (λ z. ap not (ne-eqb (j + 1) (i + 1) (λ q. omega arith)))))
+      select-none (λ e. eqb (row e) (i + 1)) (placedLines m skip v)
+      (every-flat-table (λ e. not (eqb (row e) (i + 1))) m (lineAt skip v)
+      (λ j l. line-test (λ e. not (eqb (row e) (i + 1))) j (λ z. ap not (ne-eqb (j + 1) (i + 1) (λ q. omega arith)))))
 
-  picked : (i m : ℕ) → i < m → select (λ e. eqb (row e) (i + 1)) (flat (table m (elementAt b))) ≡ elementAt b i
+  picked : (i m : ℕ) → i < m → select (λ e. eqb (row e) (i + 1)) (placedLines m skip v) ≡ lineAt skip v i
   picked i zero h = absurd (omega arith)
   picked i (suc m) h =
-      ap (select (λ e. eqb (row e) (i + 1))) (flat-table-suc m (elementAt b))
-      ∙ select-append (λ e. eqb (row e) (i + 1)) (flat (table m (elementAt b))) (elementAt b m) ∙ go (small-or-large i m) (picked i m)
+      ap (select (λ e. eqb (row e) (i + 1))) (flat-table-suc m (lineAt skip v))
+      ∙ select-append (λ e. eqb (row e) (i + 1)) (placedLines m skip v) (lineAt skip v m) ∙ go (small-or-large i m) (picked i m)
     where
-      go : (i < m) ⊎ (m ≤ i) → (i < m → select (λ e. eqb (row e) (i + 1)) (flat (table m (elementAt b))) ≡ elementAt b i)
-          → select (λ e. eqb (row e) (i + 1)) (flat (table m (elementAt b))) ++ select (λ e. eqb (row e) (i + 1)) (elementAt b m) ≡ elementAt b i
+      go : (i < m) ⊎ (m ≤ i) → (i < m → select (λ e. eqb (row e) (i + 1)) (placedLines m skip v) ≡ lineAt skip v i)
+          → select (λ e. eqb (row e) (i + 1)) (placedLines m skip v) ++ select (λ e. eqb (row e) (i + 1)) (lineAt skip v m) ≡ lineAt skip v i
       go (inl l) ih =
           ap₂ _++_ (ih l)
-          (select-none (λ e. eqb (row e) (i + 1)) (elementAt b m)
-          (element-test (λ e. not (eqb (row e) (i + 1))) m (λ z. ap not (ne-eqb (m + 1) (i + 1) (λ q. omega arith)))))
-          ∙ append-nil (elementAt b i)
+          (select-none (λ e. eqb (row e) (i + 1)) (lineAt skip v m)
+          (line-test (λ e. not (eqb (row e) (i + 1))) m (λ z. ap not (ne-eqb (m + 1) (i + 1) (λ q. omega arith)))))
+          ∙ append-nil (lineAt skip v i)
       go (inr l) ih =
           ap₂ _++_ (picked-before i m l)
-          (select-all (λ e. eqb (row e) (i + 1)) (elementAt b m) (element-test (λ e. eqb (row e) (i + 1)) m
+          (select-all (λ e. eqb (row e) (i + 1)) (lineAt skip v m) (line-test (λ e. eqb (row e) (i + 1)) m
           (λ z. eq-eqb (m + 1) (i + 1) (omega arith)))
-          ∙ ap (elementAt b) (let z : m ≡ i = omega arith in z))
+          ∙ ap (lineAt skip v) (let z : m ≡ i = omega arith in z))
 
-  element-back : (i : ℕ) → at b i ≡ at (getD (elementAt b i) 0 []) 1
-  element-back i = go (eqb (at b i) 0) refl
+  pub placed-back : (n none : ℕ) → placed n none (placedLines n skip v) ≡ table n (λ i. cond (skip i) none (at v i))
+  unfolding placed
+  placed-back n none =
+      table-ext n (λ i. at (getD (select (λ e. eqb (row e) (i + 1)) (placedLines n skip v)) 0 ((i + 1) ∷ none ∷ [])) 1)
+      (λ i. cond (skip i) none (at v i))
+      (λ i l. ap (λ s. at (getD s 0 ((i + 1) ∷ none ∷ [])) 1) (picked i n l) ∙ go i (skip i))
     where
-      go : (z : Bool) → eqb (at b i) 0 ≡ z → at b i ≡ at (getD (cond z [] (((i + 1) ∷ at b i ∷ []) ∷ [])) 0 []) 1
-      go true e = eqb-true (at b i) 0 e
-      go false e = refl
+      go : (i : ℕ) (z : Bool)
+          → at (getD (cond z [] (((i + 1) ∷ at v i ∷ []) ∷ [])) 0 ((i + 1) ∷ none ∷ [])) 1 ≡ cond z none (at v i)
+      go i true = refl
+      go i false = refl
 
-module _ (p : ℕ) (A : Matrix) (b : List ℕ) (a : AcceptedSystem p A b) where
-  pub starts-within : (i m : ℕ) → i ≤ m → m ≤ size A → start A i ≤ start A m
-  starts-within i zero h g = omega (arith, ap (start A) (let z : i ≡ 0 = omega arith in z))
-  starts-within i (suc m) h g = go (eq-or-lt-of-le h) (λ l. starts-within i m l (omega arith))
+  accepted-placed : (p n : ℕ) → ((i : ℕ) → i < n → skip i ≡ false → valueTaken p (at v i) ≡ true) → AcceptedLines p n (placedLines n skip v)
+  accepted-placed p n h =
+      record {
+        rows =
+            every-flat-table (λ e. within 1 n (row e)) n (lineAt skip v)
+            (λ i l. line-test (λ e. within 1 n (row e)) i (λ z. within-of 1 n (i + 1) (omega arith) (omega arith)));
+        rows-ordered =
+            chain-flat-table row (λ e f. ltb (row e) (row f)) (lineAt skip v) n (λ e f h. lt-ltb (row e) (row f) h)
+            (λ i l. alone i (skip i))
+            (λ i l. line-test (λ e. eqb (row e) (i + 1)) i (λ z. eq-eqb (i + 1) (i + 1) refl));
+        values =
+            every-flat-table (λ e. valueTaken p (at e 1)) n (lineAt skip v)
+            (λ i l. line-test (λ e. valueTaken p (at e 1)) i (h i l));
+      }
     where
-      go : (i ≡ suc m) ⊎ (i < suc m) → (i ≤ m → start A i ≤ start A m) → start A i ≤ start A (suc m)
-      go (inl q) ih = omega (arith, ap (start A) q)
-      go (inr l) ih = omega (arith, ih (omega arith), a .rising m (omega arith), ap (start A) (add-one m))
+      alone : (i : ℕ) (z : Bool) → chain (λ e f. ltb (row e) (row f)) (cond z [] (((i + 1) ∷ at v i ∷ []) ∷ [])) ≡ true
+      alone i true = chain-nil (λ e f. ltb (row e) (row f))
+      alone i false = chain-one (λ e f. ltb (row e) (row f)) ((i + 1) ∷ at v i ∷ [])
 
+  fit-placed : (f : Form) (p n : ℕ) → eqb 2 (arity f) ≡ true → p ≤ 2147483647 → n ≤ 4096
+      → ((i : ℕ) → i < n → skip i ≡ false → valueTaken p (at v i) ≡ true) → fit f (placedLines n skip v) ≡ true
+  fit-placed f p n two h m g =
+      every-flat-table (λ e. fits (say f e)) n (lineAt skip v)
+      (λ i l. line-test (λ e. fits (say f e)) i
+      (λ z. and-both two (small-two (i + 1) (at v i) (omega arith) (value-small p (at v i) h (g i l z)))))
+
+-- ---- the elements of b
+
+module _ (n : ℕ) (b : List ℕ) (long : length b ≡ n) where
+  pub right-back : placed n 0 (elementLines n b) ≡ b
+  right-back =
+      placed-back (λ i. eqb (at b i) 0) b n 0
+      ∙ sym (table-of 0 b n (λ i. cond (eqb (at b i) 0) 0 (at b i)) long (λ i l. go i (test-cases (eqb (at b i) 0))))
+    where
+      go : (i : ℕ) → (eqb (at b i) 0 ≡ true) ⊎ (eqb (at b i) 0 ≡ false) → at b i ≡ cond (eqb (at b i) 0) 0 (at b i)
+      go i (inl e) = eqb-true (at b i) 0 e ∙ ap (λ t. cond t 0 (at b i)) (sym e)
+      go i (inr e) = ap (λ t. cond t 0 (at b i)) (sym e)
+
+  element-value : (p : ℕ) → every (λ a. ltb a p) b ≡ true → (i : ℕ) → i < n → eqb (at b i) 0 ≡ false → valueTaken p (at b i) ≡ true
+  element-value p below i l z =
+      and-both (le-leb 1 (at b i) (omega (arith, eqb-false (at b i) 0 z))) (every-at (λ a. ltb a p) b 0 below i (omega (arith, long)))
+
+-- ---- the scales
+
+ones-at : (X : List ℕ) → allOnes X ≡ true → (i : ℕ) → scaleAt X i ≡ 1
+ones-at X e i = go (small-or-large i (length X))
+  where
+    go : (i < length X) ⊎ (length X ≤ i) → scaleAt X i ≡ 1
+    go (inl l) = eqb-true (scaleAt X i) 1 (every-at (λ a. eqb a 1) X 1 e i l)
+    go (inr l) = List·getD-eq-default X 1 {n = i} l
+
+module _ (p n : ℕ) (X : List ℕ) (x : AcceptedScales p n X) where
+  pub scales-full : allOnes X ≡ false → length X ≡ n
+  scales-full some =
+      eqb-true (length X) n
+      (or-right (eqb (length X) 0) (eqb (length X) n)
+      (ne-eqb (length X) 0 (λ z. never (allOnes X) (ap allOnes (length-none X z) ∙ every-nil (λ a. eqb a 1)) some))
+      (x .number))
+
+  pub scales-back : placed n 1 (scaleLines n X) ≡ table n (scaleAt X)
+  scales-back =
+      placed-back (λ i. allOnes X) X n 1
+      ∙ table-ext n (λ i. cond (allOnes X) 1 (at X i)) (scaleAt X) (λ i l. go i l (test-cases (allOnes X)))
+    where
+      go : (i : ℕ) → i < n → (allOnes X ≡ true) ⊎ (allOnes X ≡ false) → cond (allOnes X) 1 (at X i) ≡ scaleAt X i
+      go i l (inl e) = ap (λ t. cond t 1 (at X i)) e ∙ sym (ones-at X e i)
+      go i l (inr e) = ap (λ t. cond t 1 (at X i)) e ∙ getD-inside X i 0 1 (omega (arith, scales-full e))
+
+  scale-value : (i : ℕ) → i < n → allOnes X ≡ false → valueTaken p (at X i) ≡ true
+  scale-value i l some = every-at (valueTaken p) X 0 (x .taken) i (omega (arith, scales-full some))
+
+  lines-none : allOnes X ≡ true → scaleLines n X ≡ []
+  lines-none e = flat-table-none n (lineAt (λ i. allOnes X) X) (λ i l. ap (λ t. cond t [] (((i + 1) ∷ at X i ∷ []) ∷ [])) e)
+
+  lines-all : allOnes X ≡ false → scaleLines n X ≡ table n (λ i. (i + 1) ∷ at X i ∷ [])
+  lines-all e =
+      (λ j. flat (table n (λ i. cond (e j) [] (((i + 1) ∷ at X i ∷ []) ∷ [])))) ∙ flat-table-one n (λ i. (i + 1) ∷ at X i ∷ [])
+
+  -- all n or none, and not all of them 1
+  scale-count : scaleCountTaken n (length (scaleLines n X)) ≡ true
+  scale-count = go (test-cases (allOnes X))
+    where
+      go : (allOnes X ≡ true) ⊎ (allOnes X ≡ false) → scaleCountTaken n (length (scaleLines n X)) ≡ true
+      go (inl e) = ap (λ l. scaleCountTaken n (length l)) (lines-none e)
+      go (inr e) =
+          or-true-right (eqb (length (scaleLines n X)) 0)
+          (eq-eqb (length (scaleLines n X)) n (ap length (lines-all e) ∙ length-table n (λ i. (i + 1) ∷ at X i ∷ [])))
+
+  scale-some : someScale (scaleLines n X) ≡ true
+  scale-some = go (test-cases (allOnes X))
+    where
+      go : (allOnes X ≡ true) ⊎ (allOnes X ≡ false) → someScale (scaleLines n X) ≡ true
+      go (inl e) = ap someScale (lines-none e)
+      go (inr e) =
+          or-true-right (eqb (length (scaleLines n X)) 0)
+          (ap not
+          (ap (every (λ e. eqb (at e 1) 1)) (lines-all e)
+          ∙ sym (every-map (λ a. eqb a 1) (λ e. at e 1) (table n (λ i. (i + 1) ∷ at X i ∷ [])))
+          ∙ ap allOnes (map-table (λ e. at e 1) n (λ i. (i + 1) ∷ at X i ∷ []) ∙ sym (table-of 0 X n (at X) (scales-full e) (λ i l. refl)))
+          ∙ e))
+
+module _ (p : ℕ) (A : Matrix) (X b : List ℕ) (a : AcceptedSystem p A b) (x : AcceptedScales p (size A) X) where
   -- ---- the entries
 
   abbrev all-entries : List (List ℕ)
@@ -150,20 +252,15 @@ module _ (p : ℕ) (A : Matrix) (b : List ℕ) (a : AcceptedSystem p A b) where
       sym (table-of 0 (A .starts) (size A + 1) (λ i. length (select (λ e. leb (row e) i) all-entries)) (a .start-count)
       (λ i l. ap (start A) (let z : i ≡ min (size A) i = omega arith in z) ∙ sym (counted-rows i (size A) (omega arith))))
 
-  -- ---- the right side
-
-  abbrev all-elements : List (List ℕ)
-  all-elements = flat (table (size A) (elementAt b))
-
-  pub right-back : table (size A) (λ i. at (getD (select (λ e. eqb (row e) (i + 1)) all-elements) 0 []) 1) ≡ b
-  right-back =
-      sym (table-of 0 b (size A) (λ i. at (getD (select (λ e. eqb (row e) (i + 1)) all-elements) 0 []) 1) (a .right-length)
-      (λ i l. element-back b i ∙ ap (λ s. at (getD s 0 []) 1) (sym (picked b i (size A) l))))
-
-  pub system-document : system (documentOf p A b) ≡ record { modulus = p; matrix = A; right = b }
+  pub system-document : system (documentOf p A X b) ≡ record { modulus = p; matrix = A; scales = table (size A) (scaleAt X); right = b }
   unfolding system documentOf
   system-document =
-      λ i. record { modulus = p; matrix = matrix (starts-back i) (columns-back i) (values-back i); right = right-back i }
+      λ i. record {
+        modulus = p;
+        matrix = matrix (starts-back i) (columns-back i) (values-back i);
+        scales = scales-back p (size A) X x i;
+        right = right-back (size A) b (a .right-length) i;
+      }
 
   -- ---- the checks
 
@@ -173,15 +270,9 @@ module _ (p : ℕ) (A : Matrix) (b : List ℕ) (a : AcceptedSystem p A b) where
 
   value-at : (i : ℕ) → i < size A → (k : ℕ) → start A i + k < start A (i + 1) → valueTaken p (value A (start A i + k)) ≡ true
   value-at i l k g =
-      every-at (valueTaken p) (A .values) 0 (a .values-taken) (start A i + k)
-      (omega (arith, starts-within (i + 1) (size A) (omega arith) (omega arith), a .to-end, a .as-many))
+      every-at (valueTaken p) (A .values) 0 (a .values-taken) (start A i + k) (omega (arith, start-within a (i + 1) (omega arith), a .as-many))
 
-  element-value : (i : ℕ) → i < size A → eqb (at b i) 0 ≡ false → valueTaken p (at b i) ≡ true
-  element-value i l z =
-      and-both (le-leb 1 (at b i) (omega (arith, eqb-false (at b i) 0 z)))
-      (every-at (λ a. ltb a p) b 0 (a .right-below) i (omega (arith, a .right-length)))
-
-  pub accepted-document-of : AcceptedDocument (documentOf p A b)
+  pub accepted-document-of : AcceptedDocument (documentOf p A X b)
   unfolding documentOf
   accepted-document-of =
       record {
@@ -189,6 +280,7 @@ module _ (p : ℕ) (A : Matrix) (b : List ℕ) (a : AcceptedSystem p A b) where
         size-high = a .size-high;
         counted = entries-count;
         few = omega (arith, a .few, entries-count);
+        scale-number = scale-count p (size A) X x;
         places =
             every-flat-table (place-taken (size A)) (size A) (rowEntries A)
             (λ i l. row-test (place-taken (size A)) i
@@ -205,38 +297,26 @@ module _ (p : ℕ) (A : Matrix) (b : List ℕ) (a : AcceptedSystem p A b) where
                   (let z : start A i + k + 1 ≡ start A i + suc k = omega arith in z),
             ))))
             (λ i l. row-test (λ e. eqb (row e) (i + 1)) i (λ k g. eq-eqb (i + 1) (i + 1) refl));
-        rows =
-            every-flat-table (λ e. within 1 (size A) (row e)) (size A) (elementAt b)
-            (λ i l. element-test b (λ e. within 1 (size A) (row e)) i (λ z. within-of 1 (size A) (i + 1) (omega arith) (omega arith)));
-        rows-ordered =
-            chain-flat-table row (λ e f. ltb (row e) (row f)) (elementAt b) (size A) (λ e f h. lt-ltb (row e) (row f) h)
-            (λ i l. alone i (eqb (at b i) 0))
-            (λ i l. element-test b (λ e. eqb (row e) (i + 1)) i (λ z. eq-eqb (i + 1) (i + 1) refl));
+        some-scale = scale-some p (size A) X x;
         values =
             every-flat-table (λ e. valueTaken p (at e 2)) (size A) (rowEntries A)
             (λ i l. row-test (λ e. valueTaken p (at e 2)) i (value-at i l));
-        right-values =
-            every-flat-table (λ e. valueTaken p (at e 1)) (size A) (elementAt b)
-            (λ i l. element-test b (λ e. valueTaken p (at e 1)) i (element-value i l));
+        scale-lines = accepted-placed (λ i. allOnes X) X p (size A) (scale-value p (size A) X x);
+        element-lines =
+            accepted-placed (λ i. eqb (at b i) 0) b p (size A) (element-value (size A) b (a .right-length) p (a .right-below));
       }
-    where
-      alone : (i : ℕ) (z : Bool) → chain (λ e f. ltb (row e) (row f)) (cond z [] (((i + 1) ∷ at b i ∷ []) ∷ [])) ≡ true
-      alone i true = chain-nil (λ e f. ltb (row e) (row f))
-      alone i false = chain-one (λ e f. ltb (row e) (row f)) ((i + 1) ∷ at b i ∷ [])
 
-  value-small : (x : ℕ) → valueTaken p x ≡ true → x ≤ 2147483647
-  value-small x e = omega (arith, ltb-true x p (and-right (leb 1 x) (ltb x p) e), modulus-high p (a .prime))
-
-  pub shaped-document-of : shaped (documentOf p A b) ≡ true
+  pub shaped-document-of : shaped (documentOf p A X b) ≡ true
   unfolding shaped documentOf
   shaped-document-of =
-      and-both (and-both
-      (small-three p (size A) (length (A .columns)) (modulus-high p (a .prime)) (omega (arith, a .size-high)) (omega (arith, a .few)))
+      let high = modulus-high p (a .prime) in
+      and-both (and-both (and-both
+      (small-three p (size A) (length (A .columns)) high (omega (arith, a .size-high)) (omega (arith, a .few)))
       (every-flat-table (λ e. fits (say entry e)) (size A) (rowEntries A)
       (λ i l. row-test (λ e. fits (say entry e)) i
       (λ k g. small-three (i + 1) (column A (start A i + k) + 1) (value A (start A i + k))
       (omega (arith, a .size-high)) (omega (arith, a .size-high, a .column-below i l k g))
-      (value-small (value A (start A i + k)) (value-at i l k g))))))
-      (every-flat-table (λ e. fits (say element e)) (size A) (elementAt b)
-      (λ i l. element-test b (λ e. fits (say element e)) i
-      (λ z. small-two (i + 1) (at b i) (omega (arith, a .size-high)) (value-small (at b i) (element-value i l z)))))
+      (value-small p (value A (start A i + k)) high (value-at i l k g))))))
+      (fit-placed (λ i. allOnes X) X scale p (size A) refl high (a .size-high) (scale-value p (size A) X x)))
+      (fit-placed (λ i. eqb (at b i) 0) b element p (size A) refl high (a .size-high)
+      (element-value (size A) b (a .right-length) p (a .right-below)))
