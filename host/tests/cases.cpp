@@ -378,8 +378,8 @@ struct Section {
 };
 
 const std::map<char, Section> sections = {
-    {'1', {system_case, 35}}, {'2', {recurrence_case, 15}}, {'3', {product_case, 47}}, {'4', {reader_case, 39}},
-    {'5', {text_case, 20}},   {'6', {writer_case, 9}},      {'7', {refusal_case, 68}}, {'8', {field_case, 14}},
+    {'1', {system_case, 53}}, {'2', {recurrence_case, 15}}, {'3', {product_case, 51}}, {'4', {reader_case, 78}},
+    {'5', {text_case, 33}},   {'6', {writer_case, 26}},     {'7', {refusal_case, 94}}, {'8', {field_case, 14}},
 };
 
 } // namespace
