@@ -510,6 +510,8 @@ void largest() {
     system.scales = Vector(n, p - 1);
     written = filzeur::write_system(system);
     check(written.ok() && filzeur::read_system(written.value()).value() == system, "the largest text with scales");
+    check(filzeur::write_system({{p}, {Vector(n + 1), {}, {}}, system.right, system.scales}).ok(),
+          "the largest text with scales and no entries");
     system.scales.clear();
 
     // A of rank 16: few terms decide, though the slices are the longest.
