@@ -4,7 +4,7 @@
 //
 // In each round every contestant has its turn, so that a slow minute of the machine meets all of them; the
 // least time of N rounds counts. A contestant that has used S seconds on one row sits out the later rounds.
-// The parts are memory, sizes, window, growth, small and verdicts.
+// The parts are memory, sizes, window, scales, growth, small and verdicts.
 // --quick is for a look at whether all works: small sizes, one round.
 #include "contestants.h"
 #include "systems.h"
@@ -163,6 +163,23 @@ void time_window(size_t n, size_t k, uint32_t p) {
     }
 }
 
+// What random scales cost: the same system with and without them. The ratio means something if both runs make
+// about as many products, so it is said where they don't.
+void time_scales(size_t n, size_t k, uint32_t p) {
+    fprintf(stderr, "scales: %zu rows of %zu entries, p = %u\n", n, k, p);
+    const Entrants ours = {{"Filzeur", make_ours}, {"Filzeur, scales", make_scaled}};
+    Random random(n * 1000 + k + p);
+    System s = some_system(random, n, k, p, true);
+    std::vector<Runner> runners = prepare(ours, s, s.b, {});
+    race(
+        runners, rounds, 1, [](const Contestant &) { return true; }, [](Contestant &c) { c.solve(); });
+    print_times("scales", s, runners, true);
+    uint64_t without = runners[0].contestant->applications(), with = runners[1].contestant->applications();
+    if (with > without + without / 100 || without > with + with / 100)
+        fprintf(stderr, "  %zu products without scales, %zu with them\n", static_cast<size_t>(without),
+                static_cast<size_t>(with));
+}
+
 // A system as the text call has them, without random words, through the number call and the text call.
 void time_small(size_t n, size_t k, uint32_t p) {
     fprintf(stderr, "small: %zu rows of %zu entries, p = %u\n", n, k, p);
@@ -286,6 +303,9 @@ int main(int count, char **words) {
     if (wanted("window"))
         for (uint32_t p : primes)
             time_window(4096 / divisor, 16, p);
+    if (wanted("scales"))
+        for (uint32_t p : primes)
+            time_scales(4096 / divisor, 16, p);
     if (wanted("growth"))
         for (size_t n : {1024, 2048, 4096})
             time_all("growth", n / divisor, 16, 2147483647, false);

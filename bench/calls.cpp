@@ -5,6 +5,12 @@ namespace {
 
 uint8_t *bytes(std::string &text) { return reinterpret_cast<uint8_t *>(text.data()); }
 
+// The pointer of an empty vector may be null, and a slice's may not.
+[[maybe_unused]] const uint32_t *place(const Vector &v) {
+    static const uint32_t nowhere = 0;
+    return v.empty() ? &nowhere : v.data();
+}
+
 void refused(Case &c, uint32_t refusal) { c.numbers = {refusal, 0, 0, 0, 0, 0, 0}; }
 
 void field(Case &c) { refused(c, filzeur_field(c.s.p)); }
@@ -50,7 +56,11 @@ void solve(Case &c) {
     const System &s = c.s;
     filzeur_verdict answer = filzeur_solve(
         s.p, s.starts.data(), s.starts.size(), s.columns.data(), s.columns.size(), s.values.data(),
-        s.values.size(), s.b.data(), s.b.size(), s.words.data(), s.words.size(),
+        s.values.size(),
+#if FILZEUR_VERSION >= 6
+        place(s.scales), s.scales.size(),
+#endif
+        s.b.data(), s.b.size(), s.words.data(), s.words.size(),
 #if FILZEUR_VERSION >= 5
         s.window,
 #endif
@@ -69,10 +79,13 @@ void solve(Case &c) {
 
 void write(Case &c) {
     const System &s = c.s;
-    c.text.resize(33 + 23 * s.columns.size() + 18 * s.n);
-    filzeur_length answer =
-        filzeur_write(s.p, s.starts.data(), s.starts.size(), s.columns.data(), s.columns.size(),
-                      s.values.data(), s.values.size(), s.b.data(), s.b.size(), bytes(c.text), c.text.size());
+    c.text.resize(33 + 23 * s.columns.size() + 36 * s.n);
+    filzeur_length answer = filzeur_write(s.p, s.starts.data(), s.starts.size(), s.columns.data(),
+                                          s.columns.size(), s.values.data(), s.values.size(),
+#if FILZEUR_VERSION >= 6
+                                          place(s.scales), s.scales.size(),
+#endif
+                                          s.b.data(), s.b.size(), bytes(c.text), c.text.size());
     c.text.resize(answer.length);
     c.numbers = {answer.refusal, 0, 0, 0, 0, 0, answer.length};
 }

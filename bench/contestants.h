@@ -34,6 +34,7 @@ struct System {
     Vector words; // random words for one projection
     Vector g;     // a polynomial of degree Contestant::products
     uint32_t window = 0;
+    Vector scales = {}; // none, or n
 };
 
 // What a contestant says of a system.
@@ -59,13 +60,15 @@ class Contestant {
     virtual Vector polynomial() { return {}; } // of the last recurrence, lowest power first
     // A whole solve.
     virtual void solve() {}
-    virtual Verdict verdict() { return {}; } // of the last solve
+    virtual Verdict verdict() { return {}; }            // of the last solve
+    virtual uint64_t applications() const { return 0; } // its products with the matrix, if they are told
 };
 
 using Maker = std::unique_ptr<Contestant> (*)(const System &system, const Vector &v, const Vector &terms);
 
 std::unique_ptr<Contestant> make_ours(const System &, const Vector &, const Vector &);
 std::unique_ptr<Contestant> make_windowed(const System &, const Vector &, const Vector &); // a window of 20
+std::unique_ptr<Contestant> make_scaled(const System &, const Vector &, const Vector &); // with random scales
 std::unique_ptr<Contestant> make_text(const System &, const Vector &, const Vector &); // by the text call
 std::unique_ptr<Contestant> make_plain(const System &, const Vector &, const Vector &);
 std::unique_ptr<Contestant> make_linbox(const System &, const Vector &, const Vector &);

@@ -2,6 +2,7 @@
 #include "calls.h"
 #include "contestants.h"
 #include "plain.h"
+#include "systems.h"
 
 #include <sstream>
 
@@ -25,6 +26,7 @@ class Ours : public Contestant {
             return {"refused, " + std::to_string(c.numbers.refusal), {}};
         return {c.numbers.kind == 1 ? "solved" : "singular", c.vector};
     }
+    uint64_t applications() const override { return c.numbers.applications; }
 
   private:
     Case c;
@@ -38,6 +40,19 @@ struct WithWindow {
 class Windowed : WithWindow, public Ours {
   public:
     Windowed(const System &s, const Vector &v, const Vector &terms) : WithWindow(s), Ours(given, v, terms) {}
+};
+
+struct WithScales {
+    explicit WithScales(const System &system) : given(system) {
+        Random random(system.p);
+        given.scales = some_scales(random, given.n, given.p);
+    }
+    System given;
+};
+
+class Scaled : WithScales, public Ours {
+  public:
+    Scaled(const System &s, const Vector &v, const Vector &terms) : WithScales(s), Ours(given, v, terms) {}
 };
 
 class Text : public Contestant {
@@ -105,6 +120,10 @@ std::unique_ptr<Contestant> make_ours(const System &s, const Vector &v, const Ve
 
 std::unique_ptr<Contestant> make_windowed(const System &s, const Vector &v, const Vector &terms) {
     return std::make_unique<Windowed>(s, v, terms);
+}
+
+std::unique_ptr<Contestant> make_scaled(const System &s, const Vector &v, const Vector &terms) {
+    return std::make_unique<Scaled>(s, v, terms);
 }
 
 std::unique_ptr<Contestant> make_text(const System &s, const Vector &v, const Vector &terms) {

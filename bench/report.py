@@ -16,9 +16,7 @@ import sys
 
 OURS, PLAIN, LINBOX, ROWS, FLINT = 'Filzeur', 'plain C', 'LinBox', 'LinBox CSR', 'FLINT dense'
 NAMES = [OURS, PLAIN, LINBOX, ROWS, FLINT]
-WINDOWED = 'Filzeur, window 20'
-SHORT_NAMES = [OURS, WINDOWED, LINBOX, ROWS, 'LinBox of b', 'LinBox of b, CSR']
-SHORT_GOAL = 0.22  # of the time without a window, at most, at 4,096 × 16
+WINDOWED, SCALED = 'Filzeur, window 20', 'Filzeur, scales'
 LARGE = 2147483647
 PRODUCTS = 64  # Contestant::products
 
@@ -36,6 +34,15 @@ GOALS = [
     ('solve', 4096, 4, FLINT, 1.0),
     ('solve', 4096, 16, FLINT, 1.0),
 ]
+
+# Runs of ours with an option beside runs without it: whose time, the option, and what is to be reached, of the time
+# without it at 4,096 × 16.
+OPTIONS = {
+    'short': (WINDOWED, 'window 20', 0.22),
+    'full': (WINDOWED, 'window 20', None),
+    'scales': (SCALED, 'scales', 1.15),
+}
+OPTION_NAMES = [OURS, WINDOWED, SCALED, LINBOX, ROWS, 'LinBox of b', 'LinBox of b, CSR']
 
 Key = collections.namedtuple('Key', 'what n k p')
 
@@ -67,7 +74,7 @@ class Times:
             name = fields[4].strip()
             self.seconds[key][name] = float(fields[5])
             self.turns[key][name] = int(fields[6])
-            if what in ('solve', 'short', 'full', 'growth', 'small') and fields[8] not in ('Ax = b', 'Aw = 0'):
+            if what in ('solve', 'short', 'full', 'scales', 'growth', 'small') and fields[8] not in ('Ax = b', 'Aw = 0'):
                 self.wrong.add((key, name))
 
     def rounds(self, *whats):
@@ -184,27 +191,29 @@ def small_table(times):
     return rows_of(table)
 
 
-def window_table(times, what='short'):
-    """Milliseconds, and our time with a window divided by that without one, and by LinBox's."""
+def option_table(times, what):
+    """Milliseconds, and our time with the option divided by that without it, and by LinBox's."""
+    with_option, option, _ = OPTIONS[what]
     keys = times.keys(what)
-    names = [name for name in SHORT_NAMES if any(name in times.seconds[key] for key in keys)]
-    others = [name for name in names if name != WINDOWED]
-    table = [['rows × entries, p'] + names + ['window 20 to ' + ('none' if name == OURS else name) for name in others]]
+    names = [name for name in OPTION_NAMES if any(name in times.seconds[key] for key in keys)]
+    others = [name for name in names if name != with_option]
+    table = [['rows × entries, p'] + names + [option + ' to ' + ('none' if name == OURS else name) for name in others]]
     for key in keys:
         row = times.seconds[key]
         table.append(['%s × %d, %s' % (count(key.n), key.k, count(key.p))] +
                      [show(1e3 * row[name], 1) + times.remark(key, name) if name in row else '' for name in names] +
-                     [show(row[WINDOWED] / row[name], 3) if name in row else '' for name in others])
+                     [show(row[with_option] / row[name], 3) if name in row else '' for name in others])
     return rows_of(table)
 
 
-def window_goal(times):
-    shares = [times.seconds[key][WINDOWED] / times.seconds[key][OURS] for key in times.keys('short') if key.n == 4096]
+def option_goal(times, what):
+    with_option, option, most = OPTIONS[what]
+    shares = [times.seconds[key][with_option] / times.seconds[key][OURS] for key in times.keys(what) if key.n == 4096]
     if not shares:
         return 'Too small for the goal, which is of 4,096 rows.'
-    reached = 'reached' if max(shares) <= SHORT_GOAL else 'missed by %.3f' % (max(shares) - SHORT_GOAL)
-    return 'With the window at most %.3f of the time without it; at most %.2f was to be reached: %s.' % (
-        max(shares), SHORT_GOAL, reached)
+    reached = 'reached' if max(shares) <= most else 'missed by %.3f' % (max(shares) - most)
+    return 'With %s at most %.3f of the time without; at most %.2f was to be reached: %s.' % (
+        option, max(shares), most, reached)
 
 
 def kernel_table(times):
@@ -237,7 +246,7 @@ def machine():
 
 def page(times, picture):
     """All sections that there are rows for, in Markdown."""
-    rounds = times.rounds('product', 'horner', 'recurrence', 'solve', 'short', 'full', 'growth')
+    rounds = times.rounds('product', 'horner', 'recurrence', 'solve', 'short', 'full', 'scales', 'growth')
     parts = ['%s. %s.' % (datetime.date.today().isoformat(), machine())]
     if rounds:
         parts[0] += (' Each time is the least of %d rounds in one process, in which the programs took turns; where a '
@@ -262,9 +271,15 @@ def page(times, picture):
             'by itself, but its sequence is that of a random vector, not of b, so it meets A\'s own polynomial, of degree '
             'n. "LinBox of b" is made of the same parts of LinBox for the sequence of b, with a threshold of 20, and '
             'trusts what it finds until it checks Ax = b.',
-            window_table(times), window_goal(times),
+            option_table(times, 'short'), option_goal(times, 'short'),
             'f of degree n, so that no test is ever due: what a window costs where it saves nothing.',
-            window_table(times, 'full')]
+            option_table(times, 'full')]
+    if times.keys('scales'):
+        parts += [
+            '## Scaled columns, whole solve, milliseconds',
+            'The same system with random scales, 1 to p − 1, and without: with them the run is on AX, and the answer is '
+            'multiplied by X. Both answers were multiplied out with A itself.',
+            option_table(times, 'scales'), option_goal(times, 'scales')]
     if times.keys('small'):
         parts += ['## Small systems, microseconds',
                   'As the text call has them, without random words, least of %d rounds. The text call also reads the '
@@ -352,12 +367,12 @@ def main():
         beside = ['%s %s' % (name, show(ratio(times, key, name))) for name in times.names()[1:] if name in row]
         if OURS in row and beside:
             print('%-10s %5d x %2d  p = %-10d  ours to %s' % (key.what, key.n, key.k, key.p, ', '.join(beside)))
-    for what, table in (('solve', goal_table), ('short', window_table), ('short', window_goal), ('small', small_table),
-                        ('kernel', kernel_table)):
+    for what, table in (('solve', goal_table), ('small', small_table), ('kernel', kernel_table)):
         if times.keys(what):
             print('\n' + table(times))
-    if times.keys('full'):
-        print('\n' + window_table(times, 'full'))
+    for what, (_, _, most) in OPTIONS.items():
+        if times.keys(what):
+            print('\n' + option_table(times, what) + ('\n\n' + option_goal(times, what) if most else ''))
     print('\nwritten: %s and %s' % tuple(sys.argv[2:4]))
 
 

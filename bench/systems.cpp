@@ -12,6 +12,13 @@ Vector some_vector(Random &random, size_t n, uint32_t p) {
     return v;
 }
 
+Vector some_scales(Random &random, size_t n, uint32_t p) {
+    Vector scales = some_vector(random, n, p - 1);
+    for (uint32_t &scale : scales)
+        scale++;
+    return scales;
+}
+
 Vector times(const System &s, const Vector &v) {
     Vector result(s.n);
     plain_matrix a{s.p, s.n, s.starts.data(), s.columns.data(), s.values.data()};

@@ -12,6 +12,8 @@ uint32_t below(Random &random, uint32_t bound);
 
 Vector some_vector(Random &random, size_t n, uint32_t p);
 
+Vector some_scales(Random &random, size_t n, uint32_t p); // 1 to p - 1
+
 Vector times(const System &s, const Vector &v);
 
 // n rows of k entries. With the diagonal among them the matrix is almost always regular; without it, and with

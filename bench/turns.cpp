@@ -137,8 +137,9 @@ std::string largest_row;
 void row(std::vector<Library> &libraries, const std::string &name, Call call, Case &c) {
     if (name.find(only) == std::string::npos)
         return;
+    int needed = !c.s.scales.empty() ? 6 : c.s.window > 0 ? 5 : 1; // the version that can make the call
     for (const Library &library : libraries)
-        if (!(library.places[0]->*call) || (c.s.window > 0 && library.places[0]->version < 5)) {
+        if (!(library.places[0]->*call) || library.places[0]->version < needed) {
             fprintf(stderr, "%s: the %s library has no such call\n", name.c_str(), library.name.c_str());
             return;
         }
@@ -205,6 +206,10 @@ void compare(std::vector<Library> &libraries) {
         row(libraries, "solve, f of degree n / 10" + size(n, k, p), &Calls::solve, c);
         s.window = 20;
         row(libraries, "solve, f of degree n / 10, window 20" + size(n, k, p), &Calls::solve, c);
+        System scaled = some_system(random, n, k, p, true);
+        scaled.scales = some_scales(random, n, p);
+        Case by_scales(scaled, scaled.b, scaled.b);
+        row(libraries, "solve, scales" + size(n, k, p), &Calls::solve, by_scales);
     }
     printf("\nlargest ratio %.3f: %s\n", largest, largest_row.c_str());
 }

@@ -1,9 +1,9 @@
 // An example host: reads a system text of any accepted size, solves it with random words, multiplies the answer out.
 //
-//     example [-r R] [-w W] [FILE]
+//     example [-r R] [-w W] [-s] [FILE]
 //
-// R vectors of random words are drawn, 0 to 64, 1 if not said; the window is W, 0 to 64, 0 if not said; the text comes
-// from FILE or from standard input.
+// R vectors of random words are drawn, 0 to 64, 1 if not said; the window is W, 0 to 64, 0 if not said; with -s the run
+// has random scales in the place of the text's own; the text comes from FILE or from standard input.
 // Standard output gets the answer's text in the form of the text call, or `refused` and the number; standard error a
 // summary. Exit status: 0 answered, 1 refused, 2 bad usage, or input or output that failed, 3 the answer does not
 // multiply out.
@@ -12,7 +12,6 @@
 #include <cinttypes>
 #include <cstdio>
 #include <cstdlib>
-#include <cstring>
 #include <fstream>
 #include <iostream>
 #include <optional>
@@ -47,15 +46,16 @@ std::optional<std::uint32_t> number_of(const char *word, unsigned long most) {
     return static_cast<std::uint32_t>(number);
 }
 
-std::vector<std::uint32_t> draw(std::size_t count) {
+std::vector<std::uint32_t> draw(std::size_t count, std::uint32_t least, std::uint32_t most) {
     std::random_device generator; // the system's own
-    std::vector<std::uint32_t> words(count);
-    for (auto &word : words)
-        word = generator();
-    return words;
+    std::uniform_int_distribution<std::uint32_t> one_of(least, most);
+    std::vector<std::uint32_t> drawn(count);
+    for (auto &number : drawn)
+        number = one_of(generator);
+    return drawn;
 }
 
-// Av by the definition, without the library: the second opinion.
+// Av by the definition, without the library: the second opinion. Scales have no part in it: the answer is A's.
 filzeur::Vector plain_product(const filzeur::System &system, const filzeur::Vector &v) {
     const auto &a = system.matrix;
     filzeur::Vector out(a.size());
@@ -100,12 +100,16 @@ int refused(filzeur::Refusal refusal) {
     return 1;
 }
 
-int answer(std::string_view text, std::uint32_t vectors, std::uint32_t window) {
+int answer(std::string_view text, std::uint32_t vectors, std::uint32_t window, bool scaled) {
     auto system = filzeur::read_system(text);
     if (!system.ok())
         return refused(system.refusal());
 
-    auto run = filzeur::solve_with(system.value(), {draw(vectors * system.value().matrix.size()), window});
+    std::size_t size = system.value().matrix.size();
+    filzeur::Options options{draw(vectors * size, 0, 4294967295), window};
+    if (scaled)
+        options.scales = draw(size, 1, system.value().field.p - 1);
+    auto run = filzeur::solve_with(system.value(), options);
     if (!run.ok())
         return refused(run.refusal());
     const auto &found = run.value();
@@ -117,8 +121,11 @@ int answer(std::string_view text, std::uint32_t vectors, std::uint32_t window) {
     print(found);
     std::fprintf(stderr,
                  "%s: degree %" PRIu64 ", passes %" PRIu64 ", applications %" PRIu64 ", entries multiplied %" PRIu64
-                 "; %s by the library's check and by a plain loop\n",
+                 ", %s scales; %s by the library's check and by a plain loop\n",
                  name(found.kind), found.degree, found.passes, found.applications, found.multiplied,
+                 scaled                          ? "random"
+                 : system.value().scales.empty() ? "no"
+                                                 : "the text's",
                  found.kind == Kind::solved ? "Ax = b" : "Aw = 0");
     return 0;
 }
@@ -126,17 +133,26 @@ int answer(std::string_view text, std::uint32_t vectors, std::uint32_t window) {
 } // namespace
 
 int main(int argc, char **argv) {
+    const char *usage = " example [-r R] [-w W] [-s] [FILE]";
     std::uint32_t vectors = 1, window = 0;
+    bool scaled = false;
     int next = 1;
-    for (; next + 1 < argc && (std::strcmp(argv[next], "-r") == 0 || std::strcmp(argv[next], "-w") == 0); next += 2) {
-        bool words = argv[next][1] == 'r';
-        auto number = number_of(argv[next + 1], words ? FILZEUR_MAX_VECTORS : FILZEUR_MAX_WINDOW);
+    for (; next < argc && argv[next][0] == '-'; ++next) {
+        const std::string_view option = argv[next];
+        if (option == "-s") {
+            scaled = true;
+            continue;
+        }
+        bool words = option == "-r";
+        if ((!words && option != "-w") || ++next == argc)
+            return failed("usage:", usage);
+        auto number = number_of(argv[next], words ? FILZEUR_MAX_VECTORS : FILZEUR_MAX_WINDOW);
         if (!number)
-            return failed(argv[next], " takes a number from 0 to 64");
+            return failed(option.data(), " takes a number from 0 to 64");
         (words ? vectors : window) = *number;
     }
-    if (argc - next > 1 || (next < argc && argv[next][0] == '-'))
-        return failed("usage:", " example [-r R] [-w W] [FILE]");
+    if (argc - next > 1)
+        return failed("usage:", usage);
 
     std::string text;
     if (next < argc) {
@@ -152,7 +168,7 @@ int main(int argc, char **argv) {
             return failed("standard input", " cannot be read");
     }
 
-    int status = answer(text, vectors, window);
+    int status = answer(text, vectors, window, scaled);
     // A full disk must not look like an answer.
     if (std::fflush(stdout) != 0 || std::ferror(stdout) != 0)
         return failed("the answer", " cannot be written");

@@ -5,6 +5,9 @@
  * 65,536. Row i holds the entries from starts[i] up to but not including starts[i + 1]. Size 0, a system with nothing
  * left, is one start, which is 0, and no entries. Polynomials are coefficients, lowest power first.
  *
+ * A system also holds scales, one for each column: n numbers from 1 to p - 1, the diagonal of a matrix X; or none,
+ * which is the same as n ones. The solver takes them, and system texts have them; every other call is about A itself.
+ *
  * Refusals. Each call makes its checks in the order of their numbers, except that 13 comes after 10 and before 11, and
  * answers the number of the first that turns its input down, 0 if none does. A refusal leaves every other field of the
  * answer 0 and every lent slice as it was. So any numbers may stand in the slices, and they may have any length; a call
@@ -25,8 +28,8 @@
 #include <stdint.h>
 
 /* Raised whenever a signature, a struct or the meaning of one changes. A header without it is version 1; the bill came
- * with 2, size 0 with 3, the entries multiplied with 4, the window with 5. */
-#define FILZEUR_VERSION 5
+ * with 2, size 0 with 3, the entries multiplied with 4, the window with 5, the scales with 6. */
+#define FILZEUR_VERSION 6
 
 #ifdef __cplusplus
 extern "C" {
@@ -40,19 +43,21 @@ enum {
     FILZEUR_MAX_VECTORS = 64,    /* R, the vectors of random words */
     FILZEUR_MAX_WINDOW = 64,
     FILZEUR_MAX_TEXT = 2097152,  /* bytes of a system text */
-    FILZEUR_CALL_TEXT = 24576,   /* bytes of a system text that filzeur_text takes */
+    FILZEUR_CALL_TEXT = 26624,   /* bytes of a system text that filzeur_text takes */
     FILZEUR_CALL_ANSWER = 7168   /* bytes that filzeur_text wants for its answer */
 };
 
 /* The refusals.
- *  1  the text call got more than 24,576 bytes
+ *  1  the text call got more than 26,624 bytes
  *  2  the text exceeds 2,097,152 bytes or breaks the line forms or their order of letters
  *  3  p is not a prime from 2 to 2,147,483,647
  *  4  n is not 0 to 4,096, or the starts are empty
  *  5  starts don't begin at 0, fall, or don't end at the entry count; columns and values differ in length; there are
- *     over 65,536 entries; or the header's count isn't that of the `a` lines
- *  6  a row or column is out of range or out of order, `b` lines included
- *  7  an entry or `b` line's value is 0 or at least p
+ *     over 65,536 entries; the header's count isn't that of the `a` lines; or the number of scales or `s` lines is
+ *     neither 0 nor n
+ *  6  a row or column is out of range or out of order, `s` and `b` lines included; or there are `s` lines and all of
+ *     their values are 1
+ *  7  a scale, or the value of an entry or of an `s` or `b` line, is 0 or at least p
  *  8  a vector, list or polynomial that is read has a length other than stated
  *  9  an element of one, or an operand of a field operation, is at least p
  * 10  the words are not a multiple of n, or more than 64 * n, or there are words and no rows
@@ -151,10 +156,13 @@ struct filzeur_degree filzeur_recurrence(uint32_t p, const uint32_t *s, size_t s
 /* ---- The solver ---- */
 
 /* Solves Ax = b, or shows that A is singular. words: R vectors of n random words each, R from 0 to 64, any 32-bit
- * numbers; they and the window sway passes, applications and multiplied only. polynomial = the monic f of least degree
- * with f(A)b = 0, then zeros. Solved: b is a combination of Ab, A(Ab), .., and vector = x with Ax = b. Singular:
- * vector = w, not zero, with Aw = 0; Ax = b may have solutions all the same. b = 0, as that of size 0, is solved by
- * x = 0 with f = 1 and no pass.
+ * numbers; they and the window sway passes, applications and multiplied only.
+ * scales: none, or n of them, 1 to p - 1. The run is on B = AX, which is A with each column times its scale (A itself
+ * where there are none), and what it finds is multiplied by X for the answer: f and the kind speak of B, the vector of
+ * A itself. Other scales may take other passes and give another f; where A is singular, another kind and vector too.
+ * polynomial = the monic f of least degree with f(B)b = 0, then zeros. Solved: b is a combination of Bb, B(Bb), ..,
+ * and vector = x with Ax = b. Singular: vector = w, not zero, with Aw = 0; Ax = b may have solutions all the same.
+ * b = 0, as that of size 0, is solved by x = 0 with f = 1 and no pass.
  * bill: three numbers for each pass, in their order: left (n less the degree found before the pass), the pass's degree t
  * and its applications, 2 * left - 1 + t where the window (below) does not change them. The verdict's applications are
  * the sum of the passes' and degree - 1 for the close (0 for degree 0). The bill takes as many whole passes as it has
@@ -163,16 +171,16 @@ struct filzeur_degree filzeur_recurrence(uint32_t p, const uint32_t *s, size_t s
  * window: 0 to 64; 0 is no window. Otherwise a pass tests, once, whether it can end before its 2 * left terms: after
  * the first term i below 2 * left where its recurrence g, of the terms so far, has a degree L of at least 1 and the
  * last `window` discrepancies were all 0, that is, each of these terms was as the recurrence before it foretold.
- * If g(A) takes what the passes before have left of b to zero, the pass ends with g, at i - 1 + L applications. If not,
+ * If g(B) takes what the passes before have left of b to zero, the pass ends with g, at i - 1 + L applications. If not,
  * it goes on to all of its terms and costs L more, 2 * left - 1 + t + L.
  * Refusals: 3 to 7; 8 (b: n elements); 9 (b); 10 (words); 13 (window); 11 (vector: exactly n places; polynomial:
  * exactly n + 1; work: at least 16 * n + 16). */
 struct filzeur_verdict filzeur_solve(uint32_t p, const uint32_t *starts, size_t starts_length, const uint32_t *columns,
                                      size_t columns_length, const uint32_t *values, size_t values_length,
-                                     const uint32_t *b, size_t b_length, const uint32_t *words, size_t words_length,
-                                     uint32_t window, uint32_t *vector, size_t vector_length, uint32_t *polynomial,
-                                     size_t polynomial_length, uint32_t *bill, size_t bill_length, uint32_t *work,
-                                     size_t work_length);
+                                     const uint32_t *scales, size_t scales_length, const uint32_t *b, size_t b_length,
+                                     const uint32_t *words, size_t words_length, uint32_t window, uint32_t *vector,
+                                     size_t vector_length, uint32_t *polynomial, size_t polynomial_length,
+                                     uint32_t *bill, size_t bill_length, uint32_t *work, size_t work_length);
 
 /* ---- Checks of answers that anyone offers ---- */
 
@@ -189,23 +197,27 @@ struct filzeur_yes filzeur_is_null(uint32_t p, const uint32_t *starts, size_t st
 
 /* ---- System texts ---- */
 
-/* Reads a system text into the leading places of the slices and leaves the rest of them as it was; right = b.
- * Refusals: 2 to 7; 11 (starts: at least n + 1 places; columns and values: at least entries; right: at least n). A text
- * has at least 8 bytes for each entry, so text_length / 8 places for columns and for values are always enough. */
+/* Reads a system text into the leading places of the slices and leaves the rest of them as it was; right = b; scales =
+ * the values of the `s` lines, or n ones where there are no such lines.
+ * Refusals: 2 to 7; 11 (starts: at least n + 1 places; columns and values: at least entries; scales and right: at least
+ * n). A text has at least 8 bytes for each entry, so text_length / 8 places for columns and for values are always
+ * enough. */
 struct filzeur_system filzeur_read(const uint8_t *text, size_t text_length, uint32_t *starts, size_t starts_length,
                                    uint32_t *columns, size_t columns_length, uint32_t *values, size_t values_length,
-                                   uint32_t *right, size_t right_length);
+                                   uint32_t *scales, size_t scales_length, uint32_t *right, size_t right_length);
 
-/* Writes the text of a system and answers its length; the bytes after it stay.
- * Refusals: 3 to 7; 8 (b: n elements); 9 (b); 11 (text: at least as long as what is written; 33 + 23 * entries + 18 * n
+/* Writes the text of a system and answers its length; the bytes after it stay. scales: none, or n of them, 1 to p - 1;
+ * the text has `s` lines exactly if one of them isn't 1.
+ * Refusals: 3 to 7; 8 (b: n elements); 9 (b); 11 (text: at least as long as what is written; 33 + 23 * entries + 36 * n
  * bytes are always enough). */
 struct filzeur_length filzeur_write(uint32_t p, const uint32_t *starts, size_t starts_length, const uint32_t *columns,
                                     size_t columns_length, const uint32_t *values, size_t values_length,
-                                    const uint32_t *b, size_t b_length, uint8_t *text, size_t text_length);
+                                    const uint32_t *scales, size_t scales_length, const uint32_t *b, size_t b_length,
+                                    uint8_t *text, size_t text_length);
 
-/* The text call: a system text in, the answer's text out, without random words or a window. The answer's first line is
- * `answer`, kind, D, passes, applications and entries multiplied. Answers the length of the answer's text, always above
- * 18, or the refusal's number; the bytes after the answer stay.
+/* The text call: a system text in, the answer's text out, with the text's scales, without random words or a window. The
+ * answer's first line is `answer`, kind, D, passes, applications and entries multiplied. Answers the length of the
+ * answer's text, always above 18, or the refusal's number; the bytes after the answer stay.
  * Refusals: 1 to 7; 11 (n over 128, or over 1,024 entries; answer: at least 7,168 bytes). */
 uint64_t filzeur_text(const uint8_t *text, size_t text_length, uint8_t *answer, size_t answer_length);
 

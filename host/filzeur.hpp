@@ -3,8 +3,8 @@
 //   Refusal              why a call turned its input down: a number, 1 to 13, and its meaning in words
 //   Result<T>            a T or a Refusal, and how many entries of the matrix were multiplied
 //   Field                the field of p elements: sum, difference, product, inverse
-//   Matrix, System       a sparse square matrix; a field, a matrix and a right side
-//   Options              what a run of the solver may be given beside its system: random words, a window
+//   Matrix, System       a sparse square matrix; a field, a matrix, a right side and perhaps scales
+//   Options              what a run of the solver may be given beside its system: random words, a window, scales
 //   Answer, Pass         what a run of the solver found; one line of its bill
 //   product, transposed, apply, recurrence, solve, solve_with, takes, is_null
 //   read_system, write_system, answer_text
@@ -42,14 +42,16 @@ struct Refusal {
     const char *meaning() const {
         static constexpr const char *meanings[] = {
             "nothing was refused",
-            "the text call or program got more than 24,576 bytes",
+            "the text call or program got more than 26,624 bytes",
             "the text exceeds 2,097,152 bytes or breaks the line forms or their order of letters",
             "the modulus is not a prime from 2 to 2,147,483,647",
             "the size n is not 0 to 4,096, or the starts are empty",
             ("the starts don't begin at 0, fall, or don't end at the entry count; columns and values differ in length; "
-             "there are over 65,536 entries; or the header's count isn't that of the a lines"),
-            "a row or column is out of range or out of order (b lines included)",
-            "the value of an entry or of a b line is 0 or at least the modulus",
+             "there are over 65,536 entries; the header's count isn't that of the a lines; or the number of scales or "
+             "s lines is neither 0 nor n"),
+            ("a row or column is out of range or out of order (s and b lines included), or there are s lines and all "
+             "of their values are 1"),
+            "a scale, or the value of an entry or of an s or b line, is 0 or at least the modulus",
             "a vector, list or polynomial that is read has a length other than stated",
             "an element of a vector, list or polynomial, or an operand, is at least the modulus",
             "the words are not a multiple of n, or more than 64 n, or there are words and no rows",
@@ -152,17 +154,23 @@ struct Matrix {
 struct System {
     Field field;
     Matrix matrix;
-    Vector right; // b
+    Vector right;       // b
+    Vector scales = {}; // of the columns, 1 to p - 1, as filzeur.h has them; none are the same as n ones
 
     bool operator==(const System &other) const {
-        return field == other.field && matrix == other.matrix && right == other.right;
+        return field == other.field && matrix == other.matrix && right == other.right &&
+               (scales == other.scales || (unscaled() && other.unscaled()));
     }
+
+  private:
+    bool unscaled() const { return scales.empty() || scales == Vector(matrix.size(), 1); }
 };
 
-// What a run is given beside its system; neither changes its verdict.
+// What a run is given beside its system. Words and window don't change its verdict; scales may, as filzeur.h says.
 struct Options {
     std::vector<std::uint32_t> words = {}; // R vectors of n random words each, one after the other, R from 0 to 64
     std::uint32_t window = 0;              // 0 to 64, as filzeur.h has it: above 0, a pass may end early
+    Vector scales = {};                    // for this run, in the place of the system's own; none: the system's own
 };
 
 enum class Kind : std::uint32_t { solved = FILZEUR_SOLVED, singular = FILZEUR_SINGULAR };
@@ -183,22 +191,33 @@ struct Answer {
     std::uint64_t multiplied = 0; // entries of A, in all applications
 };
 
-// Structured bindings of an Answer have the names that stand before the bill: code that binds six is older than it.
+// Structured bindings have the names that stand before the bill of an Answer and before the scales of a System: code
+// that binds six, or three, is older than these.
 namespace detail {
 template <class A> auto before_bill(A &a) {
     return std::tie(a.kind, a.degree, a.passes, a.applications, a.vector, a.polynomial);
+}
+template <class S> auto before_scales(S &s) {
+    return std::tie(s.field, s.matrix, s.right);
 }
 } // namespace detail
 
 template <std::size_t I> auto &get(Answer &a) { return std::get<I>(detail::before_bill(a)); }
 template <std::size_t I> const auto &get(const Answer &a) { return std::get<I>(detail::before_bill(a)); }
 template <std::size_t I> auto &&get(Answer &&a) { return std::move(get<I>(a)); }
+template <std::size_t I> auto &get(System &s) { return std::get<I>(detail::before_scales(s)); }
+template <std::size_t I> const auto &get(const System &s) { return std::get<I>(detail::before_scales(s)); }
+template <std::size_t I> auto &&get(System &&s) { return std::move(get<I>(s)); }
 
 } // namespace filzeur
 
 template <> struct std::tuple_size<filzeur::Answer> : std::integral_constant<std::size_t, 6> {};
 template <std::size_t I> struct std::tuple_element<I, filzeur::Answer> {
     using type = std::remove_reference_t<decltype(filzeur::get<I>(std::declval<filzeur::Answer &>()))>;
+};
+template <> struct std::tuple_size<filzeur::System> : std::integral_constant<std::size_t, 3> {};
+template <std::size_t I> struct std::tuple_element<I, filzeur::System> {
+    using type = std::remove_reference_t<decltype(filzeur::get<I>(std::declval<filzeur::System &>()))>;
 };
 
 namespace filzeur {
@@ -257,15 +276,17 @@ inline Result<Polynomial> recurrence(const Field &field, const Vector &list) {
 
 namespace detail {
 
-inline Result<Answer> run(const System &system, const std::vector<std::uint32_t> &words, std::uint32_t window) {
+inline Result<Answer> run(const System &system, const std::vector<std::uint32_t> &words, std::uint32_t window,
+                          const Vector &scales) {
     const auto &[field, a, b] = system;
     // R, which is 0 for size 0; more than 64 vectors are refused, so the bill needs no room for them.
     std::size_t vectors = a.size() == 0 ? 0 : words.size() / a.size();
     std::size_t passes = std::min<std::size_t>(FILZEUR_MAX_VECTORS, vectors) + a.size();
     Lent<Element> vector(a.size()), polynomial(a.size() + 1), bill(3 * passes), work(16 * a.size() + 16);
     auto verdict =
-        with(filzeur_solve, field, a, place(b), b.size(), place(words), words.size(), window, vector.data(),
-             vector.size(), polynomial.data(), polynomial.size(), bill.data(), bill.size(), work.data(), work.size());
+        with(filzeur_solve, field, a, place(scales), scales.size(), place(b), b.size(), place(words), words.size(),
+             window, vector.data(), vector.size(), polynomial.data(), polynomial.size(), bill.data(), bill.size(),
+             work.data(), work.size());
     return result(verdict.refusal,
                   Answer{Kind{verdict.kind}, verdict.degree, verdict.passes, verdict.applications,
                          std::move(vector).leading(a.size()), std::move(polynomial).leading(verdict.degree + 1),
@@ -277,12 +298,13 @@ inline Result<Answer> run(const System &system, const std::vector<std::uint32_t>
 
 // words: R vectors of n random words each, one after the other, R from 0 to 64. The verdict does not depend on them.
 inline Result<Answer> solve(const System &system, const std::vector<std::uint32_t> &words = {}) {
-    return detail::run(system, words, 0);
+    return detail::run(system, words, 0, system.scales);
 }
 
 // A name of its own: a second `solve` would leave code that hands the first one on, as to std::async, in doubt which.
 inline Result<Answer> solve_with(const System &system, const Options &options) {
-    return detail::run(system, options.words, options.window);
+    return detail::run(system, options.words, options.window,
+                       options.scales.empty() ? system.scales : options.scales);
 }
 
 // Whether Ax = b
@@ -298,33 +320,37 @@ inline Result<bool> is_null(const Field &field, const Matrix &a, const Vector &w
     return detail::result(refusal, yes == 1, multiplied);
 }
 
+// The system has no scales where the text has none.
 inline Result<System> read_system(std::string_view text) {
     // An `a` line has at least 8 bytes, so a text that passes the checks has no more entries than this.
     std::size_t entries = std::min<std::size_t>(FILZEUR_MAX_ENTRIES, text.size() / 8);
     detail::Lent<std::uint32_t> starts(FILZEUR_MAX_SIZE + 1), columns(entries);
-    detail::Lent<Element> values(entries), right(FILZEUR_MAX_SIZE);
+    detail::Lent<Element> values(entries), scales(FILZEUR_MAX_SIZE), right(FILZEUR_MAX_SIZE);
     auto read = filzeur_read(detail::bytes(text), text.size(), starts.data(), starts.size(), columns.data(),
-                             columns.size(), values.data(), values.size(), right.data(), right.size());
+                             columns.size(), values.data(), values.size(), scales.data(), scales.size(), right.data(),
+                             right.size());
+    // Ones are no `s` lines: with these they would have been refused.
+    bool ones = std::all_of(scales.data(), scales.data() + read.size, [](Element scale) { return scale == 1; });
     return detail::result(
         read.refusal, System{Field{read.modulus},
                              Matrix{std::move(starts).leading(std::size_t(read.size) + 1),
                                     std::move(columns).leading(read.entries), std::move(values).leading(read.entries)},
-                             std::move(right).leading(read.size)});
+                             std::move(right).leading(read.size), std::move(scales).leading(ones ? 0 : read.size)});
 }
 
 inline Result<std::string> write_system(const System &system) {
     const auto &[field, a, b] = system;
-    // The longest lines: 29 bytes for the header, 23 for an entry, 18 for an element of b, 4 for the end. What is over
-    // the bounds is refused before the text's length is looked at.
+    // The longest lines: 29 bytes for the header, 23 for an entry, 18 for a scale and for an element of b, 4 for the
+    // end. What is over the bounds is refused before the text's length is looked at.
     std::size_t entries = std::min<std::size_t>(FILZEUR_MAX_ENTRIES, a.values.size());
     std::size_t size = std::min<std::size_t>(FILZEUR_MAX_SIZE, a.size());
-    detail::Lent<std::uint8_t> text(33 + 23 * entries + 18 * size);
-    auto [refusal, length] =
-        detail::with(filzeur_write, field, a, detail::place(b), b.size(), text.data(), text.size());
+    detail::Lent<std::uint8_t> text(33 + 23 * entries + 36 * size);
+    auto [refusal, length] = detail::with(filzeur_write, field, a, detail::place(system.scales), system.scales.size(),
+                                          detail::place(b), b.size(), text.data(), text.size());
     return detail::result(refusal, std::string(text.data(), text.data() + length));
 }
 
-// The text call: the answer's text of a system text of at most 128 rows, 1,024 entries and 24,576 bytes.
+// The text call: the answer's text of a system text of at most 128 rows, 1,024 entries and 26,624 bytes.
 inline Result<std::string> answer_text(std::string_view text) {
     detail::Lent<std::uint8_t> answer(FILZEUR_CALL_ANSWER);
     std::uint64_t number = filzeur_text(detail::bytes(text), text.size(), answer.data(), answer.size());

@@ -40,9 +40,10 @@ WRAP(struct filzeur_degree, filzeur_recurrence,
      (p, LENT(s), LENT(polynomial), LENT(work)))
 
 WRAP(struct filzeur_verdict, filzeur_solve,
-     (uint32_t p, READS_MATRIX, READS(uint32_t, b), READS(uint32_t, words), uint32_t window, WRITES(uint32_t, vector),
-      WRITES(uint32_t, polynomial), WRITES(uint32_t, bill), WRITES(uint32_t, work)),
-     (p, LENT_MATRIX, LENT(b), LENT(words), window, LENT(vector), LENT(polynomial), LENT(bill), LENT(work)))
+     (uint32_t p, READS_MATRIX, READS(uint32_t, scales), READS(uint32_t, b), READS(uint32_t, words), uint32_t window,
+      WRITES(uint32_t, vector), WRITES(uint32_t, polynomial), WRITES(uint32_t, bill), WRITES(uint32_t, work)),
+     (p, LENT_MATRIX, LENT(scales), LENT(b), LENT(words), window, LENT(vector), LENT(polynomial), LENT(bill),
+      LENT(work)))
 
 WRAP(struct filzeur_yes, filzeur_takes, (uint32_t p, READS_MATRIX, READS(uint32_t, x), READS(uint32_t, b)),
      (p, LENT_MATRIX, LENT(x), LENT(b)))
@@ -51,10 +52,11 @@ WRAP(struct filzeur_yes, filzeur_is_null, (uint32_t p, READS_MATRIX, READS(uint3
 
 WRAP(struct filzeur_system, filzeur_read,
      (READS(uint8_t, text), WRITES(uint32_t, starts), WRITES(uint32_t, columns), WRITES(uint32_t, values),
-      WRITES(uint32_t, right)),
-     (LENT(text), LENT(starts), LENT(columns), LENT(values), LENT(right)))
+      WRITES(uint32_t, scales), WRITES(uint32_t, right)),
+     (LENT(text), LENT(starts), LENT(columns), LENT(values), LENT(scales), LENT(right)))
 
-WRAP(struct filzeur_length, filzeur_write, (uint32_t p, READS_MATRIX, READS(uint32_t, b), WRITES(uint8_t, text)),
-     (p, LENT_MATRIX, LENT(b), LENT(text)))
+WRAP(struct filzeur_length, filzeur_write,
+     (uint32_t p, READS_MATRIX, READS(uint32_t, scales), READS(uint32_t, b), WRITES(uint8_t, text)),
+     (p, LENT_MATRIX, LENT(scales), LENT(b), LENT(text)))
 
 WRAP(uint64_t, filzeur_text, (READS(uint8_t, text), WRITES(uint8_t, answer)), (LENT(text), LENT(answer)))

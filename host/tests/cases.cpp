@@ -117,18 +117,18 @@ bool begins_with(const std::vector<filzeur::Pass> &bill, const Numbers &leading)
 struct Run {
     std::uint32_t p;
     Matrix a;
-    Numbers b, words;
+    Numbers scales, b, words;
     std::uint32_t window;
     std::uint32_t vector, polynomial, bill, work; // lengths
 };
 
 void solver_case(const std::string &what, const Run &run, const std::string &expected) {
     Lent vector(run.vector), polynomial(run.polynomial), bill(run.bill), work(run.work);
-    auto verdict = on(filzeur_solve, run.p, run.a, place(run.b), run.b.size(), place(run.words), run.words.size(),
-                      run.window, vector.data(), vector.size(), polynomial.data(), polynomial.size(), bill.data(),
-                      bill.size(), work.data(), work.size());
-    auto answer = run.window == 0 ? filzeur::solve({{run.p}, run.a, run.b}, run.words)
-                                  : filzeur::solve_with({{run.p}, run.a, run.b}, {run.words, run.window});
+    auto verdict = on(filzeur_solve, run.p, run.a, place(run.scales), run.scales.size(), place(run.b), run.b.size(),
+                      place(run.words), run.words.size(), run.window, vector.data(), vector.size(), polynomial.data(),
+                      polynomial.size(), bill.data(), bill.size(), work.data(), work.size());
+    auto answer = run.window == 0 ? filzeur::solve({{run.p}, run.a, run.b, run.scales}, run.words)
+                                  : filzeur::solve_with({{run.p}, run.a, run.b}, {run.words, run.window, run.scales});
     std::uint32_t refusal = refusal_of(expected);
     check(verdict.refusal == refusal, what + ", refusal " + std::to_string(verdict.refusal));
     check(work.margins_untouched(), what + ", around the work slice");
@@ -172,15 +172,26 @@ void system_case(const std::vector<std::string> &lines) {
     auto words = numbers(lines[2], "words = ");
     auto passes = (n == 0 ? 0 : static_cast<std::uint32_t>(words.size()) / n) + n; // at most
     auto window = number(lines[2], "; window = ");
-    Run run{number(lines[1], "p = "), a, numbers(lines[2], " b = "), words, window, n, n + 1, 3 * passes, 16 * n + 16};
+    Run run{number(lines[1], "p = "),
+            a,
+            numbers(lines[2], "; scales = "),
+            numbers(lines[2], " b = "),
+            words,
+            window,
+            n,
+            n + 1,
+            3 * passes,
+            16 * n + 16};
     solver_case(lines[0], run, lines[3]);
 }
 
 void refusal_case(const std::vector<std::string> &lines) {
     const auto &line = lines[0];
-    Run run{number(line, "p = "),          matrix_of(line),           numbers(line, "; b "),
-            words_of(line, "; words "),    number(line, "; window "), number(line, "; vector "),
-            number(line, ", polynomial "), number(line, ", bill "),   number(line, ", work ")};
+    Run run{number(line, "p = "),       matrix_of(line),
+            numbers(line, "; scales "), numbers(line, "; b "),
+            words_of(line, "; words "), number(line, "; window "),
+            number(line, "; vector "),  number(line, ", polynomial "),
+            number(line, ", bill "),    number(line, ", work ")};
     solver_case(line, run, lines[1]);
 }
 
@@ -264,15 +275,18 @@ void product_case(const std::vector<std::string> &lines) {
 void reader_case(const std::vector<std::string> &lines) {
     const auto &line = lines[0], &expected = lines[1];
     auto text = text_of(line);
-    auto lengths = has(line, "lent lengths ") ? numbers(line, "lent lengths ") : Numbers{5, 4, 4, 4};
-    Lent starts(lengths[0]), columns(lengths[1]), values(lengths[2]), right(lengths[3]);
+    auto lengths = has(line, "lent lengths ") ? numbers(line, "lent lengths ") : Numbers{5, 4, 4, 4, 4};
+    Lent starts(lengths.at(0)), columns(lengths.at(1)), values(lengths.at(2)), scales(lengths.at(3)),
+        right(lengths.at(4));
     auto read = filzeur_read(bytes(text), text.size(), starts.data(), starts.size(), columns.data(), columns.size(),
-                             values.data(), values.size(), right.data(), right.size());
+                             values.data(), values.size(), scales.data(), scales.size(), right.data(), right.size());
     auto system = filzeur::read_system(text);
     check(read.refusal == refusal_of(expected), line + ", refusal " + std::to_string(read.refusal));
     if (read.refusal != 0) {
         check(read.modulus == 0 && read.size == 0 && read.entries == 0, line + ", no other answer");
-        check(starts.untouched() && columns.untouched() && values.untouched() && right.untouched(), line + ", slices");
+        check(starts.untouched() && columns.untouched() && values.untouched() && scales.untouched() &&
+                  right.untouched(),
+              line + ", slices");
         if (read.refusal != 11)
             check(system.refusal().number == read.refusal, line + ", C++ refusal");
         return;
@@ -281,7 +295,8 @@ void reader_case(const std::vector<std::string> &lines) {
               read.entries == number(expected, "entries = "),
           line + ", counts");
     check(starts.ends_as(numbers(expected, "starts ")) && columns.ends_as(numbers(expected, "columns ")) &&
-              values.ends_as(numbers(expected, "values ")) && right.ends_as(numbers(expected, "; b ")),
+              values.ends_as(numbers(expected, "values ")) && scales.ends_as(numbers(expected, "; scales ")) &&
+              right.ends_as(numbers(expected, "; b ")),
           line + ", slices");
     auto again = system.ok() ? filzeur::write_system(system.value()) : filzeur::Refusal{0};
     check(again.ok() && again.value() == text, line + ", C++, written again");
@@ -310,8 +325,8 @@ void text_case(const std::vector<std::string> &lines) {
 void writer_run(const std::string &what, const filzeur::System &system, std::uint32_t places, std::uint32_t refusal,
                 std::uint32_t length, const std::string &text) {
     Bytes out(places, '.');
-    auto written = on(filzeur_write, system.field.p, system.matrix, place(system.right), system.right.size(),
-                      out.data(), out.size());
+    auto written = on(filzeur_write, system.field.p, system.matrix, place(system.scales), system.scales.size(),
+                      place(system.right), system.right.size(), out.data(), out.size());
     check(written.refusal == refusal && written.length == length && out.ends_as(text), what);
     auto again = filzeur::write_system(system);
     if (refusal != 11)
@@ -321,9 +336,9 @@ void writer_run(const std::string &what, const filzeur::System &system, std::uin
 
 void writer_case(const std::vector<std::string> &lines) {
     const auto &line = lines[0];
-    filzeur::System system{{number(line, "p = ")}, matrix_of(line), numbers(line, "; b ")};
+    filzeur::System system{{number(line, "p = ")}, matrix_of(line), numbers(line, "; b "), numbers(line, "; scales ")};
     if (has(line, "diag(2,3)"))
-        system = {system.field, {{0, 1, 2}, {0, 1}, {2, 3}}, numbers(line, ", b = ")};
+        system = {system.field, {{0, 1, 2}, {0, 1}, {2, 3}}, numbers(line, ", b = "), numbers(line, ", scales = ")};
     std::uint32_t places = number(line, "out of ");
     if (lines.size() == 1)
         return writer_run(line, system, places, refusal_of(line), 0, "");
@@ -363,8 +378,8 @@ struct Section {
 };
 
 const std::map<char, Section> sections = {
-    {'1', {system_case, 35}}, {'2', {recurrence_case, 15}}, {'3', {product_case, 47}}, {'4', {reader_case, 39}},
-    {'5', {text_case, 20}},   {'6', {writer_case, 9}},      {'7', {refusal_case, 68}}, {'8', {field_case, 14}},
+    {'1', {system_case, 53}}, {'2', {recurrence_case, 15}}, {'3', {product_case, 51}}, {'4', {reader_case, 78}},
+    {'5', {text_case, 33}},   {'6', {writer_case, 26}},     {'7', {refusal_case, 94}}, {'8', {field_case, 14}},
 };
 
 } // namespace

@@ -3,8 +3,8 @@
 #     sh example.sh PROGRAM FOLDER
 #
 # Without words it gives, byte for byte, the answers that evidence/reference.py gave (*.answer); with words or a window
-# the same but for the passes and the counts, whatever they are, and the bill adds up, as do the entries multiplied. What
-# is no system is refused, by number and exit status.
+# the same but for the passes and the counts, whatever they are, and the bill adds up, as do the entries multiplied. With
+# random scales f is another, and x the same where A is regular. What is no system is refused, by number and exit status.
 set -eu
 program=$1 examples=$2
 
@@ -16,6 +16,11 @@ fail() {
 # The kind, the degree, f and the vector, without the passes and counts
 verdict() {
     "$program" "$@" 2>/dev/null | grep -v '^pass' | cut -f 1-3
+}
+
+# The kind and the vector alone
+vector() {
+    verdict "$@" | grep -v '^[cf]' | sed '1s/\t[0-9]*$//'
 }
 
 # A line for each pass, and their sum with the close is what the first line says; each multiplied as many entries as
@@ -54,10 +59,33 @@ for system in "$examples"/*.system; do
         adds_up "$system" -r 0 -w "$window" "$system" || fail "the bill of $system with a window of $window"
     done
     [ "$(verdict -r 1 <"$system")" = "$without" ] || fail "$system from standard input"
+    for window in 0 2; do
+        adds_up "$system" -s -w "$window" "$system" || fail "the bill of $system with random scales"
+    done
 done
+for name in first restart empty large; do
+    system=$examples/$name.system
+    [ "$(vector -s -r 2 "$system")" = "$(vector -r 0 "$system")" ] || fail "$system with random scales"
+done
+
+# diag(2,3) with the scales 2, 6, which is 4 times the unit matrix; by the text's scales and without them
+head='system\t7\t2\t2\na\t1\t1\t2\na\t2\t2\t3\n' tail='b\t1\t1\nb\t2\t1\nend\n'
+got=$(printf "$head"'s\t1\t2\ns\t2\t6\n'"$tail" | "$program" -r 0 2>/dev/null)
+want=$(printf 'answer\tsolved\t1\t1\t4\t8\npass\t1\t2\t1\t4\nclose\t0\nf\t0\t3\nf\t1\t1\nx\t1\t4\nx\t2\t5\nend')
+[ "$got" = "$want" ] || fail "a text with scales: $got"
+got=$(printf "$head$tail" | vector -r 0)
+[ "$got" = "$(printf 'answer\tsolved\nx\t1\t4\nx\t2\t5\nend')" ] || fail "the same without scales: $got"
+said=$(printf "$head"'s\t1\t2\ns\t2\t6\n'"$tail" | "$program" 2>&1 >/dev/null)
+case $said in
+*"the text's scales; Ax = b"*) ;;
+*) fail "the summary with scales: $said" ;;
+esac
+
 set +e
 "$program" -w 65 "$examples/first.system" >/dev/null 2>&1
 [ $? -eq 2 ] || fail "a window of 65 is bad usage"
+"$program" -s 2 "$examples/first.system" >/dev/null 2>&1
+[ $? -eq 2 ] || fail "-s takes no number"
 set -e
 refused 2 ''
 refused 3 'system\t2147483646\t1\t0\nend\n'
@@ -65,4 +93,8 @@ refused 4 'system\t7\t4097\t0\nend\n'
 refused 5 'system\t7\t0\t1\nend\n'
 refused 6 'system\t7\t0\t0\nb\t1\t1\nend\n'
 refused 7 'system\t7\t1\t1\na\t1\t1\t7\nend\n'
+refused 2 'system\t7\t1\t0\nb\t1\t1\ns\t1\t2\nend\n'
+refused 5 'system\t7\t2\t0\ns\t1\t2\nend\n'
+refused 6 'system\t7\t1\t0\ns\t1\t1\nend\n'
+refused 7 'system\t7\t1\t0\ns\t1\t7\nend\n'
 echo "example: passed"

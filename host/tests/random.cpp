@@ -123,6 +123,34 @@ bool recurs(std::uint32_t p, const filzeur::Polynomial &f, const Vector &s) {
 
 // ---- Systems ----
 
+// None, ones, or numbers from 1 to p - 1
+Vector draw_scales(std::uint32_t p, std::size_t size) {
+    auto sort = below(4);
+    if (sort == 0)
+        return {};
+    Vector scales(size, 1);
+    if (sort > 1)
+        for (auto &scale : scales)
+            scale = 1 + below(p - 1);
+    return scales;
+}
+
+// AX, entry by entry, in a system without scales
+System unscaled(const System &system) {
+    System result{system.field, system.matrix, system.right};
+    for (std::size_t k = 0; k < result.matrix.values.size() && !system.scales.empty(); ++k)
+        result.matrix.values[k] =
+            times(system.field.p, result.matrix.values[k], system.scales[result.matrix.columns[k]]);
+    return result;
+}
+
+// Xv
+Vector scaled(const System &system, Vector v) {
+    for (std::size_t j = 0; j < system.scales.size(); ++j)
+        v[j] = times(system.field.p, v[j], system.scales[j]);
+    return v;
+}
+
 // Few entries to a row and small moduli: singular systems and restarts are common then.
 System draw_system(std::size_t size, std::uint32_t per_row) {
     static const std::uint32_t primes[] = {2, 2, 3, 3, 5, 7, 251, 65537, 2147483629, 2147483647};
@@ -142,6 +170,7 @@ System draw_system(std::size_t size, std::uint32_t per_row) {
     for (auto &element : system.right)
         if (below(3) == 0)
             element = 0;
+    system.scales = draw_scales(p, size);
     return system;
 }
 
@@ -218,9 +247,13 @@ void text(const System &system) {
     auto written = filzeur::write_system(system).value();
     auto read = filzeur::read_system(written);
     check(read.ok() && read.value() == system, "written and read");
+    bool ones = std::all_of(system.scales.begin(), system.scales.end(), [](auto scale) { return scale == 1; });
+    check(read.value().scales == (ones ? Vector{} : system.scales), "scales written and read, ones as none");
+    auto letters = std::size_t(std::count(written.begin(), written.end(), 's')); // two of them in `system`
+    check(letters == 2 + read.value().scales.size(), "s lines exactly if some scale isn't 1");
 
     // One byte changed: refused, or a system whose text is exactly these bytes.
-    static const std::string marks = "0123456789\t\nabx";
+    static const std::string marks = "0123456789\t\nabsx";
     for (int i = 0; i < 8; ++i) {
         auto changed = written;
         changed[below(std::uint32_t(changed.size()))] = marks[below(std::uint32_t(marks.size()))];
@@ -257,23 +290,29 @@ void bill(std::size_t n, const filzeur::Answer &answer, std::uint32_t window = 0
     check(left == n - answer.degree && sum == answer.applications, "the bill adds up");
 }
 
+Vector numbers_of(const std::vector<filzeur::Pass> &bill) {
+    Vector all;
+    for (const auto &[left, degree, applications] : bill)
+        for (auto number : {left, degree, applications})
+            all.push_back(std::uint32_t(number));
+    return all;
+}
+
 // A bill of any length, by the C call: whole passes only, and what stands behind them stays; all of it where refused.
 void bill_lengths(const System &system, const std::vector<std::uint32_t> &words, std::uint32_t window) {
     auto n = system.matrix.size();
     auto run = filzeur::solve_with(system, {words, window}).value();
-    Vector all;
-    for (const auto &[left, degree, applications] : run.bill)
-        for (auto number : {left, degree, applications})
-            all.push_back(std::uint32_t(number));
+    auto all = numbers_of(run.bill);
     for (std::size_t places : {std::size_t{0}, std::size_t{1}, std::size_t{2}, std::size_t{3}, std::size_t{5},
                                all.size(), all.size() + 1, all.size() + 2, all.size() + 3, 3 * (n + 64)}) {
         Vector f(n + 1), work(16 * n + 16);
         tests::Slice<std::uint32_t> vector(n), bill(places, 4294967295);
         auto solve = [&](std::size_t work_length) {
-            return filzeur::detail::with(filzeur_solve, system.field, system.matrix,
-                                         filzeur::detail::place(system.right), n, filzeur::detail::place(words),
-                                         words.size(), window, vector.data(), n, f.data(), n + 1, bill.data(), places,
-                                         work.data(), work_length);
+            using filzeur::detail::place;
+            return filzeur::detail::with(filzeur_solve, system.field, system.matrix, place(system.scales),
+                                         system.scales.size(), place(system.right), n, place(words), words.size(),
+                                         window, vector.data(), n, f.data(), n + 1, bill.data(), places, work.data(),
+                                         work_length);
         };
         auto refused = solve(work.size() - 1);
         check(refused.refusal == 11 && refused.multiplied == 0 && bill.untouched(), "a refused call's bill");
@@ -326,6 +365,20 @@ void earlier_code() {
           "results of a value alone, or of a refusal");
 }
 
+// Code from before the scales: three initialisers and three names of a system, and options of words and a window.
+void earlier_systems() {
+    System system{{7}, {{0, 1, 2}, {0, 1}, {2, 3}}, {1, 1}};
+    check(system.scales.empty(), "a system made without scales");
+    const auto &[field, matrix, right] = system;
+    check(field.p == 7 && &matrix == &system.matrix && right == Vector{1, 1}, "three names of a system");
+    auto [f, m, r] = filzeur::read_system("system\t7\t1\t1\na\t1\t1\t2\ns\t1\t3\nb\t1\t4\nend\n").value();
+    check(f.p == 7 && m.values == Vector{2} && r == Vector{4}, "three names of what was read");
+    auto &[f2, m2, r2] = system;
+    f2.p = 11, m2.values = {4, 5}, r2 = {6, 7};
+    check(system == System{{11}, {{0, 1, 2}, {0, 1}, {4, 5}}, {6, 7}}, "three names, written through");
+    check(filzeur::solve_with(system, {{}, 1}).ok() && filzeur::solve_with(system, {{1, 1}}).ok(), "earlier options");
+}
+
 // What turns into a vector of words
 struct Generator {
     operator std::vector<std::uint32_t>() const { return {1, 1}; }
@@ -361,10 +414,21 @@ void words_and_options() {
           "options with a window");
 }
 
-// The third condition: the verdict by dense elimination, and the same verdict for all words and windows.
+// The same verdict, counts and bill, and the second's vector is X times that of the first.
+bool same_run(const filzeur::Answer &on_ax, const filzeur::Answer &run, const System &system) {
+    return run.kind == on_ax.kind && run.degree == on_ax.degree && run.passes == on_ax.passes &&
+           run.applications == on_ax.applications && run.multiplied == on_ax.multiplied &&
+           run.polynomial == on_ax.polynomial && numbers_of(run.bill) == numbers_of(on_ax.bill) &&
+           run.vector == scaled(system, on_ax.vector);
+}
+
+// The third condition: the verdict by dense elimination, with AX in A's place, and the same verdict for all words and
+// windows; x and w are held to A itself.
 void solver(const System &system) {
     auto p = system.field.p;
-    auto rows = dense(system);
+    const auto ax = unscaled(system);
+    const System a{system.field, system.matrix, system.right};
+    auto rows = dense(ax);
     auto n = rows.size();
     const Vector zero(n);
     auto powers = krylov(p, rows, system.right);
@@ -374,15 +438,22 @@ void solver(const System &system) {
     check(first.degree == degree, "the least degree");
     check(first.kind == (in_the_span ? Kind::solved : Kind::singular), "solved exactly if b is in the span");
     check(first.polynomial.size() == degree + 1 && first.polynomial.back() == 1, "f is monic, of that degree");
-    check(filzeur::apply(system.field, system.matrix, first.polynomial, system.right).value() == zero, "f(A)b = 0");
-    auto image = times(p, rows, first.vector);
+    check(filzeur::apply(ax.field, ax.matrix, first.polynomial, ax.right).value() == zero, "f(AX)b = 0");
+    auto image = times(p, dense(system), first.vector);
     check(in_the_span ? image == system.right : image == zero && first.vector != zero, "the answer multiplies out");
+    auto yes = in_the_span ? filzeur::takes(system.field, system.matrix, first.vector, system.right)
+                           : filzeur::is_null(system.field, system.matrix, first.vector);
+    check(yes.value(), "the library says so too");
 
     for (std::size_t vectors : {std::size_t{0}, std::size_t{1}, std::size_t{1 + below(6)}, std::size_t{64}}) {
         std::uint32_t window = draw_window();
-        auto again = filzeur::solve_with(system, {draw_words(p, n, vectors), window}).value();
+        auto words = draw_words(p, n, vectors);
+        auto again = filzeur::solve_with(system, {words, window}).value();
         check(again.kind == first.kind && again.vector == first.vector && again.polynomial == first.polynomial,
               "the same verdict for other words and windows");
+        check(same_run(filzeur::solve_with(ax, {words, window}).value(), again, system), "the run on AX");
+        check(same_run(again, filzeur::solve_with(a, {words, window, system.scales}).value(), a),
+              "the same scales as an option");
         check(again.passes <= vectors + n, "passes at most R + n");
         bill(n, again, window);
         check(again.multiplied == again.applications * entries_of(rows), "a run's entries");
@@ -436,6 +507,12 @@ void largest() {
     check(written.ok() && filzeur::read_system(written.value()).value() == system, "the largest system's text");
     auto padded = written.value() + std::string(FILZEUR_MAX_TEXT, '\n');
     check(filzeur::read_system(padded).refusal().number == 2, "a text that is too long");
+    system.scales = Vector(n, p - 1);
+    written = filzeur::write_system(system);
+    check(written.ok() && filzeur::read_system(written.value()).value() == system, "the largest text with scales");
+    check(filzeur::write_system({{p}, {Vector(n + 1), {}, {}}, system.right, system.scales}).ok(),
+          "the largest text with scales and no entries");
+    system.scales.clear();
 
     // A of rank 16: few terms decide, though the slices are the longest.
     auto answer = filzeur::solve(system, draw_words(p, n, 1)).value();
@@ -448,6 +525,15 @@ void largest() {
     auto yes = answer.kind == Kind::solved ? filzeur::takes(system.field, system.matrix, answer.vector, system.right)
                                            : filzeur::is_null(system.field, system.matrix, answer.vector);
     check(yes.value() && yes.multiplied() == FILZEUR_MAX_ENTRIES, "the largest answer multiplies out");
+
+    for (std::uint32_t i = 0; i < n; ++i)
+        system.scales.push_back(1 + below(p - 1));
+    auto words = draw_words(p, n, 1);
+    auto by_scales = filzeur::solve(system, words).value();
+    check(same_run(filzeur::solve(unscaled(system), words).value(), by_scales, system), "the largest run with scales");
+    yes = by_scales.kind == Kind::solved ? filzeur::takes(system.field, system.matrix, by_scales.vector, system.right)
+                                         : filzeur::is_null(system.field, system.matrix, by_scales.vector);
+    check(yes.value(), "the largest answer with scales multiplies out");
 
     auto s = elements(p, FILZEUR_MAX_LIST);
     check(filzeur::recurrence({p}, s).value().size() == FILZEUR_MAX_LIST / 2 + 1, "the longest list");
@@ -486,6 +572,148 @@ void refusals() {
     check(filzeur::read_system({}).refusal().number == 2, "no text");
     check(filzeur::answer_text({}).refusal().number == 2, "no text, in the text call");
     check(filzeur::recurrence({7}, {}).value() == filzeur::Polynomial{1}, "the empty list");
+}
+
+// Scales that make one pass of two, and a singular verdict of a solved one; the system's own, and those of a run.
+void scales() {
+    using filzeur::solve, filzeur::solve_with;
+    const filzeur::Matrix diagonal{{0, 1, 2}, {0, 1}, {2, 3}}, ones{{0, 2, 4}, {0, 1, 0, 1}, {1, 1, 1, 1}};
+    const System plain{{7}, diagonal, {1, 1}}, own{{7}, diagonal, {1, 1}, {2, 6}};
+    auto one = solve(own).value();
+    check(solve(plain).value().passes == 2 && one.passes == 1 && one.kind == Kind::solved &&
+              one.polynomial == Polynomial{3, 1} && one.vector == Vector{4, 5} && one.applications == 4 &&
+              one.multiplied == 8,
+          "diag(2,3) with the scales 2, 6");
+    check(solve_with(plain, {{}, 0, {2, 6}}).value().passes == 1 && solve_with(own, {}).value().passes == 1 &&
+              solve_with(own, {{}, 0, {1, 1}}).value().passes == 2 &&
+              solve_with(own, {{}, 1, {6, 6}}).value().polynomial == Polynomial{6, 5, 1} &&
+              solve({{7}, diagonal, {1, 1}, {1, 1}}).value().polynomial == solve(plain).value().polynomial,
+          "the scales of a run before those of the system");
+    auto w = solve({{7}, ones, {1, 1}, {1, 6}}).value();
+    check(solve({{7}, ones, {1, 1}}).value().kind == Kind::solved && w.kind == Kind::singular &&
+              w.vector == Vector{1, 6} && filzeur::is_null({7}, ones, w.vector).value(),
+          "singular with the scales 1, 6");
+
+    check(!(own == plain) && own == System{{7}, diagonal, {1, 1}, {2, 6}}, "systems with scales");
+    check(plain == System{{7}, diagonal, {1, 1}, {1, 1}} && System{{7}, diagonal, {1, 1}, {1, 1}} == plain,
+          "two ones and no scales");
+    check(!(plain == System{{7}, diagonal, {1, 1}, {1}}), "one 1 and no scales");
+
+    const std::string head = "system\t7\t2\t2\na\t1\t1\t2\na\t2\t2\t3\n", tail = "b\t1\t1\nb\t2\t1\nend\n";
+    const std::string text = head + "s\t1\t2\ns\t2\t6\n" + tail;
+    check(filzeur::write_system(own).value() == text && filzeur::read_system(text).value() == own &&
+              filzeur::read_system(text).value().scales == own.scales,
+          "s lines, written and read");
+    check(filzeur::write_system({{7}, diagonal, {1, 1}, {1, 1}}).value() == head + tail &&
+              filzeur::read_system(head + tail).value().scales.empty(),
+          "ones, written and read as no scales");
+    check(filzeur::answer_text(text).value() ==
+              "answer\tsolved\t1\t1\t4\t8\npass\t1\t2\t1\t4\nclose\t0\nf\t0\t3\nf\t1\t1\nx\t1\t4\nx\t2\t5\nend\n",
+          "s lines in the text call");
+}
+
+// What a call makes of scales that it refuses: nothing, in any slice.
+void scales_refused() {
+    using filzeur::detail::place, filzeur::detail::with;
+    const filzeur::Matrix diagonal{{0, 1, 2}, {0, 1}, {2, 3}}, outside{{0, 1, 2}, {0, 2}, {2, 3}},
+        zero{{0, 1, 2}, {0, 1}, {2, 0}}, nothing;
+    struct {
+        const filzeur::Matrix &a;
+        Vector scales, b;
+        std::uint32_t p, refusal;
+        const char *what;
+    } cases[] = {
+        {diagonal, {1}, {1, 1}, 7, 5, "one scale"},
+        {diagonal, {0, 1, 1}, {1, 1}, 7, 5, "three scales, one of them 0 (7)"},
+        {outside, {1}, {1, 1}, 7, 5, "one scale, and a column out of range (6)"},
+        {outside, {0, 7}, {1, 1}, 7, 6, "scales 0 and 7 (7), and a column out of range"},
+        {diagonal, {0, 1}, {1}, 7, 7, "a scale 0, and b too short (8)"},
+        {diagonal, {1, 7}, {1, 7}, 7, 7, "a scale 7, and an element 7 (9)"},
+        {diagonal, {4294967295, 1}, {1, 1}, 7, 7, "the largest scale"},
+        {zero, {1, 1}, {1, 1}, 7, 7, "good scales, and a value 0"},
+        {diagonal, {1, 6}, {1}, 7, 8, "good scales, and b too short"},
+        {diagonal, {1}, {1, 1}, 6, 3, "one scale, and a composite modulus"},
+        {nothing, {1}, {}, 7, 4, "one scale, and no starts"},
+    };
+    for (const auto &[a, scales, b, p, refusal, what] : cases) {
+        tests::Slice<std::uint32_t> vector(2), f(3), bill(6), work(48);
+        tests::Slice<std::uint8_t> text(100);
+        auto run = with(filzeur_solve, filzeur::Field{p}, a, place(scales), scales.size(), place(b), b.size(), place(b),
+                        std::size_t{0}, 0u, vector.data(), vector.size(), f.data(), f.size(), bill.data(), bill.size(),
+                        work.data(), work.size());
+        auto written = with(filzeur_write, filzeur::Field{p}, a, place(scales), scales.size(), place(b), b.size(),
+                            text.data(), text.size());
+        check(run.refusal == refusal && run.kind == 0 && run.applications == 0 && vector.untouched() && f.untouched() &&
+                  bill.untouched() && work.untouched(),
+              std::string(what) + ", solved");
+        check(written.refusal == refusal && written.length == 0 && text.untouched(), std::string(what) + ", written");
+        check(filzeur::solve({{p}, a, b, scales}).refusal().number == refusal &&
+                  filzeur::solve_with({{p}, a, b}, {{}, 0, scales}).refusal().number == refusal &&
+                  filzeur::write_system({{p}, a, b, scales}).refusal().number == refusal,
+              std::string(what) + ", C++");
+    }
+    check(filzeur::solve_with({{7}, diagonal, {1, 1}, {1}}, {{}, 0, {2, 6}}).ok() &&
+              filzeur::solve_with({{7}, diagonal, {1, 1}, {2, 6}}, {{}, 0, {1}}).refusal().number == 5,
+          "only the scales of the run are looked at");
+}
+
+// Texts with `s` lines that are refused, and slices of scales that are too short or too long.
+void scale_lines() {
+    struct {
+        const char *text;
+        std::size_t places; // for scales
+        std::uint32_t refusal;
+    } cases[] = {
+        {"system\t7\t2\t0\nb\t1\t1\ns\t1\t2\ns\t2\t1\nend\n", 2, 2},    // after a b line
+        {"system\t7\t2\t1\ns\t1\t2\ns\t2\t1\na\t1\t1\t1\nend\n", 2, 2}, // before an a line
+        {"s\t1\t2\nsystem\t7\t1\t0\nend\n", 2, 2},                      // before the header
+        {"system\t7\t1\t0\ns\t1\nend\n", 2, 2},                         // one number
+        {"system\t7\t1\t0\ns\t1\t2\t3\nend\n", 2, 2},                   // three
+        {"system\t7\t1\t0\ns\t1\t02\nend\n", 2, 2},                     // a leading zero
+        {"system\t6\t2\t0\ns\t1\t2\nend\n", 2, 3},                      // one of two, and a composite modulus
+        {"system\t7\t2\t0\ns\t1\t2\nend\n", 2, 5},                      // one of two
+        {"system\t7\t1\t0\ns\t1\t2\ns\t2\t2\nend\n", 2, 5},             // two of one, the second out of range
+        {"system\t7\t0\t0\ns\t1\t2\nend\n", 2, 5},                      // one of none
+        {"system\t7\t2\t0\ns\t2\t2\ns\t1\t1\nend\n", 2, 6},             // out of order
+        {"system\t7\t2\t0\ns\t1\t2\ns\t1\t1\nend\n", 2, 6},             // twice the same
+        {"system\t7\t2\t0\ns\t0\t2\ns\t1\t7\nend\n", 2, 6},             // place 0, and value 7
+        {"system\t7\t2\t0\ns\t1\t2\ns\t3\t1\nend\n", 2, 6},             // place 3
+        {"system\t7\t2\t0\ns\t1\t1\ns\t2\t1\nend\n", 2, 6},             // ones
+        {"system\t2\t1\t0\ns\t1\t1\nend\n", 2, 6},                      // ones, since p is 2
+        {"system\t7\t2\t0\ns\t1\t1\ns\t2\t1\nb\t1\t7\nend\n", 2, 6},    // ones, and a b line's value 7
+        {"system\t7\t2\t0\ns\t1\t0\ns\t2\t1\nend\n", 1, 7},             // value 0, and a slice too short
+        {"system\t7\t2\t0\ns\t1\t1\ns\t2\t7\nend\n", 2, 7},             // value 7
+        {"system\t2\t1\t0\ns\t1\t2\nend\n", 2, 7},                      // value 2 of p = 2
+        {"system\t7\t2\t0\ns\t1\t2\ns\t2\t1\nend\n", 1, 11},
+        {"system\t7\t2\t0\nend\n", 1, 11},
+    };
+    for (const auto &[text, places, refusal] : cases) {
+        tests::Slice<std::uint32_t> starts(3), columns(1), values(1), scales(places), right(2);
+        const std::string bytes(text);
+        auto read = filzeur_read(filzeur::detail::bytes(bytes), bytes.size(), starts.data(), starts.size(),
+                                 columns.data(), columns.size(), values.data(), values.size(), scales.data(),
+                                 scales.size(), right.data(), right.size());
+        check(read.refusal == refusal && read.size == 0 && starts.untouched() && columns.untouched() &&
+                  values.untouched() && scales.untouched() && right.untouched(),
+              bytes + "refused with " + std::to_string(read.refusal));
+        if (refusal == 11)
+            continue;
+        check(filzeur::read_system(bytes).refusal().number == refusal &&
+                  filzeur::answer_text(bytes).refusal().number == refusal,
+              bytes + "refused, C++");
+    }
+    for (bool lines : {false, true}) {
+        tests::Slice<std::uint32_t> starts(3), columns(1), values(1), scales(4), right(2);
+        const std::string text = std::string("system\t7\t2\t0\n") + (lines ? "s\t1\t1\ns\t2\t3\n" : "") + "end\n";
+        auto read = filzeur_read(filzeur::detail::bytes(text), text.size(), starts.data(), starts.size(),
+                                 columns.data(), columns.size(), values.data(), values.size(), scales.data(),
+                                 scales.size(), right.data(), right.size());
+        check(read.refusal == 0 && scales.ends_as(Vector{1, lines ? 3u : 1u}), "scales in a longer slice");
+    }
+    auto length = std::size_t{FILZEUR_CALL_TEXT};
+    check(filzeur::answer_text(std::string(length, 'x')).refusal().number == 2 &&
+              filzeur::answer_text(std::string(length + 1, 'x')).refusal().number == 1 && length == 26624,
+          "26,624 bytes, and one more");
 }
 
 // The number beside each refusal, of calls that make no product, of a matrix without entries and of the empty sum.
@@ -542,6 +770,8 @@ void nothing_left() {
     check(filzeur::solve({{7}, {{1}, {}, {}}, {}}).refusal().number == 5, "size 0, and its start is 1");
     check(filzeur::solve({{7}, {{0}, {0}, {1}}, {}}).refusal().number == 5, "size 0, and an entry");
     check(filzeur::solve({{7}, a, {0}}, {1}).refusal().number == 8, "size 0, and b has an element");
+    check(filzeur::solve({{7}, a, {}, {1}}, {1}).refusal().number == 5, "size 0, and a scale and a word");
+    check(filzeur::write_system({{7}, a, {}, {1}}).refusal().number == 5, "size 0, and a scale, written");
     check(filzeur::solve(system, {1}).refusal().number == 10, "size 0, and a word");
     check(filzeur::solve(system, Vector(64)).refusal().number == 10, "size 0, and 64 words");
     check(filzeur::product({7}, a, {0}).refusal().number == 8, "size 0, and v has an element");
@@ -572,8 +802,12 @@ int main(int argc, char **argv) {
         recurrences();
     }
     earlier_code();
+    earlier_systems();
     words_and_options();
     refusals();
+    scales();
+    scales_refused();
+    scale_lines();
     nothing_multiplied();
     nothing_left();
     largest();
