@@ -1,5 +1,5 @@
 -- The solver's run in its work slice, which is laid out as a pass has it (wiedemann's Pass).
---     CheckedSystem, system-of  what the checks leave known of a system
+--     CheckedSystem, system-of  what the checks leave known of a system with its scales; the run is one on AX
 --     none, counted      the counts before the first pass, and after one more
 --     Fits               what bounds the counts and the numbers of a pass that is added to them
 --     begun              r = b, F = 1, D = 0 in the slice
@@ -23,17 +23,16 @@ use native.Mathlib.Omega.{arith}
 use lib.ListN.{length, take, drop, getD, set, length-set, length-append, take-append-drop}
 use lib.Seq.{take-suc, take-all, getD-set-same, getD-set-other}
 use Rattle.meaning.specs.List.{at, isZero, padded}
-use Rattle.meaning.specs.Matrix.{Matrix, size, multiplied}
-use Rattle.meaning.specs.Refusal.{check, first, elements, matrixChecks, wordsTaken, windowTaken}
+use Rattle.meaning.specs.Matrix.{Matrix, size, multiplied, scaled}
+use Rattle.meaning.specs.Refusal.{check, first, elements, scaledChecks, wordsTaken, windowTaken}
 use Rattle.meaning.specs.Calls.{systemChecks, runChecks}
 use Rattle.meaning.specs.Recurrence.{degree}
 use Rattle.meaning.specs.Solver.{Pass, Run, projections, begin, spent, billed, pass, run}
-use Rattle.laws.specs.Accepted.{run-accepted}
 use Rattle.laws.specs.Bool.{and-both, test-cases, never}
 use Rattle.laws.specs.List.{length-table, table-of}
 use Rattle.laws.specs.Products.{multiplied-none, multiplied-add, multiplied-most}
 use Rattle.laws.specs.Recurrence.{monic-leading}
-use Rattle.laws.specs.Refusal.{first-append-zero, numbered-matrix, numbered-system}
+use Rattle.laws.specs.Refusal.{first-append-zero, numbered-scaled, numbered-system}
 use Rattle.laws.specs.Solver.{spent-nil, spent-snoc, made-within}
 use Rattle.algebra.specs.Ring.{Field}
 use Rattle.residue.specs.Prime.{Prime}
@@ -43,8 +42,8 @@ use Rattle.krylov.specs.Run.{kept, kept-full}
 use Rattle.bridge.specs.Operator.{operator, operator-linear, null-isZero}
 use Rattle.bridge.specs.Run.{Stands, run-begun, run-nil, run-stop, run-pass, run-rest, run-found}
 use Rattle.bridge.specs.ThirdCondition.{Accepted, accepted, projections-zero, end-monic}
-use Rattle.checks.specs.Valid.{Valid, Vector, valid-of, vector-elements}
-use Rattle.checks.specs.Matrix.{vectorChecks}
+use Rattle.checks.specs.Valid.{ValidScaled, Vector, valid-scaled, vector-elements}
+use Rattle.checks.specs.Matrix.{vectorChecks, scaled-valid}
 use Rattle.checks.specs.Products.{per-product-low}
 use Rattle.wiedemann.specs.declared.pass.Pass.{Pass as CodePass}
 use Rattle.wiedemann.specs.declared.pass.Passed.{Passed}
@@ -56,21 +55,20 @@ use Rattle.wiedemann.specs.Pass.{held, passOf, Passes}
 use Rattle.solver.specs.declared.Counts.{Counts}
 use Rattle.solver.specs.Bill.{entered, billed-nil, billed-next}
 
-pub record CheckedSystem (p : ℕ) (A : Matrix) (b : List ℕ) : Type 0 where
-  pub checked : first (matrixChecks p A) ≡ 0
-  pub valid : Valid p A
+pub record CheckedSystem (p : ℕ) (A : Matrix) (X b : List ℕ) : Type 0 where
+  pub checked : first (scaledChecks p A X) ≡ 0
+  pub valid : ValidScaled p A X
   pub accepted : Accepted p A b
 
-pub system-of : (p : ℕ) (A : Matrix) (b words : List ℕ) (w : ℕ) → first (runChecks p A b words w) ≡ 0 → CheckedSystem p A b
+pub system-of : (p : ℕ) (A : Matrix) (X b words : List ℕ) (w : ℕ) → first (runChecks p A X b words w) ≡ 0 → CheckedSystem p A X b
 unfolding runChecks systemChecks
-system-of p A b words w e =
-    record { checked = matrix; valid = valid-of (run-accepted p A b words w e .system); accepted = accepted p A b words w e }
+system-of p A X b words w e = record { checked = matrix; valid = scaled-valid p A X matrix; accepted = accepted p A X b words w e }
   where
-    system : first (systemChecks p A b) ≡ 0
-    system = first-append-zero (systemChecks p A b) (check 10 (not (wordsTaken (size A) words)) ∷ check 13 (not (windowTaken w)) ∷ []) (numbered-system p A b) e .0
+    system : first (systemChecks p A X b) ≡ 0
+    system = first-append-zero (systemChecks p A X b) (check 10 (not (wordsTaken (size A) words)) ∷ check 13 (not (windowTaken w)) ∷ []) (numbered-system p A X b) e .0
 
-    matrix : first (matrixChecks p A) ≡ 0
-    matrix = first-append-zero (matrixChecks p A) (vectorChecks p A b) (numbered-matrix p A) system .0
+    matrix : first (scaledChecks p A X) ≡ 0
+    matrix = first-append-zero (scaledChecks p A X) (vectorChecks p A b) (numbered-scaled p A X) system .0
 
 abbrev pub none : Counts
 none = record { degree = 0; passes = 0; applications = 0; multiplied = 0 }
@@ -178,20 +176,20 @@ pub record Midway (p : ℕ) (A : Matrix) (b words : List ℕ) (w : ℕ) (B B′ 
   pub within : j ≤ length (projections p (size A) words)
   pub state : held (size A) W (c .degree) made ≡ run p A w (take j (projections p (size A) words)) (begin b)
 
-pub midway-begin : {p : ℕ} {A : Matrix} {b words : List ℕ} {w : ℕ} {B W : List ℕ} → CheckedSystem p A b → 16 * size A + 16 ≤ length W → held (size A) W 0 [] ≡ begin b
-    → Midway p A b words w B B W 0 none
-midway-begin {p} {A} {b} {words} {w} {B} {W} s room e =
+pub midway-begin : {p : ℕ} {A : Matrix} {X b words : List ℕ} {w : ℕ} {B W : List ℕ} → CheckedSystem p A X b → 16 * size A + 16 ≤ length W → held (size A) W 0 [] ≡ begin b
+    → Midway p (scaled p A X) b words w B B W 0 none
+midway-begin {p} {A} {X} {b} {words} {w} {B} {W} s room e =
     record {
       made = [];
       bill = sym (billed-nil B);
       passes = refl;
       used = refl;
       applications = sym spent-nil;
-      by-entry = sym (multiplied-none A);
+      by-entry = sym (multiplied-none (scaled p A X));
       few = omega arith;
       room = room;
       within = omega arith;
-      state = e ∙ sym (run-nil p (s .accepted .prime) A b w (begin b));
+      state = e ∙ sym (run-nil p (s .accepted .prime) (scaled p A X) b w (begin b));
     }
 
 pub record Finished (p : ℕ) (A : Matrix) (b words : List ℕ) (w : ℕ) (B B′ W : List ℕ) (c : Counts) : Type 0 where
@@ -204,15 +202,19 @@ pub record Finished (p : ℕ) (A : Matrix) (b words : List ℕ) (w : ℕ) (B B�
   pub room : 16 * size A + 16 ≤ length W
   pub state : held (size A) W (c .degree) made ≡ run p A w (projections p (size A) words) (begin b)
 
-module _ {p : ℕ} {A : Matrix} {b words : List ℕ} {w : ℕ} {B B′ W : List ℕ} {j : ℕ} {c : Counts} (s : CheckedSystem p A b) (most : length (projections p (size A) words) ≤ 8192)
-    (m : Midway p A b words w B B′ W j c) where
+module _ {p : ℕ} {A : Matrix} {X b words : List ℕ} {w : ℕ} {B B′ W : List ℕ} {j : ℕ} {c : Counts} (s : CheckedSystem p A X b) (most : length (projections p (size A) words) ≤ 8192)
+    (m : Midway p (scaled p A X) b words w B B′ W j c) where
+  -- the run is on AX
+  abbrev M : Matrix
+  M = scaled p A X
+
   h : Prime p
   h = s .accepted .prime
 
   us : List (List ℕ)
   us = projections p (size A) words
 
-  zeroed : isZero (run p A w (take j (projections p (size A) words)) (begin b) .residual) ≡ isZero (part (residualAt (size A)) (size A) W)
+  zeroed : isZero (run p M w (take j (projections p (size A) words)) (begin b) .residual) ≡ isZero (part (residualAt (size A)) (size A) W)
   zeroed = ap (λ (q : Run). isZero (q .residual)) (sym (m .state))
 
   pub midway-less : isZero (part (residualAt (size A)) (size A) W) ≡ false → j < length (projections p (size A) words)
@@ -222,22 +224,22 @@ module _ {p : ℕ} {A : Matrix} {b words : List ℕ} {w : ℕ} {B B′ W : List 
       go : (j ≡ length us) ⊎ (j < length us) → j < length us
       go (inl e) =
           never (isZero (part (residualAt (size A)) (size A) W))
-          (sym zeroed ∙ ap (λ vs. isZero (run p A w vs (begin b) .residual)) (take-all j us (omega (arith, e)))
-          ∙ projections-zero p h A b (s .accepted .size-b) (s .accepted .reduced-b) w words)
+          (sym zeroed ∙ ap (λ vs. isZero (run p M w vs (begin b) .residual)) (take-all j us (omega (arith, e)))
+          ∙ projections-zero p h M b (s .accepted .size-b) (s .accepted .reduced-b) w words)
           z
       go (inr l) = l
 
   next : isZero (part (residualAt (size A)) (size A) W) ≡ false
-      → run p A w (take (j + 1) (projections p (size A) words)) (begin b)
-      ≡ pass p A w (getD (projections p (size A) words) j []) (held (size A) W (c .degree) (m .made))
+      → run p M w (take (j + 1) (projections p (size A) words)) (begin b)
+      ≡ pass p M w (getD (projections p (size A) words) j []) (held (size A) W (c .degree) (m .made))
   unfolding h us
   next z =
-      run-more p h A b w us j (begin b) (midway-less z) (zeroed ∙ z) ∙ ap (pass p A w (getD us j [])) (sym (m .state))
+      run-more p h M b w us j (begin b) (midway-less z) (zeroed ∙ z) ∙ ap (pass p M w (getD us j [])) (sym (m .state))
 
-  stands : Stands p (s .accepted .prime) A b
-      (run-begun p (s .accepted .prime) A b (s .accepted .size-b) (s .accepted .reduced-b) w (take j (projections p (size A) words)) .used)
-      (run p A w (take j (projections p (size A) words)) (begin b))
-  stands = run-begun p (s .accepted .prime) A b (s .accepted .size-b) (s .accepted .reduced-b) w (take j (projections p (size A) words)) .stands
+  stands : Stands p (s .accepted .prime) M b
+      (run-begun p (s .accepted .prime) M b (s .accepted .size-b) (s .accepted .reduced-b) w (take j (projections p (size A) words)) .used)
+      (run p M w (take j (projections p (size A) words)) (begin b))
+  stands = run-begun p (s .accepted .prime) M b (s .accepted .size-b) (s .accepted .reduced-b) w (take j (projections p (size A) words)) .stands
 
   residual : Vector p (size A) (part (residualAt (size A)) (size A) W)
   residual =
@@ -260,31 +262,31 @@ module _ {p : ℕ} {A : Matrix} {b words : List ℕ} {w : ℕ} {B B′ W : List 
   unfolding h us
   below z =
       subst (λ (q : Run). q .found < size A) (sym (m .state))
-      (run-left p h A b w (s .accepted .size-b) (s .accepted .reduced-b) (take j us) (zeroed ∙ z))
+      (run-left p h M b w (s .accepted .size-b) (s .accepted .reduced-b) (take j us) (zeroed ∙ z))
 
   -- what is held is a state that a pass takes
-  pub midway-state : isZero (part (residualAt (size A)) (size A) W) ≡ false → wordsTaken (size A) words ≡ true → passRefusal p A words (c .degree) W ≡ 0
+  pub midway-state : isZero (part (residualAt (size A)) (size A) W) ≡ false → wordsTaken (size A) words ≡ true → passRefusal p A X words (c .degree) W ≡ 0
   midway-state z t =
-      refused-state p A words (c .degree) W (s .checked)
+      refused-state p A X words (c .degree) W (s .checked)
       ∙ state-0 p (size A) (c .degree) words W (below z) t (m .room)
       (and-both (vector-elements factor) (vector-elements residual))
 
   -- whatever its projection
   pub midway-made : isZero (part (residualAt (size A)) (size A) W) ≡ false → wordsTaken (size A) words ≡ true → (i : ℕ) (W′ : List ℕ) (r : Passed) (k : ℕ)
-      → r ≡ Refused k → Passes p A words w i (c .degree) W r W′ → ⊥
+      → r ≡ Refused k → Passes p A X words w i (c .degree) W r W′ → ⊥
   midway-made z t i W′ r k e said =
-      let q = subst (λ x. Passes p A words w i (c .degree) W x W′) e said in q .1 (sym (q .0) ∙ midway-state z t)
+      let q = subst (λ x. Passes p A X words w i (c .degree) W x W′) e said in q .1 (sym (q .0) ∙ midway-state z t)
 
   -- the numbers that a pass adds, whatever its projection
   pub midway-fits : isZero (part (residualAt (size A)) (size A) W) ≡ false → (i : ℕ) (W′ : List ℕ) (r : Passed) (q : CodePass) → r ≡ Made q
-      → Passes p A words w i (c .degree) W r W′ → Fits c q
+      → Passes p A X words w i (c .degree) W r W′ → Fits c q
   midway-fits z i W′ r q e said =
-      let made = subst (λ x. Passes p A words w i (c .degree) W x W′) e said in
-      let sized = s .valid .sized in
+      let made = subst (λ x. Passes p A X words w i (c .degree) W x W′) e said in
+      let sized = s .valid .valid .sized in
       let u = getD (projections p (size A) words) i [] in
       let here = held (size A) W (c .degree) (m .made) in
       let there = held (size A) W′ (c .degree + q .degree) (m .made ++ (passOf q ∷ [])) in
-      let within = made-within p A (s .accepted .prime .two-le) w u here there (passOf q) refl (made .1 .run (m .made)) in
+      let within = made-within p M (s .accepted .prime .two-le) w u here there (passOf q) refl (made .1 .run (m .made)) in
       let low : q .left ≤ 4096 = omega (arith, within .left-low, sized) in
       let short : q .degree ≤ 8192 = omega (arith, within .degree-low, low) in
       let cost : q .applications ≤ 24576 = omega (arith, within .cost-low, within .degree-low, low) in
@@ -293,17 +295,17 @@ module _ {p : ℕ} {A : Matrix} {b words : List ℕ} {w : ℕ} {B B′ W : List 
         passes-low = omega (arith, m .passes, m .used, m .within, most);
         applications-low = omega (arith, m .few, m .within, most);
         multiplied-low =
-            omega (arith, m .by-entry, multiplied-most A 65536 (c .applications) (per-product-low (s .valid)), m .few, m .within, most);
+            omega (arith, m .by-entry, multiplied-most M 65536 (c .applications) (per-product-low (valid-scaled X (s .valid .valid))), m .few, m .within, most);
         left-low = low;
         found-low = short;
         cost-low = cost;
-        entries-low = omega (arith, made .1 .by-entry, multiplied-most A 65536 (q .applications) (per-product-low (s .valid)), cost);
+        entries-low = omega (arith, made .1 .by-entry, multiplied-most M 65536 (q .applications) (per-product-low (valid-scaled X (s .valid .valid))), cost);
       }
 
   pub midway-next : isZero (part (residualAt (size A)) (size A) W) ≡ false → (W′ : List ℕ) (r : Passed) (q : CodePass) → r ≡ Made q
-      → Passes p A words w j (c .degree) W r W′ → (length W′ ≡ length W) × Midway p A b words w B (entered B′ j (passOf q)) W′ (j + 1) (counted c q)
+      → Passes p A X words w j (c .degree) W r W′ → (length W′ ≡ length W) × Midway p M b words w B (entered B′ j (passOf q)) W′ (j + 1) (counted c q)
   midway-next z W′ r q e said =
-      let made = subst (λ x. Passes p A words w j (c .degree) W x W′) e said in
+      let made = subst (λ x. Passes p A X words w j (c .degree) W x W′) e said in
       let fits = midway-fits z j W′ r q e said in (
         made .1 .same-length,
         record {
@@ -312,7 +314,7 @@ module _ {p : ℕ} {A : Matrix} {b words : List ℕ} {w : ℕ} {B B′ W : List 
           passes = ap (λ k. k + 1) (m .passes) ∙ sym (length-append (m .made) (passOf q ∷ []));
           used = length-append (m .made) (passOf q ∷ []) ∙ ap (λ k. k + 1) (m .used);
           applications = ap (λ k. k + q .applications) (m .applications) ∙ sym (spent-snoc (m .made) (passOf q));
-          by-entry = ap₂ _+_ (m .by-entry) (made .1 .by-entry) ∙ sym (multiplied-add A (c .applications) (q .applications));
+          by-entry = ap₂ _+_ (m .by-entry) (made .1 .by-entry) ∙ sym (multiplied-add M (c .applications) (q .applications));
           few = omega (arith, m .few, fits .cost-low);
           room = omega (arith, made .1 .same-length, m .room);
           within = omega (arith, midway-less z);
@@ -320,7 +322,7 @@ module _ {p : ℕ} {A : Matrix} {b words : List ℕ} {w : ℕ} {B B′ W : List 
         },
       )
 
-  pub midway-end : isZero (part (residualAt (size A)) (size A) W) ≡ true → Finished p A b words w B B′ W c
+  pub midway-end : isZero (part (residualAt (size A)) (size A) W) ≡ true → Finished p M b words w B B′ W c
   unfolding h us
   midway-end z =
       record {
@@ -334,8 +336,8 @@ module _ {p : ℕ} {A : Matrix} {b words : List ℕ} {w : ℕ} {B B′ W : List 
         state =
             m .state
             ∙ sym
-            (ap (λ vs. run p A w vs (begin b)) (sym (take-append-drop j us)) ∙ run-append p h A b w (take j us) (drop j us) (begin b)
-            ∙ run-rest p h A b w (drop j us) (run p A w (take j us) (begin b)) (zeroed ∙ z));
+            (ap (λ vs. run p M w vs (begin b)) (sym (take-append-drop j us)) ∙ run-append p h M b w (take j us) (drop j us) (begin b)
+            ∙ run-rest p h M b w (drop j us) (run p M w (take j us) (begin b)) (zeroed ∙ z));
       }
 
 -- ---- the end
@@ -352,20 +354,23 @@ pub record Closable (p : ℕ) (A : Matrix) (W : List ℕ) (c : Counts) : Type 0 
   pub few : Bounded c
   pub elements : (i : ℕ) → i ≤ c .degree → at W i < p
 
-pub closable : {p : ℕ} {A : Matrix} {b words : List ℕ} {w : ℕ} {B B′ W : List ℕ} {c : Counts} → CheckedSystem p A b → Finished p A b words w B B′ W c → Closable p A W c
-closable {p} {A} {b} {words} {w} {B} {B′} {W} {c} s f =
+pub closable : {p : ℕ} {A : Matrix} {X b words : List ℕ} {w : ℕ} {B B′ W : List ℕ} {c : Counts} → CheckedSystem p A X b → Finished p (scaled p A X) b words w B B′ W c → Closable p (scaled p A X) W c
+closable {p} {A} {X} {b} {words} {w} {B} {B′} {W} {c} s f =
     record {
       found = found;
-      one = sym (place (c .degree) (omega arith)) ∙ ap (λ (q : Run). at (q .factor) (c .degree)) (f .state) ∙ ap (at (end .factor)) (ap (λ (q : Run). q .found) (f .state)) ∙ monic-leading p (end .found) (end .factor) (end-monic p h A b size-b reduced-b end stands zero-end);
+      one = sym (place (c .degree) (omega arith)) ∙ ap (λ (q : Run). at (q .factor) (c .degree)) (f .state) ∙ ap (at (end .factor)) (ap (λ (q : Run). q .found) (f .state)) ∙ monic-leading p (end .found) (end .factor) (end-monic p h M b size-b reduced-b end stands zero-end);
       room = f .room;
       few =
           record {
             applications-low = f .few;
-            multiplied-low = omega (arith, f .by-entry, multiplied-most A 65536 (c .applications) (per-product-low (s .valid)), f .few);
+            multiplied-low = omega (arith, f .by-entry, multiplied-most M 65536 (c .applications) (per-product-low (valid-scaled X (s .valid .valid))), f .few);
           };
       elements = λ i l. rw (← place i l, ap (λ (q : Run). at (q .factor) i) (f .state)) (stands .reduced-factor i (omega (arith, l, stands .size-factor, ap (λ (q : Run). q .found) (f .state))));
     }
   where
+    M : Matrix
+    M = scaled p A X
+
     h : Prime p
     h = s .accepted .prime
 
@@ -379,16 +384,16 @@ closable {p} {A} {b} {words} {w} {B} {B′} {W} {c} s f =
     us = projections p (size A) words
 
     end : Run
-    end = run p A w us (begin b)
+    end = run p M w us (begin b)
 
-    stands : Stands p h A b (run-begun p h A b size-b reduced-b w us .used) end
-    stands = run-begun p h A b size-b reduced-b w us .stands
+    stands : Stands p h M b (run-begun p h M b size-b reduced-b w us .used) end
+    stands = run-begun p h M b size-b reduced-b w us .stands
 
     zero-end : isZero (end .residual) ≡ true
-    zero-end = projections-zero p h A b size-b reduced-b w words
+    zero-end = projections-zero p h M b size-b reduced-b w words
 
     found : c .degree ≤ size A
-    found = subst (λ (q : Run). q .found ≤ size A) (sym (f .state)) (run-found p h A b size-b reduced-b w us)
+    found = subst (λ (q : Run). q .found ≤ size A) (sym (f .state)) (run-found p h M b size-b reduced-b w us)
 
     place : (i : ℕ) → i ≤ c .degree → at (part 0 (c .degree + 1) W) i ≡ at W i
     place i l = at-part 0 (c .degree + 1) W i (omega (arith, l)) ∙ ap (at W) (zero-add i)

@@ -10,9 +10,9 @@ ghost use Prim.Native.Nat.{_+_, _-_, _*_, _≤_, _<_};
 ghost use lib.ListN.{length};
 ghost use Rattle.meaning.specs.List.{at, table, isZero};
 ghost use Rattle.meaning.specs.Field.{minus, times};
-ghost use Rattle.meaning.specs.Matrix.{matrix, apply};
+ghost use Rattle.meaning.specs.Matrix.{matrix, apply, scaled};
 ghost use Rattle.meaning.specs.Refusal.{wordsTaken};
-ghost use Rattle.meaning.specs.Calls.{applyRefusal};
+ghost use Rattle.checks.specs.Matrix.{scaledApplyRefusal};
 ghost use Rattle.meaning.specs.Solver.{begin};
 ghost use Rattle.checks.specs.Products.{productsWith, Few};
 ghost use Rattle.checks.specs.Valid.{Vector};
@@ -22,18 +22,19 @@ ghost use Rattle.checks.specs.Pass.{residualAt};
 ghost use Rattle.wiedemann.specs.Pass.{held, passOf};
 ghost use Rattle.solver.specs.Bill.{entered};
 ghost use Rattle.solver.specs.Run.{CheckedSystem, none, counted, Fits, Finished, Bounded, Closable};
-ghost use Rattle.solver.specs.Verdict.{closing, Closed, Solves};
+ghost use Rattle.solver.specs.Verdict.{closing, Closed, Answered, Solves};
 use checks::Products;
 use checks::Writing;
 use checks::residual_at;
 use checks::solver_refusal;
 use field::Field;
 use field::inverse_modulo;
+use modular::diagonal::scale;
 use modular::modulus::Modulus;
 use modular::multiplier::Multiplier;
 use slices::is_zero;
 use slices::write_padded;
-use wiedemann::matrix::apply;
+use wiedemann::matrix::apply_scaled;
 use wiedemann::pass::Pass;
 use wiedemann::pass::Passed;
 use wiedemann::pass::make_pass;
@@ -142,15 +143,16 @@ fn run(
     starts: &[u32],
     columns: &[u32],
     values: &[u32],
+    scales: &[u32],
     b: &[u32],
     words: &[u32],
     window: u32,
     bill: &mut [u32],
     work: &mut [u32],
 ) -> Counts
-    requires { ⌜ CheckedSystem (field .p) (matrix (now starts) (now columns) (now values)) (now b) ⌝ }
+    requires { ⌜ CheckedSystem (field .p) (matrix (now starts) (now columns) (now values)) (now scales) (now b) ⌝ }
     requires { ⌜ (wordsTaken (length (now starts) - 1) (now words) ≡ true) × (16 * (length (now starts) - 1) + 16 ≤ length (now work)) ⌝ }
-    ensures { λ c. ⌜ Finished (field .p) (matrix (now (starts .entry)) (now (columns .entry)) (now (values .entry)))
+    ensures { λ c. ⌜ Finished (field .p) (scaled (field .p) (matrix (now (starts .entry)) (now (columns .entry)) (now (values .entry))) (now (scales .entry)))
         (now (b .entry)) (now (words .entry)) window (now (bill .entry)) (now (bill .exit)) (now (work .exit)) c ⌝ }
 {
     let n = starts.len() - 1;
@@ -162,6 +164,7 @@ fn run(
             starts,
             columns,
             values,
+            scales,
             words,
             window,
             j,
@@ -193,22 +196,23 @@ fn closed(c: Counts, done: Products) -> Counts
     }
 }
 
-// G(A)b into the vector slice; the answer is the products that it took. A run's own G is never refused.
+// G(AX)b into the vector slice; the answer is the products that it took. A run's own G is never refused.
 fn apply_to_b(
     field: Field,
     starts: &[u32],
     columns: &[u32],
     values: &[u32],
+    scales: &[u32],
     g: &[u32],
     b: &[u32],
     vector: &mut [u32],
     work: &mut [u32],
 ) -> Products
-    requires { ⌜ applyRefusal (field .p) (matrix (now starts) (now columns) (now values)) (now g) (now b) (now vector) (now work) ≡ 0 ⌝ }
-    ensures { λ done. ⌜ (done ≡ productsWith (length (now (g .entry)) - 1) (matrix (now (starts .entry)) (now (columns .entry)) (now (values .entry))))
-        × (now (vector .exit) ≡ apply (field .p) (matrix (now (starts .entry)) (now (columns .entry)) (now (values .entry))) (now (g .entry)) (now (b .entry))) ⌝ }
+    requires { ⌜ scaledApplyRefusal (field .p) (matrix (now starts) (now columns) (now values)) (now scales) (now g) (now b) (now vector) (now work) ≡ 0 ⌝ }
+    ensures { λ done. ⌜ (done ≡ productsWith (length (now (g .entry)) - 1) (scaled (field .p) (matrix (now (starts .entry)) (now (columns .entry)) (now (values .entry))) (now (scales .entry))))
+        × (now (vector .exit) ≡ apply (field .p) (scaled (field .p) (matrix (now (starts .entry)) (now (columns .entry)) (now (values .entry))) (now (scales .entry))) (now (g .entry)) (now (b .entry))) ⌝ }
 {
-    match apply(field, starts, columns, values, g, b, vector, work) {
+    match apply_scaled(field, starts, columns, values, scales, g, b, vector, work) {
         Writing::Done(done) => done,
         Writing::Refused(_) => Products {
             made: 0,
@@ -223,16 +227,17 @@ fn finish(
     starts: &[u32],
     columns: &[u32],
     values: &[u32],
+    scales: &[u32],
     b: &[u32],
     work: &mut [u32],
     c: Counts,
     vector: &mut [u32],
     polynomial: &mut [u32],
 ) -> Verdict
-    requires { ⌜ CheckedSystem (field .p) (matrix (now starts) (now columns) (now values)) (now b) ⌝ }
-    requires { ⌜ Closable (field .p) (matrix (now starts) (now columns) (now values)) (now work) c ⌝ }
+    requires { ⌜ CheckedSystem (field .p) (matrix (now starts) (now columns) (now values)) (now scales) (now b) ⌝ }
+    requires { ⌜ Closable (field .p) (scaled (field .p) (matrix (now starts) (now columns) (now values)) (now scales)) (now work) c ⌝ }
     requires { ⌜ (length (now vector) ≡ length (now starts) - 1) × (length (now polynomial) ≡ length (now starts) - 1 + 1) ⌝ }
-    ensures { λ r. ⌜ Closed (field .p) (matrix (now (starts .entry)) (now (columns .entry)) (now (values .entry)))
+    ensures { λ r. ⌜ Closed (field .p) (scaled (field .p) (matrix (now (starts .entry)) (now (columns .entry)) (now (values .entry))) (now (scales .entry)))
         (now (b .entry)) (now (work .entry)) c r (now (vector .exit)) (now (polynomial .exit)) ⌝ }
 {
     let front: usize = 0;
@@ -250,6 +255,7 @@ fn finish(
         starts,
         columns,
         values,
+        scales,
         &polynomial[one..end],
         b,
         vector,
@@ -263,14 +269,50 @@ fn finish(
     Verdict::Solved(closed(c, done))
 }
 
-// Solves Ax = b, or finds a vector that is not zero and that A takes to zero, by passes with the random words and then the unit vectors. A pass may
-// end early after `window` discrepancies that were 0; 0 asks for none. Whatever words and window are, kind, vector and polynomial are those of A and
-// b. The bill gets three numbers for each pass, left, degree and applications, for as many passes as it has room for; it may be empty.
+// The end of a run: what F makes of b, and X times it.
+fn answer(
+    field: Field,
+    starts: &[u32],
+    columns: &[u32],
+    values: &[u32],
+    scales: &[u32],
+    b: &[u32],
+    work: &mut [u32],
+    c: Counts,
+    vector: &mut [u32],
+    polynomial: &mut [u32],
+) -> Verdict
+    requires { ⌜ CheckedSystem (field .p) (matrix (now starts) (now columns) (now values)) (now scales) (now b) ⌝ }
+    requires { ⌜ Closable (field .p) (scaled (field .p) (matrix (now starts) (now columns) (now values)) (now scales)) (now work) c ⌝ }
+    requires { ⌜ (length (now vector) ≡ length (now starts) - 1) × (length (now polynomial) ≡ length (now starts) - 1 + 1) ⌝ }
+    ensures { λ r. ⌜ Answered (field .p) (matrix (now (starts .entry)) (now (columns .entry)) (now (values .entry))) (now (scales .entry))
+        (now (b .entry)) (now (work .entry)) c r (now (vector .exit)) (now (polynomial .exit)) ⌝ }
+{
+    let verdict = finish(
+        field,
+        starts,
+        columns,
+        values,
+        scales,
+        b,
+        work,
+        c,
+        vector,
+        polynomial,
+    );
+    scale(Modulus::of(field.p), scales, vector);
+    verdict
+}
+
+// Solves Ax = b, or finds a vector that is not zero and that A takes to zero, by passes with the random words and then the unit vectors. The passes are on
+// AX, X being the diagonal of the scales; no scales stand for ones. A pass may end early after `window` discrepancies that were 0; 0 asks for none. Whatever
+// words and window are, kind, vector and polynomial are those of A, X and b. The bill gets three numbers for each pass, left, degree and applications, for as many passes as it has room for; it may be empty.
 pub fn solve(
     field: Field,
     starts: &[u32],
     columns: &[u32],
     values: &[u32],
+    scales: &[u32],
     b: &[u32],
     words: &[u32],
     window: u32,
@@ -279,7 +321,7 @@ pub fn solve(
     bill: &mut [u32],
     work: &mut [u32],
 ) -> Verdict
-    ensures { λ r. ⌜ Solves (field .p) (matrix (now (starts .entry)) (now (columns .entry)) (now (values .entry))) (now (b .entry))
+    ensures { λ r. ⌜ Solves (field .p) (matrix (now (starts .entry)) (now (columns .entry)) (now (values .entry))) (now (scales .entry)) (now (b .entry))
         (now (words .entry)) window (now (vector .entry)) (now (polynomial .entry)) (now (bill .entry)) (now (work .entry)) r
         (now (vector .exit)) (now (polynomial .exit)) (now (bill .exit)) (now (work .exit)) ⌝ }
 {
@@ -288,6 +330,7 @@ pub fn solve(
         starts,
         columns,
         values,
+        scales,
         b,
         words,
         window,
@@ -298,12 +341,24 @@ pub fn solve(
     if number != 0 {
         return Verdict::Refused(number);
     }
-    let c = run(field, starts, columns, values, b, words, window, bill, work);
-    finish(
+    let c = run(
         field,
         starts,
         columns,
         values,
+        scales,
+        b,
+        words,
+        window,
+        bill,
+        work,
+    );
+    answer(
+        field,
+        starts,
+        columns,
+        values,
+        scales,
         b,
         work,
         c,

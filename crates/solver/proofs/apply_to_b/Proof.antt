@@ -27,12 +27,12 @@ same-length-2 c = search needs
 
 returns : tie.Need-returns
 returns c =
-    let a = c .before .before .before .before .before .before .before .before .before .before .before .before .before .before .before .before .before .args in
+    let a = c .before .before .before .before .before .before .before .before .before .before .before .before .before .before .before .before .before .before .args in
     let A = matrix (now (a .starts)) (now (a .columns)) (now (a .values)) in
     let number = applyRefusal (a .field .p) A (now (a .g)) (now (a .b)) (now (a .vector)) (now (a .work)) in
     let said = c .before .before .before .before .before .before .before .apply .ensures in (
       subst (λ x. Writes x number (length (now (a .g)) - 1) A) (c .before .done .given .1) (said .0) .1,
-      said .1 .0 ∙ unlessRefused-none number (apply (a .field .p) A (now (a .g)) (now (a .b))) (now (a .vector)) (c .before .before .before .before .before .before .before .before .before .before .before .before .before .before .before .before .before .pre),
+      said .1 .0 ∙ unlessRefused-none number (apply (a .field .p) A (now (a .g)) (now (a .b))) (now (a .vector)) (c .before .before .before .before .before .before .before .before .before .before .before .before .before .before .before .before .before .before .pre),
     )
 
 same-length-3 : tie.Need-same-length-3
@@ -43,11 +43,11 @@ same-length-4 c = search needs
 
 returns-2 : tie.Need-returns-2
 returns-2 c =
-    let a = c .before .before .before .before .before .before .before .before .before .before .before .before .before .before .before .before .args in
+    let a = c .before .before .before .before .before .before .before .before .before .before .before .before .before .before .before .before .before .args in
     let A = matrix (now (a .starts)) (now (a .columns)) (now (a .values)) in
     let number = applyRefusal (a .field .p) A (now (a .g)) (now (a .b)) (now (a .vector)) (now (a .work)) in
     let refused = subst (λ x. Writes x number (length (now (a .g)) - 1) A) (c .enum-told .given .1) (c .before .before .before .before .before .before .apply .ensures .0) in
-    absurd (refused .1 (sym (refused .0) ∙ c .before .before .before .before .before .before .before .before .before .before .before .before .before .before .before .before .pre))
+    absurd (refused .1 (sym (refused .0) ∙ c .before .before .before .before .before .before .before .before .before .before .before .before .before .before .before .before .before .pre))
 
 pub apply-to-b-spec : {M : Type 1} → statement M
 apply-to-b-spec =

@@ -29,22 +29,22 @@ whole h = record { places = refl; below = λ i l. h .below i (omega (arith, l, h
 
 -- F in the polynomial slice
 factor : (c : tie.After-write-padded)
-    → let a = c .before .before .before .before .before .before .before .before .before .before .before .args in
+    → let a = c .before .before .before .before .before .before .before .before .before .before .before .before .args in
     c .write-padded .last .1 .0 ≡ padded (length (now (a .starts)) - 1 + 1) (part 0 (a .c .degree + 1) (now (a .work)))
 factor c =
-    let a = c .before .before .before .before .before .before .before .before .before .before .before .args in
+    let a = c .before .before .before .before .before .before .before .before .before .before .before .before .args in
     let d = a .c .degree in
-    c .write-padded .ensures ∙ ap₂ padded (c .before .before .before .before .before .before .before .before .before .before .before .pre .1 .1 .1) (part-at (now (a .work)) 0 (d + 1 - 0) 0 (d + 1) refl (omega arith))
+    c .write-padded .ensures ∙ ap₂ padded (c .before .before .before .before .before .before .before .before .before .before .before .before .pre .1 .1 .1) (part-at (now (a .work)) 0 (d + 1 - 0) 0 (d + 1) refl (omega arith))
 
 -- G(A)b in the vector slice, and the products that it took
 image : (c : tie.After-apply-to-b)
-    → let a = c .before .before .before .before .before .before .before .before .before .before .before .before .before .before .before .before .before .before .before .args in
+    → let a = c .before .before .before .before .before .before .before .before .before .before .before .before .before .before .before .before .before .before .before .before .args in
     let A = matrix (now (a .starts)) (now (a .columns)) (now (a .values)) in
     (c .apply-to-b .result ≡ productsWith (a .c .degree - 1) A)
     × (c .apply-to-b .last .1 .1 .1 .1 .1 .1 .0 ≡ apply (a .field .p) A (drop 1 (part 0 (a .c .degree + 1) (now (a .work)))) (now (a .b)))
 image c =
-    let a = c .before .before .before .before .before .before .before .before .before .before .before .before .before .before .before .before .before .before .before .args in
-    let pre = c .before .before .before .before .before .before .before .before .before .before .before .before .before .before .before .before .before .before .before .pre in
+    let a = c .before .before .before .before .before .before .before .before .before .before .before .before .before .before .before .before .before .before .before .before .args in
+    let pre = c .before .before .before .before .before .before .before .before .before .before .before .before .before .before .before .before .before .before .before .before .pre in
     let A = matrix (now (a .starts)) (now (a .columns)) (now (a .values)) in
     let d = a .c .degree in
     let P = c .before .before .before .before .before .before .before .before .write-padded .last .1 .0 in
@@ -101,8 +101,8 @@ same-length-3 c = search needs
 
 returns : tie.Need-returns
 returns c =
-    let a = c .before .before .before .before .before .before .before .before .before .before .before .before .before .before .before .before .before .before .before .args in
-    let pre = c .before .before .before .before .before .before .before .before .before .before .before .before .before .before .before .before .before .before .before .pre in
+    let a = c .before .before .before .before .before .before .before .before .before .before .before .before .before .before .before .before .before .before .before .before .args in
+    let pre = c .before .before .before .before .before .before .before .before .before .before .before .before .before .before .before .before .before .before .before .before .pre in
     let A = matrix (now (a .starts)) (now (a .columns)) (now (a .values)) in
     let d = a .c .degree in
     let F = part 0 (d + 1) (now (a .work)) in
@@ -130,8 +130,8 @@ part-apply-to-b-end c = search needs
 
 apply-to-b-requires : tie.Need-apply-to-b-requires
 apply-to-b-requires c κs =
-    let a = c .before .before .before .before .before .before .before .before .before .before .before .before .before .before .before .before .before .before .args in
-    let pre = c .before .before .before .before .before .before .before .before .before .before .before .before .before .before .before .before .before .before .pre in
+    let a = c .before .before .before .before .before .before .before .before .before .before .before .before .before .before .before .before .before .before .before .args in
+    let pre = c .before .before .before .before .before .before .before .before .before .before .before .before .before .before .before .before .before .before .before .pre in
     let A = matrix (now (a .starts)) (now (a .columns)) (now (a .values)) in
     let P = c .before .before .before .before .before .before .before .write-padded .last .1 .0 in
     let written = factor (c .before .before .before .before .before .before .before) in
@@ -148,7 +148,7 @@ slice-read-constant c = search needs
 
 closed-requires : tie.Need-closed-requires
 closed-requires c κs =
-    let pre = c .before .before .before .before .before .before .before .before .before .before .before .before .before .before .before .before .before .before .before .before .before .before .before .before .before .pre in
+    let pre = c .before .before .before .before .before .before .before .before .before .before .before .before .before .before .before .before .before .before .before .before .before .before .before .before .before .before .pre in
     let counts = pre .1 .0 .few in
     let done = products-few (pre .0 .valid) (omega (arith, pre .1 .0 .found, pre .0 .valid .sized)) (image (c .before .before .before .before .before .before) .0) in (
       record { applications-low = omega (arith, counts .applications-low, pre .0 .accepted .size-b, pre .0 .valid .sized); multiplied-low = omega (arith, counts .multiplied-low) },
@@ -166,8 +166,8 @@ same-length-6 c = search needs
 
 returns-2 : tie.Need-returns-2
 returns-2 c =
-    let a = c .before .before .before .before .before .before .before .before .before .before .before .before .before .before .before .before .before .before .before .before .before .before .before .before .before .before .args in
-    let pre = c .before .before .before .before .before .before .before .before .before .before .before .before .before .before .before .before .before .before .before .before .before .before .before .before .before .before .pre in
+    let a = c .before .before .before .before .before .before .before .before .before .before .before .before .before .before .before .before .before .before .before .before .before .before .before .before .before .before .before .args in
+    let pre = c .before .before .before .before .before .before .before .before .before .before .before .before .before .before .before .before .before .before .before .before .before .before .before .before .before .before .before .pre in
     let A = matrix (now (a .starts)) (now (a .columns)) (now (a .values)) in
     let F = part 0 (a .c .degree + 1) (now (a .work)) in
     let P = c .before .before .before .before .before .before .before .before .before .before .before .before .before .before .before .write-padded .last .1 .0 in
@@ -185,8 +185,8 @@ inverse-modulo-requires c κs = search needs
 
 divide-requires : tie.Need-divide-requires
 divide-requires c κs =
-    let a = c .before .before .before .before .before .before .before .before .before .before .before .before .before .before .before .before .before .before .before .before .before .before .before .before .before .before .before .args in
-    let pre = c .before .before .before .before .before .before .before .before .before .before .before .before .before .before .before .before .before .before .before .before .before .before .before .before .before .before .before .pre in
+    let a = c .before .before .before .before .before .before .before .before .before .before .before .before .before .before .before .before .before .before .before .before .before .before .before .before .before .before .before .before .args in
+    let pre = c .before .before .before .before .before .before .before .before .before .before .before .before .before .before .before .before .before .before .before .before .before .before .before .before .before .before .before .before .pre in
     let A = matrix (now (a .starts)) (now (a .columns)) (now (a .values)) in
     let F = part 0 (a .c .degree + 1) (now (a .work)) in
     let P = c .before .before .before .before .before .before .before .before .before .before .before .before .before .before .before .before .write-padded .last .1 .0 in
@@ -198,7 +198,7 @@ divide-requires c κs =
 
 closed-requires-2 : tie.Need-closed-requires-2
 closed-requires-2 c κs =
-    let pre = c .before .before .before .before .before .before .before .before .before .before .before .before .before .before .before .before .before .before .before .before .before .before .before .before .before .before .before .before .before .before .pre in
+    let pre = c .before .before .before .before .before .before .before .before .before .before .before .before .before .before .before .before .before .before .before .before .before .before .before .before .before .before .before .before .before .before .before .pre in
     let counts = pre .1 .0 .few in
     let done = products-few (pre .0 .valid) (omega (arith, pre .1 .0 .found, pre .0 .valid .sized)) (image (c .before .before .before .before .before .before .before .before .before .before .before) .0) in (
       record { applications-low = omega (arith, counts .applications-low, pre .0 .accepted .size-b, pre .0 .valid .sized); multiplied-low = omega (arith, counts .multiplied-low) },
@@ -216,8 +216,8 @@ same-length-9 c = search needs
 
 returns-3 : tie.Need-returns-3
 returns-3 c =
-    let a = c .before .before .before .before .before .before .before .before .before .before .before .before .before .before .before .before .before .before .before .before .before .before .before .before .before .before .before .before .before .before .before .args in
-    let pre = c .before .before .before .before .before .before .before .before .before .before .before .before .before .before .before .before .before .before .before .before .before .before .before .before .before .before .before .before .before .before .before .pre in
+    let a = c .before .before .before .before .before .before .before .before .before .before .before .before .before .before .before .before .before .before .before .before .before .before .before .before .before .before .before .before .before .before .before .before .args in
+    let pre = c .before .before .before .before .before .before .before .before .before .before .before .before .before .before .before .before .before .before .before .before .before .before .before .before .before .before .before .before .before .before .before .before .pre in
     let A = matrix (now (a .starts)) (now (a .columns)) (now (a .values)) in
     let F = part 0 (a .c .degree + 1) (now (a .work)) in
     let P = c .before .before .before .before .before .before .before .before .before .before .before .before .before .before .before .before .before .before .before .before .write-padded .last .1 .0 in

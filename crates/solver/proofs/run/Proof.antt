@@ -32,13 +32,13 @@ sub-n c = search needs
 
 begin-requires : tie.Need-begin-requires Inv-loop μ-loop
 begin-requires c κs =
-    let pre = c .before .before .before .before .before .before .before .before .pre in
+    let pre = c .before .before .before .before .before .before .before .before .before .pre in
     (omega (arith, pre .0 .accepted .size-b, pre .0 .valid .sized), omega (arith, pre .0 .accepted .size-b, pre .1 .1))
 
 loop-holds : tie.Need-loop-holds Inv-loop μ-loop
 loop-holds c =
-    let a = c .before .before .before .before .before .before .before .before .before .before .before .args in
-    let pre = c .before .before .before .before .before .before .before .before .before .before .before .pre in
+    let a = c .before .before .before .before .before .before .before .before .before .before .before .before .args in
+    let pre = c .before .before .before .before .before .before .before .before .before .before .before .before .pre in
     let e = c .before .before .begin .ensures in
     let X = c .before .before .begin .last .1 .0 in (
       subst (λ k. Midway (a .field .p) (matrix (now (a .starts)) (now (a .columns)) (now (a .values))) (now (a .b)) (now (a .words)) (a .window) (now (a .bill)) (now (a .bill)) X 0 k) (sym (e .0))
@@ -47,7 +47,7 @@ loop-holds c =
     )
 
 is-settled-requires : tie.Need-is-settled-requires Inv-loop μ-loop
-is-settled-requires c κs = (c .before .before .before .before .before .before .before .before .before .before .before .before .before .pre .0 .valid .sized, c .before .loop .inv .0 .room)
+is-settled-requires c κs = (c .before .before .before .before .before .before .before .before .before .before .before .before .before .before .pre .0 .valid .sized, c .before .loop .inv .0 .room)
 
 make-pass-requires : tie.Need-make-pass-requires Inv-loop μ-loop
 make-pass-requires c κs = search needs
@@ -61,8 +61,8 @@ enum-told c = search needs
 -- a pass of a run's own state is not refused
 never : (c : tie.After-enum-told Inv-loop μ-loop) → ⊥
 never c =
-    let a = c .before .before .before .before .before .before .before .before .before .before .before .before .before .before .before .before .before .before .before .before .before .args in
-    let pre = c .before .before .before .before .before .before .before .before .before .before .before .before .before .before .before .before .before .before .before .before .before .pre in
+    let a = c .before .before .before .before .before .before .before .before .before .before .before .before .before .before .before .before .before .before .before .before .before .before .args in
+    let pre = c .before .before .before .before .before .before .before .before .before .before .before .before .before .before .before .before .before .before .before .before .before .before .pre in
     let few = most (a .field .p) (length (now (a .starts)) - 1) (now (a .words)) (pre .1 .0) (pre .0 .valid .sized) in
     let m = c .before .before .before .before .before .before .before .before .before .loop .inv .0 in
     let z = sym (c .before .before .before .before .before .before .before .is-settled .ensures) ∙ not-true _ (c .before .before .before .before .before .before .if1 .taken) in
@@ -80,8 +80,8 @@ returns c = absurd (never c)
 
 count-requires : tie.Need-count-requires Inv-loop μ-loop
 count-requires c κs =
-    let a = c .before .before .before .before .before .before .before .before .before .before .before .before .before .before .before .before .before .before .before .before .before .before .args in
-    let pre = c .before .before .before .before .before .before .before .before .before .before .before .before .before .before .before .before .before .before .before .before .before .before .pre in
+    let a = c .before .before .before .before .before .before .before .before .before .before .before .before .before .before .before .before .before .before .before .before .before .before .before .args in
+    let pre = c .before .before .before .before .before .before .before .before .before .before .before .before .before .before .before .before .before .before .before .before .before .before .before .pre in
     let few = most (a .field .p) (length (now (a .starts)) - 1) (now (a .words)) (pre .1 .0) (pre .0 .valid .sized) in
     let m = c .before .before .before .before .before .before .before .before .before .before .loop .inv .0 in
     let z = sym (c .before .before .before .before .before .before .before .before .is-settled .ensures) ∙ not-true _ (c .before .before .before .before .before .before .before .if1 .taken) in
@@ -90,8 +90,8 @@ count-requires c κs =
 
 enter-requires : tie.Need-enter-requires Inv-loop μ-loop
 enter-requires c κs =
-    let a = c .before .before .before .before .before .before .before .before .before .before .before .before .before .before .before .before .before .before .before .before .before .before .before .before .args in
-    let pre = c .before .before .before .before .before .before .before .before .before .before .before .before .before .before .before .before .before .before .before .before .before .before .before .before .pre in
+    let a = c .before .before .before .before .before .before .before .before .before .before .before .before .before .before .before .before .before .before .before .before .before .before .before .before .before .args in
+    let pre = c .before .before .before .before .before .before .before .before .before .before .before .before .before .before .before .before .before .before .before .before .before .before .before .before .before .pre in
     let few = most (a .field .p) (length (now (a .starts)) - 1) (now (a .words)) (pre .1 .0) (pre .0 .valid .sized) in
     let m = c .before .before .before .before .before .before .before .before .before .before .before .before .loop .inv .0 in
     let z = sym (c .before .before .before .before .before .before .before .before .before .before .is-settled .ensures) ∙ not-true _ (c .before .before .before .before .before .before .before .before .before .if1 .taken) in
@@ -101,8 +101,8 @@ enter-requires c κs =
 
 add-j : tie.Need-add-j Inv-loop μ-loop
 add-j c =
-    let a = c .before .before .before .before .before .before .before .before .before .before .before .before .before .before .before .before .before .before .before .before .before .before .before .before .before .before .before .args in
-    let pre = c .before .before .before .before .before .before .before .before .before .before .before .before .before .before .before .before .before .before .before .before .before .before .before .before .before .before .before .pre in
+    let a = c .before .before .before .before .before .before .before .before .before .before .before .before .before .before .before .before .before .before .before .before .before .before .before .before .before .before .before .before .args in
+    let pre = c .before .before .before .before .before .before .before .before .before .before .before .before .before .before .before .before .before .before .before .before .before .before .before .before .before .before .before .before .pre in
     let few = most (a .field .p) (length (now (a .starts)) - 1) (now (a .words)) (pre .1 .0) (pre .0 .valid .sized) in
     let m = c .before .before .before .before .before .before .before .before .before .before .before .before .before .before .before .loop .inv .0 in
     let z = sym (c .before .before .before .before .before .before .before .before .before .before .before .before .before .is-settled .ensures) ∙ not-true _ (c .before .before .before .before .before .before .before .before .before .before .before .before .if1 .taken) in
@@ -111,8 +111,8 @@ add-j c =
 
 loop-less : tie.Need-loop-less Inv-loop μ-loop
 loop-less c =
-    let a = c .before .before .before .before .before .before .before .before .before .before .before .before .before .before .before .before .before .before .before .before .before .before .before .before .before .before .before .args in
-    let pre = c .before .before .before .before .before .before .before .before .before .before .before .before .before .before .before .before .before .before .before .before .before .before .before .before .before .before .before .pre in
+    let a = c .before .before .before .before .before .before .before .before .before .before .before .before .before .before .before .before .before .before .before .before .before .before .before .before .before .before .before .before .args in
+    let pre = c .before .before .before .before .before .before .before .before .before .before .before .before .before .before .before .before .before .before .before .before .before .before .before .before .before .before .before .before .pre in
     let few = most (a .field .p) (length (now (a .starts)) - 1) (now (a .words)) (pre .1 .0) (pre .0 .valid .sized) in
     let m = c .before .before .before .before .before .before .before .before .before .before .before .before .before .before .before .loop .inv .0 in
     let z = sym (c .before .before .before .before .before .before .before .before .before .before .before .before .before .is-settled .ensures) ∙ not-true _ (c .before .before .before .before .before .before .before .before .before .before .before .before .if1 .taken) in
@@ -121,8 +121,8 @@ loop-less c =
 
 loop-again : tie.Need-loop-again Inv-loop μ-loop
 loop-again c =
-    let a = c .before .before .before .before .before .before .before .before .before .before .before .before .before .before .before .before .before .before .before .before .before .before .before .before .before .before .before .args in
-    let pre = c .before .before .before .before .before .before .before .before .before .before .before .before .before .before .before .before .before .before .before .before .before .before .before .before .before .before .before .pre in
+    let a = c .before .before .before .before .before .before .before .before .before .before .before .before .before .before .before .before .before .before .before .before .before .before .before .before .before .before .before .before .args in
+    let pre = c .before .before .before .before .before .before .before .before .before .before .before .before .before .before .before .before .before .before .before .before .before .before .before .before .before .before .before .before .pre in
     let few = most (a .field .p) (length (now (a .starts)) - 1) (now (a .words)) (pre .1 .0) (pre .0 .valid .sized) in
     let loop = c .before .before .before .before .before .before .before .before .before .before .before .before .before .before .before .loop in
     let z = sym (c .before .before .before .before .before .before .before .before .before .before .before .before .before .is-settled .ensures) ∙ not-true _ (c .before .before .before .before .before .before .before .before .before .before .before .before .if1 .taken) in
@@ -133,15 +133,15 @@ loop-again c =
 same-length-3 : tie.Need-same-length-3 Inv-loop μ-loop
 same-length-3 c =
     let m = c .before .before .before .loop .inv .0 in
-    ap length (m .bill) ∙ length-billed (now (c .before .before .before .before .before .before .before .before .before .before .before .before .before .before .before .args .bill)) (m .made)
+    ap length (m .bill) ∙ length-billed (now (c .before .before .before .before .before .before .before .before .before .before .before .before .before .before .before .before .args .bill)) (m .made)
 
 same-length-4 : tie.Need-same-length-4 Inv-loop μ-loop
 same-length-4 c = c .before .before .before .loop .inv .1 ∙ c .before .before .before .before .before .before .begin .ensures .1
 
 returns-2 : tie.Need-returns-2 Inv-loop μ-loop
 returns-2 c =
-    let a = c .before .before .before .before .before .before .before .before .before .before .before .before .before .before .before .args in
-    let pre = c .before .before .before .before .before .before .before .before .before .before .before .before .before .before .before .pre in
+    let a = c .before .before .before .before .before .before .before .before .before .before .before .before .before .before .before .before .args in
+    let pre = c .before .before .before .before .before .before .before .before .before .before .before .before .before .before .before .before .pre in
     let few = most (a .field .p) (length (now (a .starts)) - 1) (now (a .words)) (pre .1 .0) (pre .0 .valid .sized) in
     let m = c .before .before .before .loop .inv .0 in
     let z = sym (c .before .is-settled .ensures) ∙ not-false _ (c .if1 .left) in

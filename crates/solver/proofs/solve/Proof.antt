@@ -22,13 +22,13 @@ same-length-3 c = search needs
 
 returns : tie.Need-returns
 returns c =
-    let a = c .before .before .before .before .before .before .before .before .before .before .before .before .before .before .args in
+    let a = c .before .before .before .before .before .before .before .before .before .before .before .before .before .before .before .args in
     let A = matrix (now (a .starts)) (now (a .columns)) (now (a .values)) in
     refused (a .field .p) A (now (a .b)) (now (a .words)) (a .window) (now (a .vector)) (now (a .polynomial)) (now (a .bill)) (now (a .work)) (c .before .solver-refusal .result) (sym (c .before .solver-refusal .ensures)) (c .if1 .taken)
 
 run-requires : tie.Need-run-requires
 run-requires c κs =
-    let a = c .before .before .before .before .before .before .before .before .before .before .before .before .before .before .before .before .args in
+    let a = c .before .before .before .before .before .before .before .before .before .before .before .before .before .before .before .before .before .args in
     let A = matrix (now (a .starts)) (now (a .columns)) (now (a .values)) in
     let passed = sym (c .before .before .before .solver-refusal .ensures) ∙ c .before .before .if1 .left in
     let t = call-accepted (a .field .p) A (now (a .b)) (now (a .words)) (a .window) (now (a .vector)) (now (a .polynomial)) (now (a .work)) passed in
@@ -36,7 +36,7 @@ run-requires c κs =
 
 finish-requires : tie.Need-finish-requires
 finish-requires c κs =
-    let a = c .before .before .before .before .before .before .before .before .before .before .before .before .before .before .before .before .before .before .before .before .before .before .before .before .args in
+    let a = c .before .before .before .before .before .before .before .before .before .before .before .before .before .before .before .before .before .before .before .before .before .before .before .before .before .args in
     let A = matrix (now (a .starts)) (now (a .columns)) (now (a .values)) in
     let passed = sym (c .before .before .before .before .before .before .before .before .before .before .before .solver-refusal .ensures) ∙ c .before .before .before .before .before .before .before .before .before .before .if1 .left in
     let t = call-accepted (a .field .p) A (now (a .b)) (now (a .words)) (a .window) (now (a .vector)) (now (a .polynomial)) (now (a .work)) passed in
@@ -57,7 +57,7 @@ same-length-7 c = search needs
 
 returns-2 : tie.Need-returns-2
 returns-2 c =
-    let a = c .before .before .before .before .before .before .before .before .before .before .before .before .before .before .before .before .before .before .before .before .before .before .before .before .before .before .before .before .before .before .before .args in
+    let a = c .before .before .before .before .before .before .before .before .before .before .before .before .before .before .before .before .before .before .before .before .before .before .before .before .before .before .before .before .before .before .before .before .args in
     let A = matrix (now (a .starts)) (now (a .columns)) (now (a .values)) in
     let passed = sym (c .before .before .before .before .before .before .before .before .before .before .before .before .before .before .before .before .before .before .solver-refusal .ensures) ∙ c .before .before .before .before .before .before .before .before .before .before .before .before .before .before .before .before .before .if1 .left in
     let system = system-of (a .field .p) A (now (a .b)) (now (a .words)) (a .window) (run-passed (a .field .p) A (now (a .b)) (now (a .words)) (a .window) (now (a .vector)) (now (a .polynomial)) (now (a .work)) passed) in
