@@ -6,12 +6,12 @@ use Rattle.laws.specs.Part.{part, length-part}
 use Rattle.bridge.specs.ThirdCondition.{verdict-zero, verdict-singular, verdict-solved}
 use Rattle.checks.specs.declared.Products.{Products}
 use Rattle.checks.specs.Products.{productsWith, products-few}
-use Rattle.checks.specs.Valid.{Vector}
+use Rattle.checks.specs.Valid.{Vector, valid-scaled}
 use Rattle.meaning.specs.Field.{minus, times, inverse}
 use Rattle.meaning.specs.List.{at, table, padded}
-use Rattle.meaning.specs.Matrix.{matrix, apply}
+use Rattle.meaning.specs.Matrix.{matrix, apply, scaled}
 use Rattle.meaning.specs.Solver.{Kind}
-use Rattle.meaning.specs.Calls.{applyRefusal}
+use Rattle.checks.specs.Matrix.{scaledApplyRefusal}
 use denote.Ref.{now}
 use lib.ListN.{length, take, drop, length-drop}
 use native.Mathlib.Nat.{sub-self}
@@ -39,13 +39,13 @@ factor c =
 -- G(A)b in the vector slice, and the products that it took
 image : (c : tie.After-apply-to-b)
     → let a = c .before .before .before .before .before .before .before .before .before .before .before .before .before .before .before .before .before .before .before .before .args in
-    let A = matrix (now (a .starts)) (now (a .columns)) (now (a .values)) in
+    let A = scaled (a .field .p) (matrix (now (a .starts)) (now (a .columns)) (now (a .values))) (now (a .scales)) in
     (c .apply-to-b .result ≡ productsWith (a .c .degree - 1) A)
-    × (c .apply-to-b .last .1 .1 .1 .1 .1 .1 .0 ≡ apply (a .field .p) A (drop 1 (part 0 (a .c .degree + 1) (now (a .work)))) (now (a .b)))
+    × (c .apply-to-b .last .1 .1 .1 .1 .1 .1 .1 .0 ≡ apply (a .field .p) A (drop 1 (part 0 (a .c .degree + 1) (now (a .work)))) (now (a .b)))
 image c =
     let a = c .before .before .before .before .before .before .before .before .before .before .before .before .before .before .before .before .before .before .before .before .args in
     let pre = c .before .before .before .before .before .before .before .before .before .before .before .before .before .before .before .before .before .before .before .before .pre in
-    let A = matrix (now (a .starts)) (now (a .columns)) (now (a .values)) in
+    let A = scaled (a .field .p) (matrix (now (a .starts)) (now (a .columns)) (now (a .values))) (now (a .scales)) in
     let d = a .c .degree in
     let P = c .before .before .before .before .before .before .before .before .write-padded .last .1 .0 in
     let written = factor (c .before .before .before .before .before .before .before .before) in
@@ -103,7 +103,7 @@ returns : tie.Need-returns
 returns c =
     let a = c .before .before .before .before .before .before .before .before .before .before .before .before .before .before .before .before .before .before .before .before .args in
     let pre = c .before .before .before .before .before .before .before .before .before .before .before .before .before .before .before .before .before .before .before .before .pre in
-    let A = matrix (now (a .starts)) (now (a .columns)) (now (a .values)) in
+    let A = scaled (a .field .p) (matrix (now (a .starts)) (now (a .columns)) (now (a .values))) (now (a .scales)) in
     let d = a .c .degree in
     let F = part 0 (d + 1) (now (a .work)) in
     let zero = c .before .before .before .before .before .if1 .taken in
@@ -132,12 +132,12 @@ apply-to-b-requires : tie.Need-apply-to-b-requires
 apply-to-b-requires c κs =
     let a = c .before .before .before .before .before .before .before .before .before .before .before .before .before .before .before .before .before .before .before .args in
     let pre = c .before .before .before .before .before .before .before .before .before .before .before .before .before .before .before .before .before .before .before .pre in
-    let A = matrix (now (a .starts)) (now (a .columns)) (now (a .values)) in
+    let A = scaled (a .field .p) (matrix (now (a .starts)) (now (a .columns)) (now (a .values))) (now (a .scales)) in
     let P = c .before .before .before .before .before .before .before .write-padded .last .1 .0 in
     let written = factor (c .before .before .before .before .before .before .before) in
     let d = a .c .degree in
     let same : d ≡ d + 1 - 1 = omega arith in
-    subst (λ m. applyRefusal (a .field .p) A (part 1 m P) (now (a .b)) (now (a .vector)) (now (a .work)) ≡ 0) same
+    subst (λ m. scaledApplyRefusal (a .field .p) (matrix (now (a .starts)) (now (a .columns)) (now (a .values))) (now (a .scales)) (part 1 m P) (now (a .b)) (now (a .vector)) (now (a .work)) ≡ 0) same
     (taken-in (pre .0) (pre .1 .0) P written (c .before .before .before .before .if1 .left) (now (a .vector)) (now (a .work)) (pre .1 .1 .0) refl)
 
 mul-constant : tie.Need-mul-constant
@@ -150,8 +150,8 @@ closed-requires : tie.Need-closed-requires
 closed-requires c κs =
     let pre = c .before .before .before .before .before .before .before .before .before .before .before .before .before .before .before .before .before .before .before .before .before .before .before .before .before .before .pre in
     let counts = pre .1 .0 .few in
-    let done = products-few (pre .0 .valid) (omega (arith, pre .1 .0 .found, pre .0 .valid .sized)) (image (c .before .before .before .before .before .before) .0) in (
-      record { applications-low = omega (arith, counts .applications-low, pre .0 .accepted .size-b, pre .0 .valid .sized); multiplied-low = omega (arith, counts .multiplied-low) },
+    let done = products-few (valid-scaled _ (pre .0 .valid .valid)) (omega (arith, pre .1 .0 .found, pre .0 .valid .valid .sized)) (image (c .before .before .before .before .before .before) .0) in (
+      record { applications-low = omega (arith, counts .applications-low, pre .0 .accepted .size-b, pre .0 .valid .valid .sized); multiplied-low = omega (arith, counts .multiplied-low) },
       record { made-low = omega (arith, done .made-low); multiplied-low = omega (arith, done .multiplied-low) },
     )
 
@@ -168,7 +168,7 @@ returns-2 : tie.Need-returns-2
 returns-2 c =
     let a = c .before .before .before .before .before .before .before .before .before .before .before .before .before .before .before .before .before .before .before .before .before .before .before .before .before .before .before .args in
     let pre = c .before .before .before .before .before .before .before .before .before .before .before .before .before .before .before .before .before .before .before .before .before .before .before .before .before .before .before .pre in
-    let A = matrix (now (a .starts)) (now (a .columns)) (now (a .values)) in
+    let A = scaled (a .field .p) (matrix (now (a .starts)) (now (a .columns)) (now (a .values))) (now (a .scales)) in
     let F = part 0 (a .c .degree + 1) (now (a .work)) in
     let P = c .before .before .before .before .before .before .before .before .before .before .before .before .before .before .before .write-padded .last .1 .0 in
     let written = factor (c .before .before .before .before .before .before .before .before .before .before .before .before .before .before .before) in
@@ -187,21 +187,21 @@ divide-requires : tie.Need-divide-requires
 divide-requires c κs =
     let a = c .before .before .before .before .before .before .before .before .before .before .before .before .before .before .before .before .before .before .before .before .before .before .before .before .before .before .before .before .args in
     let pre = c .before .before .before .before .before .before .before .before .before .before .before .before .before .before .before .before .before .before .before .before .before .before .before .before .before .before .before .before .pre in
-    let A = matrix (now (a .starts)) (now (a .columns)) (now (a .values)) in
+    let A = scaled (a .field .p) (matrix (now (a .starts)) (now (a .columns)) (now (a .values))) (now (a .scales)) in
     let F = part 0 (a .c .degree + 1) (now (a .work)) in
     let P = c .before .before .before .before .before .before .before .before .before .before .before .before .before .before .before .before .write-padded .last .1 .0 in
     let written = factor (c .before .before .before .before .before .before .before .before .before .before .before .before .before .before .before .before) in (
       divisor (pre .0) (pre .1 .0) P written (c .before .inverse-modulo .ensures) (c .before .before .if2 .left),
-      pre .0 .valid .small,
-      subst (λ v. Vector (a .field .p) (length v) v) (sym (image (c .before .before .before .before .before .before .before .before) .1)) (whole (vector-apply (a .field .p) A (drop 1 F) (now (a .b)) (pre .0 .valid .positive))),
+      pre .0 .valid .valid .small,
+      subst (λ v. Vector (a .field .p) (length v) v) (sym (image (c .before .before .before .before .before .before .before .before) .1)) (whole (vector-apply (a .field .p) A (drop 1 F) (now (a .b)) (pre .0 .valid .valid .positive))),
     )
 
 closed-requires-2 : tie.Need-closed-requires-2
 closed-requires-2 c κs =
     let pre = c .before .before .before .before .before .before .before .before .before .before .before .before .before .before .before .before .before .before .before .before .before .before .before .before .before .before .before .before .before .before .before .pre in
     let counts = pre .1 .0 .few in
-    let done = products-few (pre .0 .valid) (omega (arith, pre .1 .0 .found, pre .0 .valid .sized)) (image (c .before .before .before .before .before .before .before .before .before .before .before) .0) in (
-      record { applications-low = omega (arith, counts .applications-low, pre .0 .accepted .size-b, pre .0 .valid .sized); multiplied-low = omega (arith, counts .multiplied-low) },
+    let done = products-few (valid-scaled _ (pre .0 .valid .valid)) (omega (arith, pre .1 .0 .found, pre .0 .valid .valid .sized)) (image (c .before .before .before .before .before .before .before .before .before .before .before) .0) in (
+      record { applications-low = omega (arith, counts .applications-low, pre .0 .accepted .size-b, pre .0 .valid .valid .sized); multiplied-low = omega (arith, counts .multiplied-low) },
       record { made-low = omega (arith, done .made-low); multiplied-low = omega (arith, done .multiplied-low) },
     )
 
@@ -218,7 +218,7 @@ returns-3 : tie.Need-returns-3
 returns-3 c =
     let a = c .before .before .before .before .before .before .before .before .before .before .before .before .before .before .before .before .before .before .before .before .before .before .before .before .before .before .before .before .before .before .before .before .args in
     let pre = c .before .before .before .before .before .before .before .before .before .before .before .before .before .before .before .before .before .before .before .before .before .before .before .before .before .before .before .before .before .before .before .before .pre in
-    let A = matrix (now (a .starts)) (now (a .columns)) (now (a .values)) in
+    let A = scaled (a .field .p) (matrix (now (a .starts)) (now (a .columns)) (now (a .values))) (now (a .scales)) in
     let F = part 0 (a .c .degree + 1) (now (a .work)) in
     let P = c .before .before .before .before .before .before .before .before .before .before .before .before .before .before .before .before .before .before .before .before .write-padded .last .1 .0 in
     let written = factor (c .before .before .before .before .before .before .before .before .before .before .before .before .before .before .before .before .before .before .before .before) in
@@ -231,7 +231,7 @@ returns-3 c =
       vector-is =
           c .before .before .before .divide .ensures
           ∙ ap₂ (λ v i. table (length v) (λ k. times (a .field .p) (minus (a .field .p) 0 (at v k)) i)) (done .1) (c .before .before .before .before .before .inverse-modulo .ensures ∙ ap (inverse (a .field .p)) first)
-          ∙ ap (λ m. table m (λ k. times (a .field .p) (minus (a .field .p) 0 (at w k)) (inverse (a .field .p) (at F 0)))) (vector-apply (a .field .p) A (drop 1 F) (now (a .b)) (pre .0 .valid .positive) .places)
+          ∙ ap (λ m. table m (λ k. times (a .field .p) (minus (a .field .p) 0 (at w k)) (inverse (a .field .p) (at F 0)))) (vector-apply (a .field .p) A (drop 1 F) (now (a .b)) (pre .0 .valid .valid .positive) .places)
           ∙ sym (ap (λ (y : Kind × List ℕ). y .1) said);
       polynomial-is = written;
     }

@@ -24,23 +24,23 @@ returns : tie.Need-returns
 returns c =
     let a = c .before .before .before .before .before .before .before .before .before .before .before .before .before .before .before .args in
     let A = matrix (now (a .starts)) (now (a .columns)) (now (a .values)) in
-    refused (a .field .p) A (now (a .b)) (now (a .words)) (a .window) (now (a .vector)) (now (a .polynomial)) (now (a .bill)) (now (a .work)) (c .before .solver-refusal .result) (sym (c .before .solver-refusal .ensures)) (c .if1 .taken)
+    refused (a .field .p) A (now (a .scales)) (now (a .b)) (now (a .words)) (a .window) (now (a .vector)) (now (a .polynomial)) (now (a .bill)) (now (a .work)) (c .before .solver-refusal .result) (sym (c .before .solver-refusal .ensures)) (c .if1 .taken)
 
 run-requires : tie.Need-run-requires
 run-requires c κs =
     let a = c .before .before .before .before .before .before .before .before .before .before .before .before .before .before .before .before .before .args in
     let A = matrix (now (a .starts)) (now (a .columns)) (now (a .values)) in
     let passed = sym (c .before .before .before .solver-refusal .ensures) ∙ c .before .before .if1 .left in
-    let t = call-accepted (a .field .p) A (now (a .b)) (now (a .words)) (a .window) (now (a .vector)) (now (a .polynomial)) (now (a .work)) passed in
-    (system-of (a .field .p) A (now (a .b)) (now (a .words)) (a .window) (run-passed (a .field .p) A (now (a .b)) (now (a .words)) (a .window) (now (a .vector)) (now (a .polynomial)) (now (a .work)) passed), (t .run .words-taken, t .room))
+    let t = call-accepted (a .field .p) A (now (a .scales)) (now (a .b)) (now (a .words)) (a .window) (now (a .vector)) (now (a .polynomial)) (now (a .work)) passed in
+    (system-of (a .field .p) A (now (a .scales)) (now (a .b)) (now (a .words)) (a .window) (run-passed (a .field .p) A (now (a .scales)) (now (a .b)) (now (a .words)) (a .window) (now (a .vector)) (now (a .polynomial)) (now (a .work)) passed), (t .run .words-taken, t .room))
 
-finish-requires : tie.Need-finish-requires
-finish-requires c κs =
+answer-requires : tie.Need-answer-requires
+answer-requires c κs =
     let a = c .before .before .before .before .before .before .before .before .before .before .before .before .before .before .before .before .before .before .before .before .before .before .before .before .before .args in
     let A = matrix (now (a .starts)) (now (a .columns)) (now (a .values)) in
     let passed = sym (c .before .before .before .before .before .before .before .before .before .before .before .solver-refusal .ensures) ∙ c .before .before .before .before .before .before .before .before .before .before .if1 .left in
-    let t = call-accepted (a .field .p) A (now (a .b)) (now (a .words)) (a .window) (now (a .vector)) (now (a .polynomial)) (now (a .work)) passed in
-    let system = system-of (a .field .p) A (now (a .b)) (now (a .words)) (a .window) (run-passed (a .field .p) A (now (a .b)) (now (a .words)) (a .window) (now (a .vector)) (now (a .polynomial)) (now (a .work)) passed) in
+    let t = call-accepted (a .field .p) A (now (a .scales)) (now (a .b)) (now (a .words)) (a .window) (now (a .vector)) (now (a .polynomial)) (now (a .work)) passed in
+    let system = system-of (a .field .p) A (now (a .scales)) (now (a .b)) (now (a .words)) (a .window) (run-passed (a .field .p) A (now (a .scales)) (now (a .b)) (now (a .words)) (a .window) (now (a .vector)) (now (a .polynomial)) (now (a .work)) passed) in
     (system, (closable system (c .before .before .before .before .before .before .before .run .ensures), (t .vector-size, t .polynomial-size)))
 
 same-length-4 : tie.Need-same-length-4
@@ -60,8 +60,8 @@ returns-2 c =
     let a = c .before .before .before .before .before .before .before .before .before .before .before .before .before .before .before .before .before .before .before .before .before .before .before .before .before .before .before .before .before .before .before .before .args in
     let A = matrix (now (a .starts)) (now (a .columns)) (now (a .values)) in
     let passed = sym (c .before .before .before .before .before .before .before .before .before .before .before .before .before .before .before .before .before .before .solver-refusal .ensures) ∙ c .before .before .before .before .before .before .before .before .before .before .before .before .before .before .before .before .before .if1 .left in
-    let system = system-of (a .field .p) A (now (a .b)) (now (a .words)) (a .window) (run-passed (a .field .p) A (now (a .b)) (now (a .words)) (a .window) (now (a .vector)) (now (a .polynomial)) (now (a .work)) passed) in
-    taken (a .field .p) A (now (a .b)) (now (a .words)) (a .window) (now (a .vector)) (now (a .polynomial)) (now (a .bill)) (now (a .work)) passed (closed system (c .before .before .before .before .before .before .before .before .before .before .before .before .before .before .run .ensures) (c .before .before .before .before .before .before .finish .ensures))
+    let system = system-of (a .field .p) A (now (a .scales)) (now (a .b)) (now (a .words)) (a .window) (run-passed (a .field .p) A (now (a .scales)) (now (a .b)) (now (a .words)) (a .window) (now (a .vector)) (now (a .polynomial)) (now (a .work)) passed) in
+    taken (a .field .p) A (now (a .scales)) (now (a .b)) (now (a .words)) (a .window) (now (a .vector)) (now (a .polynomial)) (now (a .bill)) (now (a .work)) passed (closed system (c .before .before .before .before .before .before .before .before .before .before .before .before .before .before .run .ensures) (c .before .before .before .before .before .before .answer .ensures))
 
 pub solve-spec : {M : Type 1} → statement M
 solve-spec =
@@ -73,7 +73,7 @@ solve-spec =
     same-length-3
     returns
     run-requires
-    finish-requires
+    answer-requires
     same-length-4
     same-length-5
     same-length-6
