@@ -1,5 +1,6 @@
 -- The customer's third condition holds of the meaning's `solve`.
 --     verdict-zero, verdict-singular, verdict-solved      the meaning's verdict by its cases: D = 0; D > 0 and F[0] = 0; neither is 0
+--     verdict-vector       its vector has n elements, all below p
 --     solved≢singular      the kinds differ
 --     span-to, span-from   "b is a sum of multiples of Ab, A²b, .., Aⁿb" is the theory's Span
 -- Of any c in which a run stands (Run's Stands) with r = 0, for any size, 0 included, and any projections:
@@ -11,13 +12,17 @@
 --     same-ends            two such ends on one system agree
 -- Of a run with any list of projections that ends with r = 0:
 --     run-counted          its applications
---     thirdCondition, sameAnswer      the third condition; two such runs agree
--- Of `solve`:
+--     sameAnswer           two such runs agree
 --     projections-zero     the words' projections are such a list
+-- Of such a run on AX, answered with X times its vector:
+--     thirdCondition       the third condition: AX in A's place, but for what the vector meets
+--     answered-same        two such runs agree
+-- Of `solve`:
 --     Accepted p A b, accepted-of, accepted      what the checks of a system, and of a run, say to the theory: p is prime, b has n elements, all below p
---     everyRun             the third condition of every run, whatever the words
---     everyTwoRuns         every two runs on one system give the same kind, vector and polynomial, whatever their words
+--     everyRun             the third condition of every run, whatever the words and the scales
+--     everyTwoRuns         every two runs on one system, its scales with it, give the same kind, vector and polynomial, whatever their words
 --     everyEmptyRun        every run on size 0 ends with the empty vector and f = 1, and makes no pass
+--     everyPlainRun        every run with n ones as scales ends as the run without scales
 use mathlib.Core.Path.{_≡_, refl, sym, ap, ap₂, fun-ext, subst, _∙_}
 use mathlib.Core.Logic.{_≢_, _⊎_, inl, inr, _↔_}
 use mathlib.Core.Bool.{true, false, cond}
@@ -31,15 +36,15 @@ use lib.Seq.{getD-drop}
 use borrow.Author.Tests.{eq-eqb, ne-eqb}
 use Rattle.meaning.specs.List.{at, sum as sumℕ, table, zeros, every, isZero}
 use Rattle.meaning.specs.Field.{minus, times, inverse}
-use Rattle.meaning.specs.Matrix.{Matrix, size, product, power, apply, multiplied}
+use Rattle.meaning.specs.Matrix.{Matrix, size, product, power, apply, multiplied, scaleAt, scaled, diagonal}
 use Rattle.meaning.specs.Recurrence.{isMonic}
-use Rattle.meaning.specs.Solver.{vectorCount, vectors, projections, Run, begin, run, Kind, solved, singular, spent, applications, verdict, close, solve, nothingLeft}
+use Rattle.meaning.specs.Solver.{vectorCount, vectors, projections, Run, begin, run, Kind, solved, singular, Outcome, spent, applications, verdict, close, outcome, answered, solve, nothingLeft}
 use Rattle.meaning.specs.ThirdCondition.{inSpan, termCost, ThirdCondition, SameAnswer}
 use Rattle.meaning.specs.Refusal.{first}
 use Rattle.meaning.specs.Calls.{runChecks, EveryRun, EveryTwoRuns, EveryEmptyRun}
 use Rattle.laws.specs.Bool.{test-cases, never}
 use Rattle.laws.specs.List.{length-table, length-none}
-use Rattle.laws.specs.Accepted.{AcceptedSystem, run-accepted}
+use Rattle.laws.specs.Accepted.{AcceptedSystem, AcceptedScales, run-accepted}
 use Rattle.laws.specs.Solver.{length-projections, spent-nil}
 use Rattle.algebra.specs.Ring.{Ring, Field, ring-laws}
 use Rattle.algebra.specs.Ring as ring
@@ -47,12 +52,13 @@ use Rattle.algebra.specs.Sum.{sum, sum-ext, sum-zeros}
 use Rattle.algebra.specs.Polynomial.{Below}
 use Rattle.residue.specs.Prime.{Prime, isModulus-Prime}
 use Rattle.residue.specs.Residue.{residues, mk, value, mk-zero, mk-inj, mk-inv, mk-value}
-use Rattle.residue.specs.Lists.{Reduced, reduced-getD, coef, coef-below, coef-ext, coef-table, values}
+use Rattle.residue.specs.Lists.{Reduced, reduced-getD, reduced-table, coef, coef-below, coef-ext, coef-table, values}
 use Rattle.krylov.specs.Operator.{Kills, times-at, power-below, apply-below, apply-degree-zero}
 use Rattle.krylov.specs.Operator as theory
 use Rattle.krylov.specs.Verdict.{Span, tail, solution, Settles, verdict-unique, solution-zero}
 use Rattle.krylov.specs.Verdict as theory-verdict
 use Rattle.bridge.specs.Lists.{reduced-table-mod, every-reduced, table-coef, mk-dot-mod, mk-times, mk-difference}
+use Rattle.bridge.specs.Scaled.{product-scaled, diagonal-same, scaled-same, scale-ones, diagonal-zero}
 use Rattle.bridge.specs.Recurrence.{monic-to, monic-from}
 use Rattle.bridge.specs.Operator.{operator, operator-linear, coef-product, length-product, reduced-product, coef-power, coef-apply, length-apply, reduced-apply, coef-zeros, isZero-null, null-isZero, zeros-from-null}
 use Rattle.bridge.specs.Run.{Stands, run-begun, run-rest, run-few, run-cost, units-end}
@@ -71,6 +77,22 @@ module _ (p : ℕ) (A : Matrix) (b F : List ℕ) (D : ℕ) where
   pub verdict-solved : D ≢ 0 → at F 0 ≢ 0 → verdict p A b F D ≡ (solved, table (size A) (λ i. times p (minus p 0 (at (apply p A (drop 1 F) b) i)) (inverse p (at F 0))))
   unfolding verdict
   verdict-solved e z = rw (ne-eqb D 0 e, ne-eqb (at F 0) 0 z)
+
+pub verdict-vector : (p : ℕ) (h : Prime p) (A : Matrix) (b F : List ℕ) (D : ℕ) → (length (verdict p A b F D .1) ≡ size A) × Reduced p (verdict p A b F D .1)
+unfolding times
+verdict-vector p h A b F D = go (ℕ-discrete D 0) (ℕ-discrete (at F 0) 0)
+  where
+    go : Dec (D ≡ 0) → Dec (at F 0 ≡ 0) → (length (verdict p A b F D .1) ≡ size A) × Reduced p (verdict p A b F D .1)
+    go (yes e) z =
+        rw (verdict-zero p A b F D e)
+        (length-table (size A) (λ i. 0), reduced-table p (size A) (λ i. 0) (λ i l. omega (arith, h .two-le)))
+    go (no e) (yes z) =
+        rw (verdict-singular p A b F D e z) (length-apply p h A (drop 1 F) b, reduced-apply p h A (drop 1 F) b)
+    go (no e) (no z) =
+        rw (verdict-solved p A b F D e z) (
+          length-table (size A) (λ i. times p (minus p 0 (at (apply p A (drop 1 F) b) i)) (inverse p (at F 0))),
+          reduced-table-mod p (size A) (λ i. minus p 0 (at (apply p A (drop 1 F) b) i) * inverse p (at F 0)) (omega (arith, h .two-le)),
+        )
 
 pub solved≢singular : solved ≢ singular
 solved≢singular e = let z : _≡_ {A = ℕ} 0 1 = cc in omega arith
@@ -324,29 +346,6 @@ module _ (p : ℕ) (h : Prime p) (A : Matrix) (b : List ℕ) (size-b : length b 
           omega (arith, run-cost p h A b size-b reduced-b w us none, end-found c (run-begun p h A b size-b reduced-b w us .stands) z e)
           ∙ ap (λ t. cond t 0 (termCost (size A) (c .passes) + (2 * c .found - 1))) (sym e)
 
-  pub thirdCondition : (w : ℕ) (us : List (List ℕ)) (words : List ℕ) → isZero (run p A w us (begin b) .residual) ≡ true → length us ≡ vectorCount (size A) words + size A
-      → ThirdCondition p A b words w (close p A b (run p A w us (begin b)))
-  unfolding close
-  thirdCondition w us words z l =
-      record {
-        monic = end-monic c I z;
-        annihilates = end-annihilates c I z;
-        lowest = end-lowest c I z;
-        exactly = end-exactly c I z;
-        solves = end-solves c I z;
-        not-zero = end-not-zero c I z;
-        to-zero = end-to-zero c I z;
-        few = omega (arith, run-few p h A b size-b reduced-b w us);
-        summed = refl;
-        counted = run-counted w us z;
-      }
-    where
-      c : Run
-      c = run p A w us (begin b)
-
-      I : Stands p h A b (run-begun p h A b size-b reduced-b w us .used) c
-      I = run-begun p h A b size-b reduced-b w us .stands
-
   pub sameAnswer : (w w′ : ℕ) (us us′ : List (List ℕ)) → isZero (run p A w us (begin b) .residual) ≡ true → isZero (run p A w′ us′ (begin b) .residual) ≡ true
       → SameAnswer (close p A b (run p A w us (begin b))) (close p A b (run p A w′ us′ (begin b)))
   sameAnswer w w′ us us′ z z′ =
@@ -355,6 +354,47 @@ module _ (p : ℕ) (h : Prime p) (A : Matrix) (b : List ℕ) (size-b : length b 
   pub projections-zero : (w : ℕ) (words : List ℕ) → isZero (run p A w (projections p (size A) words) (begin b) .residual) ≡ true
   unfolding projections
   projections-zero w words = units-end p h A b size-b reduced-b w (vectors p (size A) words)
+
+-- ---- runs on AX, answered with X times their vector
+
+module _ (p : ℕ) (h : Prime p) (A : Matrix) (X b : List ℕ) (size-b : length b ≡ size A) (reduced-b : Reduced p b) (scales : AcceptedScales p (size A) X) where
+  pub thirdCondition : (w : ℕ) (us : List (List ℕ)) (words : List ℕ) → isZero (run p (scaled p A X) w us (begin b) .residual) ≡ true → length us ≡ vectorCount (size A) words + size A
+      → ThirdCondition p A X b words w (answered p X (close p (scaled p A X) b (run p (scaled p A X) w us (begin b))))
+  unfolding answered close
+  thirdCondition w us words z l =
+      record {
+        monic = end-monic p h AX b size-b reduced-b c I z;
+        annihilates = end-annihilates p h AX b size-b reduced-b c I z;
+        lowest = end-lowest p h AX b size-b reduced-b c I z;
+        exactly = end-exactly p h AX b size-b reduced-b c I z;
+        solves = λ k. sym (product-scaled p A X y) ∙ end-solves p h AX b size-b reduced-b c I z k;
+        not-zero = λ k e. end-not-zero p h AX b size-b reduced-b c I z k (loses-nothing y (verdict-vector p h AX b (c .factor) (c .found)) e);
+        to-zero = λ k. sym (product-scaled p A X y) ∙ end-to-zero p h AX b size-b reduced-b c I z k;
+        few = omega (arith, run-few p h AX b size-b reduced-b w us);
+        summed = refl;
+        counted = run-counted p h AX b size-b reduced-b w us z;
+      }
+    where
+      AX : Matrix
+      AX = scaled p A X
+
+      c : Run
+      c = run p AX w us (begin b)
+
+      I : Stands p h AX b (run-begun p h AX b size-b reduced-b w us .used) c
+      I = run-begun p h AX b size-b reduced-b w us .stands
+
+      -- the vector that X is to multiply
+      y : List ℕ
+      y = verdict p AX b (c .factor) (c .found) .1
+
+      loses-nothing : (v : List ℕ) → (length v ≡ size A) × Reduced p v → diagonal p X v ≡ zeros (size A) → v ≡ zeros (size A)
+      loses-nothing v (e, r) d =
+          diagonal-zero h (subst (λ n. AcceptedScales p n X) (sym e) scales) r (d ∙ ap zeros (sym e)) ∙ ap zeros e
+
+pub answered-same : (p : ℕ) (X : List ℕ) {o o′ : Outcome} → SameAnswer o o′ → SameAnswer (answered p X o) (answered p X o′)
+unfolding answered
+answered-same p X s = record { kind = s .kind; vector = ap (diagonal p X) (s .vector); polynomial = s .polynomial }
 
 -- ---- every run
 
@@ -371,34 +411,51 @@ accepted-of {p} {A} {b} a =
       reduced-b = every-reduced p b (a .right-below);
     }
 
-pub accepted : (p : ℕ) (A : Matrix) (b words : List ℕ) (w : ℕ) → first (runChecks p A b words w) ≡ 0 → Accepted p A b
-accepted p A b words w e = accepted-of (run-accepted p A b words w e .system)
+pub accepted : (p : ℕ) (A : Matrix) (X b words : List ℕ) (w : ℕ) → first (runChecks p A X b words w) ≡ 0 → Accepted p A b
+accepted p A X b words w e = accepted-of (run-accepted p A X b words w e .system)
 
 pub everyRun : EveryRun
-unfolding solve
-everyRun p A b words w e =
-    thirdCondition p (a .prime) A b (a .size-b) (a .reduced-b) w (projections p (size A) words) words (projections-zero p (a .prime) A b (a .size-b) (a .reduced-b) w words) (length-projections p (size A) words)
+unfolding solve outcome
+everyRun p A X b words w e =
+    thirdCondition p (a .prime) A X b (a .size-b) (a .reduced-b) (run-accepted p A X b words w e .scales) w (projections p (size A) words) words
+    (projections-zero p (a .prime) (scaled p A X) b (a .size-b) (a .reduced-b) w words) (length-projections p (size A) words)
   where
     a : Accepted p A b
-    a = accepted p A b words w e
+    a = accepted p A X b words w e
 
 pub everyTwoRuns : EveryTwoRuns
-unfolding solve
-everyTwoRuns p A b words words′ w w′ e e′ =
-    sameAnswer p (a .prime) A b (a .size-b) (a .reduced-b) w w′ (projections p (size A) words) (projections p (size A) words′)
-    (projections-zero p (a .prime) A b (a .size-b) (a .reduced-b) w words) (projections-zero p (a .prime) A b (a .size-b) (a .reduced-b) w′ words′)
+unfolding solve outcome
+everyTwoRuns p A X b words words′ w w′ e e′ =
+    answered-same p X
+    (sameAnswer p (a .prime) (scaled p A X) b (a .size-b) (a .reduced-b) w w′ (projections p (size A) words) (projections p (size A) words′)
+    (projections-zero p (a .prime) (scaled p A X) b (a .size-b) (a .reduced-b) w words) (projections-zero p (a .prime) (scaled p A X) b (a .size-b) (a .reduced-b) w′ words′))
   where
     a : Accepted p A b
-    a = accepted p A b words w e
+    a = accepted p A X b words w e
 
-empty-close : (p : ℕ) (A : Matrix) → size A ≡ 0 → close p A [] (begin []) ≡ nothingLeft
-unfolding close begin verdict table multiplied spent sumℕ
-empty-close p A none = rw none refl
+empty-close : (p : ℕ) (A : Matrix) (X : List ℕ) → size A ≡ 0 → answered p X (close p A [] (begin [])) ≡ nothingLeft
+unfolding answered close begin verdict diagonal table multiplied spent sumℕ
+empty-close p A X none = rw none refl
 
 pub everyEmptyRun : EveryEmptyRun
-unfolding solve begin every
-everyEmptyRun p A b words w e none =
-    let a = accepted p A b words w e in
+unfolding solve outcome begin every
+everyEmptyRun p A X b words w e none =
+    let a = accepted p A X b words w e in
+    let AX = scaled p A X in
     let us = projections p (size A) words in
-    ap (λ v. close p A v (run p A w us (begin v))) (length-none b (a .size-b ∙ none))
-    ∙ ap (close p A []) (run-rest p (a .prime) A [] w us (begin []) refl) ∙ empty-close p A none
+    ap (λ v. answered p X (close p AX v (run p AX w us (begin v)))) (length-none b (a .size-b ∙ none))
+    ∙ ap (λ c. answered p X (close p AX [] c)) (run-rest p (a .prime) AX [] w us (begin []) refl) ∙ empty-close p AX X none
+
+-- what counts of a list of scales is the scale of each column
+solve-same : (p : ℕ) (A : Matrix) (X Y : List ℕ) → ((j : ℕ) → scaleAt X j ≡ scaleAt Y j) → (b words : List ℕ) (w : ℕ) → solve p A X b words w ≡ solve p A Y b words w
+unfolding solve answered
+solve-same p A X Y same b words w =
+    ap (λ M. answered p X (outcome p M b words w)) (scaled-same p X Y same A)
+    ∙ ap (λ v. record { kind = o .kind; vector = v; polynomial = o .polynomial; degree = o .degree; passes = o .passes; multiplied = o .multiplied }) (diagonal-same p X Y same (o .vector))
+  where
+    o : Outcome
+    o = outcome p (scaled p A Y) b words w
+
+pub everyPlainRun : (p : ℕ) (A : Matrix) (b words : List ℕ) (w : ℕ) → first (runChecks p A [] b words w) ≡ 0
+    → solve p A (table (size A) (λ j. 1)) b words w ≡ solve p A [] b words w
+everyPlainRun p A b words w e = solve-same p A (table (size A) (λ j. 1)) [] (scale-ones (size A)) b words w

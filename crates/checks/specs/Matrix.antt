@@ -7,8 +7,9 @@
 --     row-last         6 for one row by its last column
 --     size-range, length-sizeTaken, rows-columnsTaken, rows-next, all-elements      each check by what the code asks
 --     ordered          what 6 asks of the starts
---     matrix-valid, Accepted, system-accepted      what the checks of a matrix, and of one with a vector, leave known
---     matrix-sized, system-sized      the starts' number
+--     scaled-modulus, scaled-valid, matrix-valid, Accepted, system-accepted      what the checks of a matrix with its scales, of one without and of one
+--                      with a vector leave known
+--     scaled-sized, matrix-sized, system-sized      the starts' number
 --     product-refused, product-passed, product-accepted      a product's checks; what they leave known
 --     Applicable, apply-accepted; takes-accepted             the same of g(A)v, and of the check that A takes x to b
 use mathlib.Core.Path.{_≡_, refl, sym, ap, ap₂, _∙_, subst}
@@ -26,14 +27,14 @@ use borrow.Author.Tests.{ltb-true, leb-true, eqb-true, eqb-false, lt-ltb, le-leb
 use Rattle.meaning.specs.List.{at, all, allFrom}
 use Rattle.meaning.specs.Field.{isModulus}
 use Rattle.meaning.specs.Matrix.{Matrix, matrix, size}
-use Rattle.meaning.specs.Refusal.{Check, check, first, within, sizeTaken, startsTaken, columnsTaken, elements, matrixChecks}
+use Rattle.meaning.specs.Refusal.{Check, check, first, within, sizeTaken, startsTaken, columnsTaken, elements, scaledChecks, matrixChecks}
 use Rattle.meaning.specs.Calls.{systemChecks, productRefusal, applyRefusal, takesRefusal}
 use Rattle.laws.specs.Bool.{and-left, and-right, and-both, same-test}
 use Rattle.laws.specs.List.{all-zero, all-suc, all-at, all-of, every-all}
 use Rattle.laws.specs.Refusal.{first-passed, numbered-matrix, numbered-system, first-append-zero, zero-by, leading-refused, leading-passed}
 use Rattle.laws.specs.Accepted as laws
-use Rattle.laws.specs.Accepted.{starts-known, starts-rise, matrix-accepted}
-use Rattle.checks.specs.Valid.{Valid, Vector, valid-of, right-of, vector-of}
+use Rattle.laws.specs.Accepted.{starts-known, starts-rise, scaled-accepted, scaled-scales}
+use Rattle.checks.specs.Valid.{Valid, Vector, ValidScaled, valid-of, scales-of, right-of, vector-of}
 
 abbrev pub columnTaken : ℕ → ℕ → List ℕ → ℕ → Bool
 columnTaken n end columns k = ltb (at columns k) n && (leb end (k + 1) || ltb (at columns k) (at columns (k + 1)))
@@ -158,14 +159,16 @@ ordered A e l =
       within = λ i k. omega (arith, starts-rise A (starts .1) (i + 1) (size A) (omega (arith, k)) (omega arith), starts .2);
     }
 
-pub matrix-modulus : (p : ℕ) (A : Matrix) → first (matrixChecks p A) ≡ 0 → isModulus p ≡ true
-unfolding matrixChecks
-matrix-modulus p A e = first-passed 3 (isModulus p) _ (omega arith) e .0
+pub scaled-modulus : (p : ℕ) (A : Matrix) (X : List ℕ) → first (scaledChecks p A X) ≡ 0 → isModulus p ≡ true
+scaled-modulus p A X e = scaled-accepted p A X e .prime
 
 -- ---- the calls' checks
 
+pub scaled-valid : (p : ℕ) (A : Matrix) (X : List ℕ) → first (scaledChecks p A X) ≡ 0 → ValidScaled p A X
+scaled-valid p A X e = record { valid = valid-of (scaled-accepted p A X e); scales = scales-of (scaled-scales p A X e) }
+
 pub matrix-valid : (p : ℕ) (A : Matrix) → first (matrixChecks p A) ≡ 0 → Valid p A
-matrix-valid p A e = valid-of (matrix-accepted p A e)
+matrix-valid p A e = scaled-valid p A [] e .valid
 
 -- a matrix and a vector that were not turned down
 pub record Accepted (p : ℕ) (A : Matrix) (v : List ℕ) : Type 0 where
@@ -175,22 +178,26 @@ pub record Accepted (p : ℕ) (A : Matrix) (v : List ℕ) : Type 0 where
 abbrev pub vectorChecks : ℕ → Matrix → List ℕ → List Check
 vectorChecks p A b = check 8 (not (eqb (length b) (size A))) ∷ check 9 (not (elements p b)) ∷ []
 
-pub system-accepted : (p : ℕ) (A : Matrix) (b : List ℕ) → first (systemChecks p A b) ≡ 0 → Accepted p A b
-system-accepted p A b e =
-    let a = laws.system-accepted p A b e in
+pub system-accepted : (p : ℕ) (A : Matrix) (X b : List ℕ) → first (systemChecks p A X b) ≡ 0 → Accepted p A b
+system-accepted p A X b e =
+    let a = laws.system-accepted p A X b e in
     record { valid = valid-of a; vector = right-of a }
 
 -- the starts' number, where the code has the number of the checks
-pub matrix-sized : (p : ℕ) (A : Matrix) {number : ℕ} → number ≡ first (matrixChecks p A) → number ≡ 0
+pub scaled-sized : (p : ℕ) (A : Matrix) (X : List ℕ) {number : ℕ} → number ≡ first (scaledChecks p A X) → number ≡ 0
     → (1 ≤ length (A .starts)) × (length (A .starts) ≤ 4097)
-matrix-sized p A e z =
-    let a = matrix-accepted p A (zero-by e z) in
+scaled-sized p A X e z =
+    let a = scaled-accepted p A X (zero-by e z) in
     (omega (arith, a .start-count), omega (arith, a .size-high))
 
-pub system-sized : (p : ℕ) (A : Matrix) (b : List ℕ) {number : ℕ} → number ≡ first (systemChecks p A b) → number ≡ 0
+pub matrix-sized : (p : ℕ) (A : Matrix) {number : ℕ} → number ≡ first (matrixChecks p A) → number ≡ 0
     → (1 ≤ length (A .starts)) × (length (A .starts) ≤ 4097)
-system-sized p A b e z =
-    let a = laws.system-accepted p A b (zero-by e z) in
+matrix-sized p A e z = scaled-sized p A [] e z
+
+pub system-sized : (p : ℕ) (A : Matrix) (X b : List ℕ) {number : ℕ} → number ≡ first (systemChecks p A X b) → number ≡ 0
+    → (1 ≤ length (A .starts)) × (length (A .starts) ≤ 4097)
+system-sized p A X b e z =
+    let a = laws.system-accepted p A X b (zero-by e z) in
     (omega (arith, a .start-count), omega (arith, a .size-high))
 
 -- a product's checks are the system's, and then its slice's
@@ -198,24 +205,24 @@ module _ (p : ℕ) (A : Matrix) (v out : List ℕ) where
   slice : List Check
   slice = check 11 (not (eqb (length out) (size A))) ∷ []
 
-  productRefusal-system : productRefusal p A v out ≡ first (systemChecks p A v ++ slice)
+  productRefusal-system : productRefusal p A v out ≡ first (systemChecks p A [] v ++ slice)
   unfolding productRefusal systemChecks slice
   productRefusal-system = ap first (sym (append-assoc (matrixChecks p A) (vectorChecks p A v) slice))
 
-  pub product-refused : {number : ℕ} → number ≡ first (systemChecks p A v) → number ≢ 0 → number ≡ productRefusal p A v out
-  product-refused e q = leading-refused (systemChecks p A v) slice (numbered-system p A v) e q ∙ sym productRefusal-system
+  pub product-refused : {number : ℕ} → number ≡ first (systemChecks p A [] v) → number ≢ 0 → number ≡ productRefusal p A v out
+  product-refused e q = leading-refused (systemChecks p A [] v) slice (numbered-system p A [] v) e q ∙ sym productRefusal-system
 
-  pub product-passed : {number k : ℕ} → number ≡ first (systemChecks p A v) → number ≡ 0 → first (check 11 (not (eqb (length out) (size A))) ∷ []) ≡ k
+  pub product-passed : {number k : ℕ} → number ≡ first (systemChecks p A [] v) → number ≡ 0 → first (check 11 (not (eqb (length out) (size A))) ∷ []) ≡ k
       → k ≡ productRefusal p A v out
   unfolding slice
-  product-passed e z f = leading-passed (systemChecks p A v) slice (numbered-system p A v) e z f ∙ sym productRefusal-system
+  product-passed e z f = leading-passed (systemChecks p A [] v) slice (numbered-system p A [] v) e z f ∙ sym productRefusal-system
 
   pub product-accepted : productRefusal p A v out ≡ 0 → Accepted p A v × (length out ≡ size A)
   unfolding slice
   product-accepted e =
-      let both = first-append-zero (systemChecks p A v) slice (numbered-system p A v) (sym productRefusal-system ∙ e) in
+      let both = first-append-zero (systemChecks p A [] v) slice (numbered-system p A [] v) (sym productRefusal-system ∙ e) in
       let c11 = first-passed 11 (eqb (length out) (size A)) _ (omega arith) (both .1) in
-      (system-accepted p A v (both .0), eqb-true (length out) (size A) (c11 .0))
+      (system-accepted p A [] v (both .0), eqb-true (length out) (size A) (c11 .0))
 
 abbrev applyChecks : ℕ → Matrix → List ℕ → List ℕ → List ℕ → List ℕ → List Check
 applyChecks p A g v out work =

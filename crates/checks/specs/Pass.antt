@@ -3,11 +3,11 @@
 --     residualAt           where r begins
 --     heldElements         F and r hold elements below p
 --     stateChecks          8: D is below n; 10: the words; 11: the work slice; 9: an element of F or r
---     passRefusal          3 to 7 for field and matrix, then these
+--     passRefusal          3 to 7 for field, matrix and scales, then these
 --     refused-state        where field and matrix pass
 --     state-8, state-10, state-11, state-9, state-0      the number, by the first check that turns the state down
 --     State, state-of      what the checks leave known of a state
---     pass-accepted        .. and of field and matrix
+--     pass-accepted        .. and of field, matrix and scales
 use mathlib.Core.Path.{_≡_, ap, _∙_}
 use mathlib.Core.Bool.{Bool, true, false, not, _&&_}
 use mathlib.Core.List.{List, [], _∷_, _++_}
@@ -17,10 +17,10 @@ use lib.Dec.{ltb, leb}
 use lib.ListN.{length}
 use borrow.Author.Tests.{ltb-true, leb-true, lt-ltb, le-ltb, le-leb, lt-leb}
 use Rattle.meaning.specs.Matrix.{Matrix, size}
-use Rattle.meaning.specs.Refusal.{Check, check, first, elements, matrixChecks, wordsTaken}
+use Rattle.meaning.specs.Refusal.{Check, check, first, elements, scaledChecks, wordsTaken}
 use Rattle.laws.specs.Bool.{and-left, and-right}
 use Rattle.laws.specs.Part.{part, length-part}
-use Rattle.laws.specs.Refusal.{first-nil, first-past, first-stops, first-passed, first-append-none, first-append-zero, numbered-matrix}
+use Rattle.laws.specs.Refusal.{first-nil, first-past, first-stops, first-passed, first-append-none, first-append-zero, numbered-scaled}
 use Rattle.checks.specs.Valid.{Vector, vector-of}
 
 abbrev pub residualAt : ℕ → ℕ
@@ -37,13 +37,13 @@ stateChecks p n D words work =
     ∷ check 9 (not (heldElements p n D work))
     ∷ []
 
-unfoldable pub passRefusal : ℕ → Matrix → List ℕ → ℕ → List ℕ → ℕ
-passRefusal p A words D work = first (matrixChecks p A ++ stateChecks p (size A) D words work)
+unfoldable pub passRefusal : ℕ → Matrix → List ℕ → List ℕ → ℕ → List ℕ → ℕ
+passRefusal p A X words D work = first (scaledChecks p A X ++ stateChecks p (size A) D words work)
 
-pub refused-state : (p : ℕ) (A : Matrix) (words : List ℕ) (D : ℕ) (work : List ℕ) → first (matrixChecks p A) ≡ 0
-    → passRefusal p A words D work ≡ first (stateChecks p (size A) D words work)
+pub refused-state : (p : ℕ) (A : Matrix) (X words : List ℕ) (D : ℕ) (work : List ℕ) → first (scaledChecks p A X) ≡ 0
+    → passRefusal p A X words D work ≡ first (stateChecks p (size A) D words work)
 unfolding passRefusal
-refused-state p A words D work e = first-append-none (matrixChecks p A) (stateChecks p (size A) D words work) (numbered-matrix p A) e
+refused-state p A X words D work e = first-append-none (scaledChecks p A X) (stateChecks p (size A) D words work) (numbered-scaled p A X) e
 
 module _ (p n D : ℕ) (words work : List ℕ) where
   pub state-8 : n ≤ D → first (stateChecks p n D words work) ≡ 8
@@ -100,9 +100,9 @@ state-of p n D words work e =
       residual = vector-of p r n (length-part (residualAt n) n work (omega (arith, room))) (and-right (elements p F) (elements p r) (nine .0));
     }
 
-pub pass-accepted : (p : ℕ) (A : Matrix) (words : List ℕ) (D : ℕ) (work : List ℕ) → passRefusal p A words D work ≡ 0
-    → (first (matrixChecks p A) ≡ 0) × State p (size A) D words work
+pub pass-accepted : (p : ℕ) (A : Matrix) (X words : List ℕ) (D : ℕ) (work : List ℕ) → passRefusal p A X words D work ≡ 0
+    → (first (scaledChecks p A X) ≡ 0) × State p (size A) D words work
 unfolding passRefusal
-pass-accepted p A words D work z =
-    let both = first-append-zero (matrixChecks p A) (stateChecks p (size A) D words work) (numbered-matrix p A) z in
+pass-accepted p A X words D work z =
+    let both = first-append-zero (scaledChecks p A X) (stateChecks p (size A) D words work) (numbered-scaled p A X) z in
     (both .0, state-of p (size A) D words work (both .1))

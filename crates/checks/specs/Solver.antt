@@ -21,26 +21,26 @@ use Rattle.meaning.specs.Calls.{systemChecks, runChecks, solverRefusal}
 use Rattle.laws.specs.Refusal.{numbered-system, leading-refused, leading-passed}
 pub use Rattle.laws.specs.Accepted.{slicesTaken}
 
-module _ (p : ℕ) (A : Matrix) (b words : List ℕ) (w : ℕ) (v f work : List ℕ) where
+module _ (p : ℕ) (A : Matrix) (X b words : List ℕ) (w : ℕ) (v f work : List ℕ) where
   later : List Check
   later =
       check 10 (not (wordsTaken (size A) words)) ∷ check 13 (not (windowTaken w)) ∷ check 11 (not (slicesTaken (size A) v f work)) ∷ []
 
-  solverRefusal-system : solverRefusal p A b words w v f work ≡ first (systemChecks p A b ++ later)
+  solverRefusal-system : solverRefusal p A X b words w v f work ≡ first (systemChecks p A X b ++ later)
   unfolding solverRefusal runChecks later
   solverRefusal-system =
       ap first
-      (append-assoc (systemChecks p A b) (check 10 (not (wordsTaken (size A) words)) ∷ check 13 (not (windowTaken w)) ∷ [])
+      (append-assoc (systemChecks p A X b) (check 10 (not (wordsTaken (size A) words)) ∷ check 13 (not (windowTaken w)) ∷ [])
       (check 11 (not (slicesTaken (size A) v f work)) ∷ []))
 
-  pub solver-refused : {number : ℕ} → number ≡ first (systemChecks p A b) → number ≢ 0 → number ≡ solverRefusal p A b words w v f work
-  solver-refused e q = leading-refused (systemChecks p A b) later (numbered-system p A b) e q ∙ sym solverRefusal-system
+  pub solver-refused : {number : ℕ} → number ≡ first (systemChecks p A X b) → number ≢ 0 → number ≡ solverRefusal p A X b words w v f work
+  solver-refused e q = leading-refused (systemChecks p A X b) later (numbered-system p A X b) e q ∙ sym solverRefusal-system
 
-  pub solver-passed : {number k : ℕ} → number ≡ first (systemChecks p A b) → number ≡ 0
+  pub solver-passed : {number k : ℕ} → number ≡ first (systemChecks p A X b) → number ≡ 0
       → first (check 10 (not (wordsTaken (size A) words)) ∷ check 13 (not (windowTaken w)) ∷ check 11 (not (slicesTaken (size A) v f work)) ∷ []) ≡ k
-      → k ≡ solverRefusal p A b words w v f work
+      → k ≡ solverRefusal p A X b words w v f work
   unfolding later
-  solver-passed e z h = leading-passed (systemChecks p A b) later (numbered-system p A b) e z h ∙ sym solverRefusal-system
+  solver-passed e z h = leading-passed (systemChecks p A X b) later (numbered-system p A X b) e z h ∙ sym solverRefusal-system
 
 -- ---- 10 by a quotient
 

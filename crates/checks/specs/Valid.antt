@@ -1,7 +1,9 @@
 -- What the checks leave known of a matrix and a vector (laws' Accepted), as the code that runs without checks needs it.
 --     Valid p A        a matrix of size 0 to 4,096 with values below p
 --     Vector p n v     n elements below p
---     valid-of, right-of, vector-of      an accepted system's matrix and right side; a list that passed 8 and 9
+--     Scales p n X     no scales, or n of them, below p
+--     ValidScaled p A X     a valid matrix with such scales; valid-scaled: AX is valid then
+--     valid-of, scales-of, right-of, vector-of      an accepted system's matrix and right side; a list that passed 8 and 9
 --     elements-of, vector-elements      .. and back: elements below p pass 9
 --     term             the product of entry k with its element of v
 --     rowProduct       their sum over row i
@@ -9,20 +11,22 @@
 --     valid-entries    a valid matrix with a vector
 --     vector-table     what is reduced has elements below p
 --     row-bounds       where a row begins and ends
-use mathlib.Core.Path.{_≡_}
-use mathlib.Core.Bool.{true}
+use mathlib.Core.Path.{_≡_, sym, _∙_}
+use mathlib.Core.Logic.{_⊎_, inl, inr}
+use mathlib.Core.Bool.{true, false}
 use mathlib.Core.List.{List}
 use Prim.Native.Nat.{ℕ, _+_, _*_, _%_, _≤_, _<_}
 use native.Mathlib.Nat.{mod-lt}
 use native.Mathlib.Omega.{arith}
-use lib.Dec.{ltb}
+use lib.Dec.{eqb, ltb, leb}
 use lib.ListN.{length}
-use borrow.Author.Tests.{ltb-true, lt-ltb}
+use borrow.Author.Tests.{ltb-true, lt-ltb, eqb-true}
 use Rattle.meaning.specs.List.{at, table}
-use Rattle.meaning.specs.Matrix.{Matrix, size, rowSum}
-use Rattle.meaning.specs.Refusal.{elements}
+use Rattle.meaning.specs.Matrix.{Matrix, size, rowSum, scaleAt, scaledValues, scaled}
+use Rattle.meaning.specs.Refusal.{elements, valueTaken}
+use Rattle.laws.specs.Bool.{and-right, or-right, test-cases}
 use Rattle.laws.specs.List.{every-at, every-of, length-table, getD-table}
-use Rattle.laws.specs.Accepted.{modulus-low, modulus-high, AcceptedSystem, start-within, column-within, value-below, right-at}
+use Rattle.laws.specs.Accepted.{modulus-low, modulus-high, AcceptedSystem, AcceptedScales, start-within, column-within, value-below, right-at}
 
 pub record Valid (p : ℕ) (A : Matrix) : Type 0 where
   pub positive : 0 < p
@@ -39,6 +43,44 @@ pub record Valid (p : ℕ) (A : Matrix) : Type 0 where
 pub record Vector (p n : ℕ) (v : List ℕ) : Type 0 where
   pub places : length v ≡ n
   pub below : (i : ℕ) → i < n → at v i < p
+
+pub record Scales (p n : ℕ) (X : List ℕ) : Type 0 where
+  pub number : (length X ≡ 0) ⊎ (length X ≡ n)
+  pub below : (j : ℕ) → j < length X → at X j < p
+
+pub record ValidScaled (p : ℕ) (A : Matrix) (X : List ℕ) : Type 0 where
+  pub valid : Valid p A
+  pub scales : Scales p (size A) X
+
+pub valid-scaled : {p : ℕ} {A : Matrix} (X : List ℕ) → Valid p A → Valid p (scaled p A X)
+unfolding scaledValues
+valid-scaled {p} {A} X h =
+    record {
+      positive = h .positive;
+      small = h .small;
+      one-more = h .one-more;
+      sized = h .sized;
+      rise = h .rise;
+      within = h .within;
+      paired = h .paired ∙ sym (length-table (length (A .values)) reduced);
+      few = h .few;
+      column = h .column;
+      value = λ k l. rw (getD-table (length (A .values)) reduced k 0 (omega (arith, l, length-table (length (A .values)) reduced))) (mod-lt (at (A .values) k * scaleAt X (at (A .columns) k)) (h .positive));
+    }
+  where
+    reduced : ℕ → ℕ
+    reduced k = at (A .values) k * scaleAt X (at (A .columns) k) % p
+
+pub scales-of : {p n : ℕ} {X : List ℕ} → AcceptedScales p n X → Scales p n X
+scales-of {p} {n} {X} a =
+    record {
+      number = number-of (test-cases (eqb (length X) 0));
+      below = λ j l. ltb-true (at X j) p (and-right (leb 1 (at X j)) (ltb (at X j) p) (every-at (valueTaken p) X 0 (a .taken) j l));
+    }
+  where
+    number-of : (eqb (length X) 0 ≡ true) ⊎ (eqb (length X) 0 ≡ false) → (length X ≡ 0) ⊎ (length X ≡ n)
+    number-of (inl e) = inl (eqb-true (length X) 0 e)
+    number-of (inr e) = inr (eqb-true (length X) n (or-right (eqb (length X) 0) (eqb (length X) n) e (a .number)))
 
 pub valid-of : {p : ℕ} {A : Matrix} {b : List ℕ} → AcceptedSystem p A b → Valid p A
 valid-of {p} {A} {b} a =

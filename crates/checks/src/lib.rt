@@ -5,13 +5,14 @@
 // The contracts cite the crate meaning (Refusal: the checks; Calls: their order for each call).
 use field::is_modulus;
 ghost use mathlib.Core.Path.{_≡_};
+ghost use mathlib.Core.Bool.{_&&_};
 ghost use mathlib.Core.List.{[]};
 ghost use Prim.Native.Nat.{_+_, _-_, _≤_, _<_};
 ghost use lib.Dec.{leb};
 ghost use lib.ListN.{length};
 ghost use Rattle.meaning.specs.List.{at, all, allFrom, every};
 ghost use Rattle.meaning.specs.Matrix.{matrix};
-ghost use Rattle.meaning.specs.Refusal.{wordsTaken, first, elements, sizeTaken, startsTaken, columnsTaken, valueTaken, matrixChecks};
+ghost use Rattle.meaning.specs.Refusal.{wordsTaken, first, elements, sizeTaken, startsTaken, columnsTaken, valueTaken, scaleCountTaken, scaledChecks, matrixChecks};
 ghost use Rattle.meaning.specs.Calls.{systemChecks, productRefusal, applyRefusal, takesRefusal, recurrenceRefusal, solverRefusal};
 ghost use Rattle.checks.specs.Pass.{residualAt, stateChecks, passRefusal};
 ghost use Rattle.checks.specs.Matrix.{columnTaken, rises, Ordered};
@@ -68,6 +69,16 @@ fn starts_taken(starts: &[u32], columns: &[u32], values: &[u32]) -> bool
         & (columns.len() <= 65536)
 }
 
+// 5 with the scales' number: none, or n.
+fn shape_taken(starts: &[u32], columns: &[u32], values: &[u32], scales: &[u32]) -> bool
+    requires { ⌜ 0 < length (now starts) ⌝ }
+    ensures { λ r. ⌜ r ≡ startsTaken (matrix (now (starts .entry)) (now (columns .entry)) (now (values .entry)))
+        && scaleCountTaken (length (now (starts .entry)) - 1) (length (now (scales .entry))) ⌝ }
+{
+    starts_taken(starts, columns, values)
+        & ((scales.len() == 0) | (scales.len() == starts.len() - 1))
+}
+
 // The columns from `from` to `last` rise strictly.
 fn columns_rise(from: usize, last: usize, columns: &[u32]) -> bool
     requires { ⌜ (from ≤ last) × (last < length (now columns)) ⌝ }
@@ -108,7 +119,7 @@ fn columns_taken(starts: &[u32], columns: &[u32]) -> bool
     taken
 }
 
-// 7: the values.
+// Each value is 1 to p − 1.
 fn values_taken(p: u32, values: &[u32]) -> bool
     ensures { λ r. ⌜ r ≡ every (valueTaken p) (now (values .entry)) ⌝ }
 {
@@ -119,6 +130,13 @@ fn values_taken(p: u32, values: &[u32]) -> bool
         k += 1;
     }
     taken
+}
+
+// 7: the values of the entries, and the scales.
+fn all_values_taken(p: u32, values: &[u32], scales: &[u32]) -> bool
+    ensures { λ r. ⌜ r ≡ every (valueTaken p) (now (values .entry)) && every (valueTaken p) (now (scales .entry)) ⌝ }
+{
+    values_taken(p, values) & values_taken(p, scales)
 }
 
 // 9: every element is below p.
@@ -134,9 +152,16 @@ pub fn are_elements(p: u32, v: &[u32]) -> bool
     below
 }
 
-// 3 to 7, in their order: the number of the first that turns the field or the matrix down, 0 if none does.
-pub fn matrix_refusal(p: u32, starts: &[u32], columns: &[u32], values: &[u32]) -> u32
-    ensures { λ r. ⌜ r ≡ first (matrixChecks p (matrix (now (starts .entry)) (now (columns .entry)) (now (values .entry)))) ⌝ }
+// 3 to 7, in their order: the number of the first that turns the field, the matrix or its scales down, 0 if none does.
+pub fn scaled_refusal(
+    p: u32,
+    starts: &[u32],
+    columns: &[u32],
+    values: &[u32],
+    scales: &[u32],
+) -> u32
+    ensures { λ r. ⌜ r ≡ first (scaledChecks p (matrix (now (starts .entry)) (now (columns .entry)) (now (values .entry)))
+        (now (scales .entry))) ⌝ }
 {
     if !is_modulus(p) {
         return 3;
@@ -144,24 +169,38 @@ pub fn matrix_refusal(p: u32, starts: &[u32], columns: &[u32], values: &[u32]) -
     if !size_taken(starts) {
         return 4;
     }
-    if !starts_taken(starts, columns, values) {
+    if !shape_taken(starts, columns, values, scales) {
         return 5;
     }
     if !columns_taken(starts, columns) {
         return 6;
     }
-    if !values_taken(p, values) {
+    if !all_values_taken(p, values, scales) {
         return 7;
     }
     0
 }
 
-// 3 to 9 for a matrix and a vector.
-pub fn system_refusal(p: u32, starts: &[u32], columns: &[u32], values: &[u32], b: &[u32]) -> u32
-    ensures { λ r. ⌜ r ≡ first (systemChecks p (matrix (now (starts .entry)) (now (columns .entry)) (now (values .entry)))
-        (now (b .entry))) ⌝ }
+// The same of a field and a matrix alone.
+pub fn matrix_refusal(p: u32, starts: &[u32], columns: &[u32], values: &[u32]) -> u32
+    ensures { λ r. ⌜ r ≡ first (matrixChecks p (matrix (now (starts .entry)) (now (columns .entry)) (now (values .entry)))) ⌝ }
 {
-    let number = matrix_refusal(p, starts, columns, values);
+    scaled_refusal(p, starts, columns, values, &[])
+}
+
+// 3 to 9 for a matrix, its scales and a vector.
+pub fn system_refusal(
+    p: u32,
+    starts: &[u32],
+    columns: &[u32],
+    values: &[u32],
+    scales: &[u32],
+    b: &[u32],
+) -> u32
+    ensures { λ r. ⌜ r ≡ first (systemChecks p (matrix (now (starts .entry)) (now (columns .entry)) (now (values .entry)))
+        (now (scales .entry)) (now (b .entry))) ⌝ }
+{
+    let number = scaled_refusal(p, starts, columns, values, scales);
     if number != 0 {
         return number;
     }
@@ -186,7 +225,7 @@ pub fn product_refusal(
     ensures { λ r. ⌜ r ≡ productRefusal p (matrix (now (starts .entry)) (now (columns .entry)) (now (values .entry)))
         (now (v .entry)) (now (out .entry)) ⌝ }
 {
-    let number = system_refusal(p, starts, columns, values, v);
+    let number = system_refusal(p, starts, columns, values, &[], v);
     if number != 0 {
         return number;
     }
@@ -288,6 +327,7 @@ pub fn solver_refusal(
     starts: &[u32],
     columns: &[u32],
     values: &[u32],
+    scales: &[u32],
     b: &[u32],
     words: &[u32],
     window: u32,
@@ -296,9 +336,9 @@ pub fn solver_refusal(
     work: &[u32],
 ) -> u32
     ensures { λ r. ⌜ r ≡ solverRefusal p (matrix (now (starts .entry)) (now (columns .entry)) (now (values .entry)))
-        (now (b .entry)) (now (words .entry)) window (now (vector .entry)) (now (polynomial .entry)) (now (work .entry)) ⌝ }
+        (now (scales .entry)) (now (b .entry)) (now (words .entry)) window (now (vector .entry)) (now (polynomial .entry)) (now (work .entry)) ⌝ }
 {
-    let number = system_refusal(p, starts, columns, values, b);
+    let number = system_refusal(p, starts, columns, values, scales, b);
     if number != 0 {
         return number;
     }
@@ -352,14 +392,15 @@ pub fn pass_refusal(
     starts: &[u32],
     columns: &[u32],
     values: &[u32],
+    scales: &[u32],
     words: &[u32],
     d: usize,
     work: &[u32],
 ) -> u32
     ensures { λ r. ⌜ r ≡ passRefusal p (matrix (now (starts .entry)) (now (columns .entry)) (now (values .entry)))
-        (now (words .entry)) d (now (work .entry)) ⌝ }
+        (now (scales .entry)) (now (words .entry)) d (now (work .entry)) ⌝ }
 {
-    let number = matrix_refusal(p, starts, columns, values);
+    let number = scaled_refusal(p, starts, columns, values, scales);
     if number != 0 {
         return number;
     }

@@ -1,6 +1,6 @@
 -- Laws of sums, tables and tests over lists of numbers (meaning's List).
---     sum-zero, sum-suc, sum-ext, sum-zeros, sum-add, sum-mod       sums
---     table-zero, table-suc, length-table, getD-table, getD-table-past, table-ext, table-of      tables
+--     sum-zero, sum-suc, sum-ext, sum-zeros, sum-add, sum-mod, sum-mod-ext      sums
+--     table-zero, table-suc, length-table, getD-table, getD-table-past, getD-any, table-ext, table-of      tables
 --     all-zero, all-suc, all-at, all-of, all-not, all-ext           tests at 0 .. n − 1
 --     every-nil, every-cons, every-at, every-of, every-not, every-all      tests of each element
 --     length-none, equal→≡, equal-refl                              no elements; equality of lists
@@ -53,6 +53,11 @@ sum-mod p (suc n) f =
     ∙ sym (mod-add-mod (sum n (λ i. f i % p)) p (f n)) ∙ ap (λ x. (x + f n) % p) (sum-mod p n f)
     ∙ mod-add-mod (sum n f) p (f n) ∙ ap (λ x. x % p) (sym (sum-suc n f))
 
+-- terms that agree modulo p have sums that do
+pub sum-mod-ext : (p n : ℕ) (f g : ℕ → ℕ) → ((i : ℕ) → i < n → f i % p ≡ g i % p) → sum n f % p ≡ sum n g % p
+sum-mod-ext p n f g h =
+    sym (sum-mod p n f) ∙ ap (λ x. x % p) (sum-ext n (λ i. f i % p) (λ i. g i % p) h) ∙ sum-mod p n g
+
 -- ---- tables
 
 module _ {A : Type 0} where
@@ -79,6 +84,12 @@ module _ {A : Type 0} where
 
   pub getD-table-past : (n : ℕ) (f : ℕ → A) (i : ℕ) (d : A) → n ≤ i → getD (table n f) i d ≡ d
   getD-table-past n f i d h = List·getD-eq-default (table n f) d (subst (λ k. k ≤ i) (sym (length-table n f)) h)
+
+  -- within a list what stands past its end does not matter
+  pub getD-any : (l : List A) (i : ℕ) (d e : A) → i < length l → getD l i d ≡ getD l i e
+  getD-any [] i d e h = absurd (omega arith)
+  getD-any (a ∷ l) zero d e h = refl
+  getD-any (a ∷ l) (suc i) d e h = getD-any l i d e (le-of-suc-le-suc h)
 
   pub table-ext : (n : ℕ) (f g : ℕ → A) → ((i : ℕ) → i < n → f i ≡ g i) → table n f ≡ table n g
   table-ext zero f g h = table-zero f ∙ sym (table-zero g)

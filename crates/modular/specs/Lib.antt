@@ -4,3 +4,4 @@ pub mod Shoup
 pub mod Modulus
 pub mod Total
 pub mod Sums
+pub mod Diagonal

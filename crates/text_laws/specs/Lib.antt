@@ -13,4 +13,10 @@ pub mod Line
 pub mod Form
 pub mod Document
 pub mod Accepted
+pub mod Coordinates
+pub mod WriteRead
+pub mod ReadWrite
+pub mod Length
 pub mod Bill
+pub mod RoundTrip
+pub mod RoundTripCalls

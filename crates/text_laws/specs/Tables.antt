@@ -1,14 +1,16 @@
 -- Laws of tables, of neighbours and of lists that rise by a key.
 --     table-add, every-table, map-table                                 tables
 --     flat-table-zero, flat-table-suc, every-flat-table, map-flat-table tables of lists, one after the other
+--     flat-table-none, flat-table-one      .. where each is empty, or has one element
 --     flat-rows            the rows from start to start make up the whole table
 --     chain-nil, chain-one, chain-cons, chain-tail                      the clauses of chain
 --     chain-at, chain-of, chain-table, chain-append, chain-weaken       tests of neighbours
 --     chain-above          the first of a chain stands before each other, if what stands between may be left out
---     select-every, every-select, select-none, count-mono, count-le     selections
+--     select-every, every-select, select-none, none-selected, count-mono, count-le      selections
 --     upTo i, at-key i     the elements whose key is at most i, is i
 --     rises l, rises-strictly l      the keys of l never fall, always rise
 --     rises-above, rises-strictly-above      .. so no later key is below the first
+--     key-at               m elements that rise strictly, with keys 1 to m: the key of element k is k + 1
 --     below-count          in a list that rises, the elements with a key up to i are its first ones
 --     buckets              .. and those with the keys 1 to n, key by key, are those with a key up to n
 --     one-of-key           in a list that rises strictly no two elements have one key
@@ -16,7 +18,7 @@
 use mathlib.Core.Path.{_≡_, refl, sym, ap, ap₂, _∙_, subst}
 use mathlib.Core.Logic.{_⊎_, inl, inr}
 use mathlib.Core.Bool.{Bool, true, false, not, _&&_}
-use mathlib.Core.List.{List, [], _∷_, _++_, map, append-assoc, append-nil}
+use mathlib.Core.List.{List, [], _∷_, _++_, map, append-assoc, append-nil, cons≢nil}
 use Prim.Native.Nat.{ℕ, zero, suc, _+_, _-_, _≤_, _<_}
 use native.Mathlib.Nat.{le-of-suc-le-suc, add-zero, add-suc}
 use native.Mathlib.Omega.{arith}
@@ -25,8 +27,10 @@ use lib.Dec.{eqb, ltb, leb}
 use lib.ListN.{getD, length}
 use borrow.Author.Tests.{ltb-true, leb-true, leb-false, eqb-true, eqb-false, lt-ltb, le-ltb, le-leb, lt-leb, ne-eqb, not-true}
 use Rattle.meaning.specs.List.{table, every, chain, chainFrom, select, flat}
+use Rattle.meaning.specs.Refusal.{within}
 use Rattle.laws.specs.Bool.{and-left, and-right, and-both, test-cases, never}
-use Rattle.laws.specs.List.{table-zero, table-suc, length-table, getD-table, every-nil}
+use Rattle.laws.specs.List.{table-zero, table-suc, length-table, getD-table, every-nil, every-at}
+use Rattle.laws.specs.Refusal.{within-low, within-high}
 use Rattle.text_laws.specs.Lists.{map-append, flat-nil, flat-one, flat-append, select-nil, select-yes, select-no, every-join, every-one, every-head, every-tail, every-more, every-weaken}
 
 -- ---- tables
@@ -51,6 +55,15 @@ module _ {A : Type 0} where
   pub flat-table-suc : (n : ℕ) (g : ℕ → List A) → flat (table (suc n) g) ≡ flat (table n g) ++ g n
   flat-table-suc n g =
       ap flat (table-suc n g) ∙ flat-append (table n g) (g n ∷ []) ∙ ap (λ l. flat (table n g) ++ l) (flat-one (g n))
+
+  pub flat-table-none : (n : ℕ) (g : ℕ → List A) → ((i : ℕ) → i < n → g i ≡ []) → flat (table n g) ≡ []
+  flat-table-none zero g h = flat-table-zero g
+  flat-table-none (suc n) g h = flat-table-suc n g ∙ ap₂ _++_ (flat-table-none n g (λ i l. h i (omega arith))) (h n (omega arith))
+
+  pub flat-table-one : (n : ℕ) (f : ℕ → A) → flat (table n (λ i. f i ∷ [])) ≡ table n f
+  flat-table-one zero f = flat-table-zero (λ i. f i ∷ []) ∙ sym (table-zero f)
+  flat-table-one (suc n) f =
+      flat-table-suc n (λ i. f i ∷ []) ∙ ap (λ l. l ++ (f n ∷ [])) (flat-table-one n f) ∙ sym (table-suc n f)
 
   pub every-flat-table : (t : A → Bool) (n : ℕ) (g : ℕ → List A) → ((i : ℕ) → i < n → every t (g i) ≡ true) → every t (flat (table n g)) ≡ true
   every-flat-table t zero g h = ap (every t) (flat-table-zero g) ∙ every-nil t
@@ -170,6 +183,14 @@ module _ {A : Type 0} where
   select-none f (a ∷ l) h =
       select-no f a l (not-true (f a) (every-head (λ a. not (f a)) a l h)) ∙ select-none f l (every-tail (λ a. not (f a)) a l h)
 
+  pub none-selected : (f : A → Bool) (l : List A) → select f l ≡ [] → every (λ a. not (f a)) l ≡ true
+  none-selected f [] h = every-nil (λ a. not (f a))
+  none-selected f (a ∷ l) h = go (test-cases (f a)) (none-selected f l)
+    where
+      go : (f a ≡ true) ⊎ (f a ≡ false) → (select f l ≡ [] → every (λ a. not (f a)) l ≡ true) → every (λ a. not (f a)) (a ∷ l) ≡ true
+      go (inl e) ih = absurd (cons≢nil (sym (select-yes f a l e) ∙ h))
+      go (inr e) ih = every-more (λ a. not (f a)) a l (ap not e) (ih (sym (select-no f a l e) ∙ h))
+
   -- a weaker test selects at least as many
   pub count-mono : (f g : A → Bool) (l : List A) → ((a : A) → f a ≡ true → g a ≡ true) → length (select f l) ≤ length (select g l)
   count-mono f g [] h = omega (arith, ap length (select-nil f))
@@ -214,6 +235,31 @@ module _ {A : Type 0} (key : A → ℕ) where
   rises-strictly-above =
       chain-above (λ a b. ltb (key a) (key b))
       (λ a b c p q. let x = ltb-true (key a) (key b) p in let y = ltb-true (key b) (key c) q in lt-ltb (key a) (key c) (omega arith))
+
+  climbs : (l : List A) (d : A) → rises-strictly l ≡ true → (k j : ℕ) → k + j < length l → key (getD l k d) + j ≤ key (getD l (k + j) d)
+  climbs l d r k zero h = omega (arith, ap (λ m. key (getD l m d)) (add-zero k))
+  climbs l d r k (suc j) h =
+      omega (
+        arith,
+        climbs l d r k j (omega arith),
+        ltb-true (key (getD l (k + j) d)) (key (getD l (suc (k + j)) d)) (chain-at (λ a b. ltb (key a) (key b)) l d r (k + j) (omega arith)),
+        ap (λ m. key (getD l m d)) (add-suc k j),
+      )
+
+  pub key-at : (l : List A) (d : A) → rises-strictly l ≡ true → every (λ a. within 1 (length l) (key a)) l ≡ true
+      → (k : ℕ) → k < length l → key (getD l k d) ≡ k + 1
+  key-at l d r w k h =
+      let last = length l - 1 in
+      let inside : (i : ℕ) → i < length l → within 1 (length l) (key (getD l i d)) ≡ true = every-at (λ a. within 1 (length l) (key a)) l d w in
+      omega (
+        arith,
+        climbs l d r 0 k (omega arith),
+        ap (λ m. key (getD l m d)) (let z : 0 + k ≡ k = omega arith in z),
+        within-low 1 (length l) (key (getD l 0 d)) (inside 0 (omega arith)),
+        climbs l d r k (last - k) (omega arith),
+        ap (λ m. key (getD l m d)) (let z : k + (last - k) ≡ last = omega arith in z),
+        within-high 1 (length l) (key (getD l last d)) (inside last (omega arith)),
+      )
 
   none-below : (i : ℕ) (a : A) (l : List A) → i < key a → rises (a ∷ l) ≡ true → select (upTo i) l ≡ []
   none-below i a l h r =

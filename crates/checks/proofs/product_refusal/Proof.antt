@@ -8,6 +8,9 @@ use borrow.Author.Needs.{needs}
 use Rattle.checks.proofs.product_refusal.Statement.{statement}
 use Rattle.checks.proofs.product_refusal.Tie as tie
 
+slice-aggregate-system-refusal : tie.Need-slice-aggregate-system-refusal
+slice-aggregate-system-refusal c = search needs
+
 system-refusal-requires : tie.Need-system-refusal-requires
 system-refusal-requires c κs = search needs
 
@@ -15,7 +18,7 @@ returns : tie.Need-returns
 returns c = product-refused _ _ _ _ (c .before .system-refusal .ensures) (c .if1 .taken)
 
 sub-if2 : tie.Need-sub-if2
-sub-if2 c = omega (arith, system-sized _ _ _ (c .before .system-refusal .ensures) (c .if1 .left) .0)
+sub-if2 c = omega (arith, system-sized _ _ _ _ (c .before .system-refusal .ensures) (c .if1 .left) .0)
 
 returns-2 : tie.Need-returns-2
 returns-2 c =
@@ -33,6 +36,7 @@ pub product-refusal-spec : {M : Type 1} → statement M
 product-refusal-spec =
     tie.close
     (tie.spec
+    slice-aggregate-system-refusal
     system-refusal-requires
     returns
     sub-if2

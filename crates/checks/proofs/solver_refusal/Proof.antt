@@ -17,11 +17,11 @@ system-refusal-requires : tie.Need-system-refusal-requires
 system-refusal-requires c κs = search needs
 
 returns : tie.Need-returns
-returns c = solver-refused _ _ _ _ _ _ _ _ (c .before .system-refusal .ensures) (c .if1 .taken)
+returns c = solver-refused _ _ _ _ _ _ _ _ _ (c .before .system-refusal .ensures) (c .if1 .taken)
 
 -- n is 0 to 4,096
-sized : (c : tie.Else1) → (1 ≤ length (now (c .before .before .before .before .before .before .before .before .before .before .args .starts))) × (length (now (c .before .before .before .before .before .before .before .before .before .before .args .starts)) ≤ 4097)
-sized c = system-sized _ _ _ (c .before .system-refusal .ensures) (c .if1 .left)
+sized : (c : tie.Else1) → (1 ≤ length (now (c .before .before .before .before .before .before .before .before .before .before .before .args .starts))) × (length (now (c .before .before .before .before .before .before .before .before .before .before .before .args .starts)) ≤ 4097)
+sized c = system-sized _ _ _ _ (c .before .system-refusal .ensures) (c .if1 .left)
 
 sub-n : tie.Need-sub-n
 sub-n c = omega (arith, sized c .0)
@@ -32,19 +32,19 @@ words-taken-requires c κs = search needs
 returns-2 : tie.Need-returns-2
 returns-2 c =
     let system = c .before .before in
-    solver-passed _ _ _ _ _ _ _ _ (system .before .system-refusal .ensures) (system .if1 .left)
+    solver-passed _ _ _ _ _ _ _ _ _ (system .before .system-refusal .ensures) (system .if1 .left)
     (first-stops 10 _ _ (sym (ap not (c .before .words-taken .ensures)) ∙ c .if2 .taken))
 
 returns-3 : tie.Need-returns-3
 returns-3 c =
     let words = c .before in
     let system = words .before .before in
-    solver-passed _ _ _ _ _ _ _ _ (system .before .system-refusal .ensures) (system .if1 .left)
+    solver-passed _ _ _ _ _ _ _ _ _ (system .before .system-refusal .ensures) (system .if1 .left)
     (first-past 10 _ _ (sym (ap not (words .before .words-taken .ensures)) ∙ words .if2 .left) ∙ first-stops 13 _ _ (ap not (lt-leb _ 64 (c .if3 .taken))))
 
 -- the window is at most 64
-low : (c : tie.Else3) → windowTaken (c .before .before .before .before .before .before .before .before .before .before .before .before .before .args .window) ≡ true
-low c = le-leb (c .before .before .before .before .before .before .before .before .before .before .before .before .before .args .window) 64 (omega (arith, c .if3 .left))
+low : (c : tie.Else3) → windowTaken (c .before .before .before .before .before .before .before .before .before .before .before .before .before .before .args .window) ≡ true
+low c = le-leb (c .before .before .before .before .before .before .before .before .before .before .before .before .before .before .args .window) 64 (omega (arith, c .if3 .left))
 
 add-if4 : tie.Need-add-if4
 add-if4 c = let few = sized (c .before .before .before) .1 in omega (arith, few)
@@ -60,7 +60,7 @@ returns-4 c =
     let window = c .before in
     let words = window .before in
     let system = words .before .before in
-    solver-passed _ _ _ _ _ _ _ _ (system .before .system-refusal .ensures) (system .if1 .left)
+    solver-passed _ _ _ _ _ _ _ _ _ (system .before .system-refusal .ensures) (system .if1 .left)
     (first-past 10 _ _ (sym (ap not (words .before .words-taken .ensures)) ∙ words .if2 .left)
     ∙ first-past 13 _ _ (ap not (low window)) ∙ first-stops 11 _ _ (c .if4 .taken))
 
@@ -69,7 +69,7 @@ returns-5 c =
     let window = c .before in
     let words = window .before in
     let system = words .before .before in
-    solver-passed _ _ _ _ _ _ _ _ (system .before .system-refusal .ensures) (system .if1 .left)
+    solver-passed _ _ _ _ _ _ _ _ _ (system .before .system-refusal .ensures) (system .if1 .left)
     (first-past 10 _ _ (sym (ap not (words .before .words-taken .ensures)) ∙ words .if2 .left)
     ∙ first-past 13 _ _ (ap not (low window)) ∙ first-past 11 _ _ (c .if4 .left) ∙ first-nil)
 
