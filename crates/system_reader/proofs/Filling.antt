@@ -2,7 +2,7 @@
 --     laid-more, laid-all              k places of a list are laid over another; one place more; all places
 --     front-fill                       a table laid over a list, extended by a run of one value
 --     Reached                          k lines of one form are done; reached-none, line-there, reached-more: its begin, and its turn
---     EntriesFilled                    after k `a` lines; entries-begin, entry-line-more, starts-done, columns-done, values-done: its begin, its turn and its end
+--     EntriesFilled                    after k `a` lines; entries-begin, entry-bounds, entry-turn, starts-done, columns-done, values-done: its begin, its turn and its end
 use mathlib.Core.Path.{_≡_, refl, sym, ap, ap₂, _∙_, subst}
 use mathlib.Core.Logic.{_⊎_, inl, inr}
 use mathlib.Core.Bool.{Bool, true, false, not, _&&_, _||_}
@@ -213,12 +213,25 @@ module _ (s : List ℕ) (from count n : ℕ) (starts₀ columns₀ values₀ sta
   abbrev all-entries : List (List ℕ)
   all-entries = entriesOf (drop from s)
 
-  pub entry-here : k < count → (r : Numbers) → LineAt s i (97 ∷ []) 3 r → Here s i (r .next) text.entry (r .first ∷ r .second ∷ r .third ∷ [])
-  entry-here h r l =
-      let o = l text.entry refl entry-word refl in
-      line-there text.entry (entriesTaken n 0 0) s from count n a i k (f .reached) h entry-fresh (r .taken) _ (r .next) (o .found) (o .missing)
+  -- before the last, and the line that is there
+  module _ (h : k < count) (r : Numbers) (l : LineAt s i (97 ∷ []) 3 r) where
+    abbrev x : ℕ
+    x = r .first
 
-  module _ (x y z next : ℕ) (h : k < count) (line : Here s i next text.entry (x ∷ y ∷ z ∷ [])) where
+    abbrev y : ℕ
+    y = r .second
+
+    abbrev z : ℕ
+    z = r .third
+
+    abbrev next : ℕ
+    next = r .next
+
+    line : Here s i next text.entry (x ∷ y ∷ z ∷ [])
+    line =
+        let o = l text.entry refl entry-word refl in
+        line-there text.entry (entriesTaken n 0 0) s from count n a i k (f .reached) h entry-fresh (r .taken) _ next (o .found) (o .missing)
+
     inside : k < length all-entries
     inside = reached-inside text.entry (entriesTaken n 0 0) s from count n a i k (f .reached) h
 
@@ -245,10 +258,10 @@ module _ (s : List ℕ) (from count n : ℕ) (starts₀ columns₀ values₀ sta
         ∙ every-more (λ e. leb x (row e)) (x ∷ y ∷ z ∷ []) (entriesOf (drop next s)) (le-leb x x (omega arith))
         (taken-rows n x y (entriesOf (drop next s)) (and-right (entryTaken n above (f .left) x y) (entriesTaken n x y (entriesOf (drop next s))) both-taken))
 
-    pub entry-line-more : (starts′ : List ℕ) → n + 1 ≤ length starts₀ → count ≤ length columns₀ → count ≤ length values₀ → length starts′ ≡ length starts
+    pub entry-turn : (starts′ : List ℕ) → n + 1 ≤ length starts₀ → count ≤ length columns₀ → count ≤ length values₀ → length starts′ ≡ length starts
         → starts′ ≡ sets starts above (replicate (x - above) k)
         → EntriesFilled s from count n starts₀ columns₀ values₀ starts′ (set columns k (y - 1)) (set values k z) next x (k + 1)
-    entry-line-more starts′ r₁ r₂ r₃ len e =
+    entry-turn starts′ r₁ r₂ r₃ len e =
         let b = entry-bounds in
         let q : above + (x - above) ≡ x = omega (arith, b .3) in
         record {

@@ -1,6 +1,6 @@
 -- The second pass over lines of a place and a value: what the slice holds after k of them.
 --     placeAt none es i    what place i of the meaning's `placed` holds
---     PlacesFilled         after k lines; places-begin, place-here, place-line-more, places-done: its begin, its turn and its end
+--     PlacesFilled         after k lines; places-begin, place-bounds, place-turn, places-done: its begin, its turn and its end
 use mathlib.Core.Path.{_≡_, refl, sym, ap, ap₂, _∙_, subst}
 use mathlib.Core.Bool.{Bool, true, not, _&&_}
 use mathlib.Core.List.{List, [], _∷_, _++_, append-nil}
@@ -74,79 +74,87 @@ module _ (w s : List ℕ) (from count n none : ℕ) (out₀ out : List ℕ) (i k
   abbrev all-places : List (List ℕ)
   all-places = placesOf w (drop from s)
 
-  module _ (h : k < count) where
-    pub place-here : (r : Numbers) → LineAt s i w 2 r → Here s i (r .next) (placedBy w) (r .first ∷ r .second ∷ [])
-    place-here r l =
+  module _ (h : k < count) (r : Numbers) (l : LineAt s i w 2 r) where
+    abbrev x : ℕ
+    x = r .first
+
+    abbrev z : ℕ
+    z = r .second
+
+    abbrev next : ℕ
+    next = r .next
+
+    line : Here s i next (placedBy w) (x ∷ z ∷ [])
+    line =
         let o = place-line w s i r (a .word) l in
-        line-there (placedBy w) (placesAfter n 0) s from count n (a .ahead) i k (f .reached) h (place-fresh w) (r .taken) _ (r .next) (o .0) (o .1)
+        line-there (placedBy w) (placesAfter n 0) s from count n (a .ahead) i k (f .reached) h (place-fresh w) (r .taken) _ next (o .0) (o .1)
 
-    module _ (x z next : ℕ) (line : Here s i next (placedBy w) (x ∷ z ∷ [])) where
-      split : drop k all-places ≡ (x ∷ z ∷ []) ∷ placesOf w (drop next s)
-      split = reached-split (placedBy w) (placesAfter n 0) s from count n (a .ahead) i k (f .reached) h (x ∷ z ∷ []) next line
+    split : drop k all-places ≡ (x ∷ z ∷ []) ∷ placesOf w (drop next s)
+    split = reached-split (placedBy w) (placesAfter n 0) s from count n (a .ahead) i k (f .reached) h (x ∷ z ∷ []) next line
 
-      inside : k < length all-places
-      inside = reached-inside (placedBy w) (placesAfter n 0) s from count n (a .ahead) i k (f .reached) h
+    inside : k < length all-places
+    inside = reached-inside (placedBy w) (placesAfter n 0) s from count n (a .ahead) i k (f .reached) h
 
-      here-is : getD all-places k [] ≡ x ∷ z ∷ []
-      here-is = reached-here (placedBy w) (placesAfter n 0) s from count n (a .ahead) i k (f .reached) h (x ∷ z ∷ []) next line
+    here-is : getD all-places k [] ≡ x ∷ z ∷ []
+    here-is = reached-here (placedBy w) (placesAfter n 0) s from count n (a .ahead) i k (f .reached) h (x ∷ z ∷ []) next line
 
-      reached : Reached (placedBy w) s from count next (k + 1)
-      reached = reached-more (placedBy w) (placesAfter n 0) s from count n (a .ahead) i k (f .reached) h (x ∷ z ∷ []) next line
+    reached : Reached (placedBy w) s from count next (k + 1)
+    reached = reached-more (placedBy w) (placesAfter n 0) s from count n (a .ahead) i k (f .reached) h (x ∷ z ∷ []) next line
 
-      both-taken : placeTaken n (f .above) x && placesAfter n x (placesOf w (drop next s)) ≡ true
-      both-taken =
-          sym (placesAfter-cons n (f .above) (x ∷ z ∷ []) (placesOf w (drop next s)))
-          ∙ ap (placesAfter n (f .above)) (sym split) ∙ f .taken
+    both-taken : placeTaken n (f .above) x && placesAfter n x (placesOf w (drop next s)) ≡ true
+    both-taken =
+        sym (placesAfter-cons n (f .above) (x ∷ z ∷ []) (placesOf w (drop next s)))
+        ∙ ap (placesAfter n (f .above)) (sym split) ∙ f .taken
 
-      pub place-bounds : (1 ≤ x) × (x ≤ n) × (f .above < x)
-      place-bounds = place-low n (f .above) x (and-left (placeTaken n (f .above) x) (placesAfter n x (placesOf w (drop next s))) both-taken)
+    pub place-bounds : (1 ≤ x) × (x ≤ n) × (f .above < x)
+    place-bounds = place-low n (f .above) x (and-left (placeTaken n (f .above) x) (placesAfter n x (placesOf w (drop next s))) both-taken)
 
-      more : take (k + 1) all-places ≡ take k all-places ++ ((x ∷ z ∷ []) ∷ [])
-      more = ap (λ j. take j all-places) (add-one k) ∙ take-suc all-places k [] inside ∙ ap (λ e. take k all-places ++ (e ∷ [])) here-is
+    more : take (k + 1) all-places ≡ take k all-places ++ ((x ∷ z ∷ []) ∷ [])
+    more = ap (λ j. take j all-places) (add-one k) ∙ take-suc all-places k [] inside ∙ ap (λ e. take k all-places ++ (e ∷ [])) here-is
 
-      selected : (j : ℕ) → select (λ e. eqb (row e) (j + 1)) (take (k + 1) all-places)
-          ≡ select (λ e. eqb (row e) (j + 1)) (take k all-places) ++ select (λ e. eqb (row e) (j + 1)) ((x ∷ z ∷ []) ∷ [])
-      selected j = ap (select (λ e. eqb (row e) (j + 1))) more ∙ select-append (λ e. eqb (row e) (j + 1)) (take k all-places) ((x ∷ z ∷ []) ∷ [])
+    selected : (j : ℕ) → select (λ e. eqb (row e) (j + 1)) (take (k + 1) all-places)
+        ≡ select (λ e. eqb (row e) (j + 1)) (take k all-places) ++ select (λ e. eqb (row e) (j + 1)) ((x ∷ z ∷ []) ∷ [])
+    selected j = ap (select (λ e. eqb (row e) (j + 1))) more ∙ select-append (λ e. eqb (row e) (j + 1)) (take k all-places) ((x ∷ z ∷ []) ∷ [])
 
-      -- at this place, none before
-      now-here : placeAt none (take (k + 1) all-places) (x - 1) ≡ z
-      now-here =
-          let b = place-bounds in
-          let q : x ≡ x - 1 + 1 = omega (arith, b .0) in
-          let g : List ℕ → Bool = λ e. eqb (row e) (x - 1 + 1) in
-          let first : select g (take k all-places) ≡ [] =
-          select-nothing g (take k all-places)
-          (every-weaken (λ e. leb (row e) (f .above)) (λ e. not (g e)) (take k all-places)
-          (λ e t. ap not (ne-eqb (row e) (x - 1 + 1) (λ c. omega (arith, leb-true (row e) (f .above) t, b .2, q)))) (f .passed)) in
-          let then : select g ((x ∷ z ∷ []) ∷ []) ≡ (x ∷ z ∷ []) ∷ [] =
-          select-yes g (x ∷ z ∷ []) [] (eq-eqb x (x - 1 + 1) q) ∙ ap (λ t. (x ∷ z ∷ []) ∷ t) (select-nil g) in
-          ap (λ l. at (getD l 0 ((x - 1 + 1) ∷ none ∷ [])) 1) (selected (x - 1) ∙ ap₂ _++_ first then)
+    -- at this place, none before
+    now-here : placeAt none (take (k + 1) all-places) (x - 1) ≡ z
+    now-here =
+        let b = place-bounds in
+        let q : x ≡ x - 1 + 1 = omega (arith, b .0) in
+        let g : List ℕ → Bool = λ e. eqb (row e) (x - 1 + 1) in
+        let first : select g (take k all-places) ≡ [] =
+        select-nothing g (take k all-places)
+        (every-weaken (λ e. leb (row e) (f .above)) (λ e. not (g e)) (take k all-places)
+        (λ e t. ap not (ne-eqb (row e) (x - 1 + 1) (λ c. omega (arith, leb-true (row e) (f .above) t, b .2, q)))) (f .passed)) in
+        let then : select g ((x ∷ z ∷ []) ∷ []) ≡ (x ∷ z ∷ []) ∷ [] =
+        select-yes g (x ∷ z ∷ []) [] (eq-eqb x (x - 1 + 1) q) ∙ ap (λ t. (x ∷ z ∷ []) ∷ t) (select-nil g) in
+        ap (λ l. at (getD l 0 ((x - 1 + 1) ∷ none ∷ [])) 1) (selected (x - 1) ∙ ap₂ _++_ first then)
 
-      else-same : (j : ℕ) → (j ≡ x - 1 → ⊥) → placeAt none (take (k + 1) all-places) j ≡ placeAt none (take k all-places) j
-      else-same j d =
-          let g : List ℕ → Bool = λ e. eqb (row e) (j + 1) in
-          let then : select g ((x ∷ z ∷ []) ∷ []) ≡ [] = select-no g (x ∷ z ∷ []) [] (ne-eqb x (j + 1) (λ c. d (omega arith))) ∙ select-nil g in
-          ap (λ l. at (getD l 0 ((j + 1) ∷ none ∷ [])) 1)
-          (selected j ∙ ap (λ t. select g (take k all-places) ++ t) then ∙ append-nil (select g (take k all-places)))
+    else-same : (j : ℕ) → (j ≡ x - 1 → ⊥) → placeAt none (take (k + 1) all-places) j ≡ placeAt none (take k all-places) j
+    else-same j d =
+        let g : List ℕ → Bool = λ e. eqb (row e) (j + 1) in
+        let then : select g ((x ∷ z ∷ []) ∷ []) ≡ [] = select-no g (x ∷ z ∷ []) [] (ne-eqb x (j + 1) (λ c. d (omega arith))) ∙ select-nil g in
+        ap (λ l. at (getD l 0 ((j + 1) ∷ none ∷ [])) 1)
+        (selected j ∙ ap (λ t. select g (take k all-places) ++ t) then ∙ append-nil (select g (take k all-places)))
 
-      pub place-line-more : n ≤ length out₀ → PlacesFilled w s from count n none out₀ (set out (x - 1) z) next (k + 1)
-      place-line-more r =
-          let b = place-bounds in
-          record {
-            reached = reached;
-            above = x;
-            taken =
-                ap (placesAfter n x) (sym (reached .rest))
-                ∙ and-right (placeTaken n (f .above) x) (placesAfter n x (placesOf w (drop next s))) both-taken;
-            passed = passed-more all-places k (f .above) (x ∷ z ∷ []) inside here-is (omega (arith, b .2)) (f .passed);
-            outLength = length-set out (x - 1) z ∙ f .outLength;
-            outNow =
-                ap (λ t. set t (x - 1) z) (f .outNow)
-                ∙ set-append-left (table n (placeAt none (take k all-places))) (drop n out₀) (x - 1) z
-                (subst (λ t. x - 1 < t) (sym (length-table n (placeAt none (take k all-places)))) (omega (arith, b .0, b .1)))
-                ∙ ap (λ t. t ++ drop n out₀)
-                (table-set n (placeAt none (take k all-places)) (placeAt none (take (k + 1) all-places)) (x - 1) z (omega (arith, b .0, b .1)) now-here else-same);
-          }
+    pub place-turn : n ≤ length out₀ → PlacesFilled w s from count n none out₀ (set out (x - 1) z) next (k + 1)
+    place-turn m =
+        let b = place-bounds in
+        record {
+          reached = reached;
+          above = x;
+          taken =
+              ap (placesAfter n x) (sym (reached .rest))
+              ∙ and-right (placeTaken n (f .above) x) (placesAfter n x (placesOf w (drop next s))) both-taken;
+          passed = passed-more all-places k (f .above) (x ∷ z ∷ []) inside here-is (omega (arith, b .2)) (f .passed);
+          outLength = length-set out (x - 1) z ∙ f .outLength;
+          outNow =
+              ap (λ t. set t (x - 1) z) (f .outNow)
+              ∙ set-append-left (table n (placeAt none (take k all-places))) (drop n out₀) (x - 1) z
+              (subst (λ t. x - 1 < t) (sym (length-table n (placeAt none (take k all-places)))) (omega (arith, b .0, b .1)))
+              ∙ ap (λ t. t ++ drop n out₀)
+              (table-set n (placeAt none (take k all-places)) (placeAt none (take (k + 1) all-places)) (x - 1) z (omega (arith, b .0, b .1)) now-here else-same);
+        }
 
   pub places-done : count ≤ k → (old : List ℕ) → drop n out₀ ≡ drop n old → out ≡ overwrite (placed n none all-places) old
   unfolding placed

@@ -7,9 +7,9 @@
 --     Tested                           what a test says of the lines between two places
 --     Passed, Read                     what is known of the lines of one form that were read, and where they end
 --     EntriesPassed, EntriesRead, PlacesPassed, PlacesRead         .. of the `a` lines, and of those of a place and a value
--- Laws: entries-places, places-places: all places are taken exactly if check 6 takes them; passed-none, passed-more, passed-end: no line, a line
--- more, the last one; entry-more, entries-end, place-more, places-end; placed-form: what holds of both forms; place-line: a line with
--- the word w, or none.
+-- Laws: placed-form: what holds of both forms; place-line: a line with the word w, or none; entries-places, places-rise: all places are taken exactly
+-- if check 6 takes them; passed-none, passed-more, passed-end: no line, a line more, the last one; entry-more, entries-end; places-begin, place-more,
+-- places-end; entry-fresh, place-fresh: no line of that form stands after them.
 use mathlib.Core.Path.{_≡_, refl, sym, ap, ap₂, _∙_, subst}
 use mathlib.Core.Logic.{_⊎_, inl, inr}
 use mathlib.Core.Bool.{Bool, true, false, cond, _&&_, _||_, and-true, and-assoc, or-false}
@@ -202,8 +202,8 @@ entries-places n =
     (λ e es. entriesTaken-cons n 0 0 e es
     ∙ ap (λ t. t && entriesTaken n (row e) (at e 1) es) (row-first n (row e) (eqb 0 (row e) && ltb 0 (at e 1)) (within 1 n (at e 1))))
 
-pub places-places : (n : ℕ) (es : List (List ℕ)) → placesAfter n 0 es ≡ rowsRise n es
-places-places n =
+pub places-rise : (n : ℕ) (es : List (List ℕ)) → placesAfter n 0 es ≡ rowsRise n es
+places-rise n =
     taken-all (λ e. within 1 n (row e)) (λ e f. ltb (row e) (row f)) (λ e. placesAfter n (row e)) (λ e. placesAfter-nil n (row e)) (λ e. placesAfter-cons n (row e))
     (placesAfter n 0) (placesAfter-nil n 0)
     (λ e es. placesAfter-cons n 0 e es ∙ ap (λ t. t && placesAfter n (row e) es) (first-row (row e)))

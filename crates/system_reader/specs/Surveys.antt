@@ -26,7 +26,7 @@ use Rattle.laws.specs.Bool.{and-left, and-right, and-five, and-false-left, and-
 use Rattle.laws.specs.Refusal.{first-past, first-stops, first-passed}
 use Rattle.system_reader.specs.Order.{onward, closing, body, whole, whole-header, whole-form}
 use Rattle.system_reader.specs.Lines.{Here, said, Missing, scale-word, element-word, header-missing}
-use Rattle.system_reader.specs.Places.{placedBy, PlaceWord, entriesOf, scalesOf, elementsOf, entriesTaken, placesAfter, entryValues, placeValues, ones, entries-places, places-places, EntriesRead, PlacesRead, saying-here, saying-past}
+use Rattle.system_reader.specs.Places.{placedBy, PlaceWord, entriesOf, scalesOf, elementsOf, entriesTaken, placesAfter, entryValues, placeValues, ones, entries-places, places-rise, EntriesRead, PlacesRead, saying-here, saying-past}
 use Rattle.system_reader.specs.Fill.{Ahead, EntriesAhead, PlacesAhead, startsOf, columnsOf, valuesOf}
 use Rattle.system_reader.specs.declared.survey.Group.{Group}
 use Rattle.system_reader.specs.declared.survey.Placed.{Placed}
@@ -167,7 +167,7 @@ module _ (s : List ℕ) (p n k next : ℕ) (h : Here s 0 next text.header (p ∷
 places-all : (d : Document) → placesTaken d ≡ placesOfAll (d .size) (d .entries) (d .scales) (d .elements)
 unfolding placesTaken
 places-all d =
-    sym (ap₂ _&&_ (ap₂ _&&_ (entries-places (d .size) (d .entries)) (ap (λ t. t && someScale (d .scales)) (places-places (d .size) (d .scales)))) (places-places (d .size) (d .elements)))
+    sym (ap₂ _&&_ (ap₂ _&&_ (entries-places (d .size) (d .entries)) (ap (λ t. t && someScale (d .scales)) (places-rise (d .size) (d .scales)))) (places-rise (d .size) (d .elements)))
 
 values-all : (d : Document) → valuesTaken d ≡ valuesOfAll (d .modulus) (d .entries) (d .scales) (d .elements)
 unfolding valuesTaken

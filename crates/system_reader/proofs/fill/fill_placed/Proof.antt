@@ -3,7 +3,7 @@ use mathlib.Core.Path.{sym, subst, _∙_}
 use Prim.Native.Nat.{_-_, _+_, _≤_}
 use native.Mathlib.Omega.{arith}
 use lib.ListN.{set}
-use Rattle.system_reader.proofs.FillingPlaces.{PlacesFilled, places-begin, place-here, place-bounds, place-line-more, places-done, rest-kept}
+use Rattle.system_reader.proofs.FillingPlaces.{PlacesFilled, places-begin, place-bounds, place-turn, places-done, rest-kept}
 use borrow.Author.Needs.{needs}
 use Rattle.system_reader.proofs.fill.fill_placed.Statement.{statement}
 use Rattle.system_reader.proofs.fill.fill_placed.Tie as tie
@@ -34,8 +34,7 @@ sub-out c =
     let b = l .before .before in
     let d = b .before .before .before .before .before .before .before .before in
     let t = l .before .loop-test .taken in
-    let h = place-here (d .args .word .now) (d .args .text .now) (d .args .from) (d .args .count) (d .args .n) (d .args .none) _ (b .loop .out) (b .loop .at) (b .loop .k) (d .pre .0) (b .loop .inv) t (l .line .result) (l .line .ensures) in
-    let e = place-bounds (d .args .word .now) (d .args .text .now) (d .args .from) (d .args .count) (d .args .n) (d .args .none) _ (b .loop .out) (b .loop .at) (b .loop .k) (d .pre .0) (b .loop .inv) t _ _ _ h in
+    let e = place-bounds (d .args .word .now) (d .args .text .now) (d .args .from) (d .args .count) (d .args .n) (d .args .none) _ (b .loop .out) (b .loop .at) (b .loop .k) (d .pre .0) (b .loop .inv) t (l .line .result) (l .line .ensures) in
     omega (arith, e .0, c .wide .ensures .0)
 
 mul-out : tie.Need-mul-out Inv-loop μ-loop
@@ -47,8 +46,7 @@ slice-write-out c =
     let b = l .before .before in
     let d = b .before .before .before .before .before .before .before .before in
     let t = l .before .loop-test .taken in
-    let h = place-here (d .args .word .now) (d .args .text .now) (d .args .from) (d .args .count) (d .args .n) (d .args .none) _ (b .loop .out) (b .loop .at) (b .loop .k) (d .pre .0) (b .loop .inv) t (l .line .result) (l .line .ensures) in
-    let e = place-bounds (d .args .word .now) (d .args .text .now) (d .args .from) (d .args .count) (d .args .n) (d .args .none) _ (b .loop .out) (b .loop .at) (b .loop .k) (d .pre .0) (b .loop .inv) t _ _ _ h in
+    let e = place-bounds (d .args .word .now) (d .args .text .now) (d .args .from) (d .args .count) (d .args .n) (d .args .none) _ (b .loop .out) (b .loop .at) (b .loop .k) (d .pre .0) (b .loop .inv) t (l .line .result) (l .line .ensures) in
     omega (arith, e .0, e .1, c .wide .ensures .0, d .pre .1, b .loop .inv .outLength, b .before .before .before .fill .kept .0)
 
 add-k : tie.Need-add-k Inv-loop μ-loop
@@ -65,11 +63,10 @@ loop-again c =
     let t = l .before .loop-test .taken in
     let r = l .line .result in
     let f = b .before .before .before .fill in
-    let h = place-here (d .args .word .now) (d .args .text .now) (d .args .from) (d .args .count) (d .args .n) (d .args .none) _ (b .loop .out) (b .loop .at) (b .loop .k) (d .pre .0) (b .loop .inv) t r (l .line .ensures) in
     subst (λ x. PlacesFilled (d .args .word .now) (d .args .text .now) (d .args .from) (d .args .count) (d .args .n) (d .args .none) (f .last .0) (set (b .loop .out) (x - 1) (r .second)) (r .next) (b .loop .k + 1))
     (sym (c .wide .ensures .0))
-    (place-line-more (d .args .word .now) (d .args .text .now) (d .args .from) (d .args .count) (d .args .n) (d .args .none) (f .last .0) (b .loop .out) (b .loop .at) (b .loop .k) (d .pre .0) (b .loop .inv)
-    t (r .first) (r .second) (r .next) h
+    (place-turn (d .args .word .now) (d .args .text .now) (d .args .from) (d .args .count) (d .args .n) (d .args .none) (f .last .0) (b .loop .out) (b .loop .at) (b .loop .k) (d .pre .0) (b .loop .inv)
+    t r (l .line .ensures)
     (subst (λ m. d .args .n ≤ m) (sym (f .kept .0)) (d .pre .1)))
 
 same-length : tie.Need-same-length Inv-loop μ-loop
