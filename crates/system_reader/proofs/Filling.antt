@@ -1,7 +1,8 @@
 -- The second pass: what the slices hold after k lines.
 --     laid-more, laid-all              k places of a list are laid over another; one place more; all places
 --     front-fill                       a table laid over a list, extended by a run of one value
---     EntriesFilled                    after k `a` lines; entry-here, entry-line-more, entries-done: its turn and its end
+--     Reached                          k lines of one form are done; reached-none, line-there, reached-more: its begin, and its turn
+--     EntriesFilled                    after k `a` lines; entries-begin, entry-bounds, entry-turn, starts-done, columns-done, values-done: its begin, its turn and its end
 use mathlib.Core.Path.{_≡_, refl, sym, ap, ap₂, _∙_, subst}
 use mathlib.Core.Logic.{_⊎_, inl, inr}
 use mathlib.Core.Bool.{Bool, true, false, not, _&&_, _||_}
@@ -13,18 +14,18 @@ use native.Mathlib.Numerals.{add-one}
 use lib.Dec.{eqb, ltb, leb}
 use lib.ListN.{getD, length, take, drop, set, replicate, length-drop, length-set, length-map, take-append-drop, drop-of-length-le, List·getD-map}
 use lib.Seq.{sets, drop-cons, take-suc, take-length, length-take-le, set-at, append-snoc, drop-drop}
-use borrow.Author.Tests.{leb-true, le-leb, lt-leb, ltb-true, eqb-true, not-true}
+use borrow.Author.Tests.{leb-true, le-leb, lt-leb, ltb-true, eqb-true, eq-eqb, not-true}
 use Rattle.meaning.specs.List.{at, table, every, select, overwrite}
 use Rattle.meaning.specs.Text as text
-use Rattle.meaning.specs.Text.{lines, row}
+use Rattle.meaning.specs.Text.{lines, saying, row}
 use Rattle.meaning.specs.Refusal.{within}
 use Rattle.laws.specs.Bool.{and-left, and-right, test-cases}
 use Rattle.laws.specs.List.{table-suc, table-zero, length-table, every-nil}
 use Rattle.text_laws.specs.Lists.{select-nil, select-no, select-append, select-all, every-join, every-one, every-head, every-tail, every-more, every-weaken}
-use Rattle.system_reader.specs.Order.{body, right-none, body-entry}
-use Rattle.system_reader.specs.Lines.{Here, said, LineAt, entry-word, entry-missing}
-use Rattle.system_reader.specs.Places.{entryTaken, elementTaken, entriesTaken, entriesTaken-cons, entriesOf, saying-here}
-use Rattle.system_reader.specs.Fill.{startsOf, columnsOf, valuesOf, EntriesAhead}
+use Rattle.system_reader.specs.Order.{onward, formsAfter, fresh, order-more, order-none}
+use Rattle.system_reader.specs.Lines.{Here, said, Missing, LineAt, entry-word, form-missing}
+use Rattle.system_reader.specs.Places.{entryTaken, placeTaken, entriesTaken, entriesTaken-cons, entriesOf, saying-here, entry-fresh}
+use Rattle.system_reader.specs.Fill.{startsOf, columnsOf, valuesOf, Ahead, EntriesAhead}
 use Rattle.system_reader.specs.declared.numeral.Numbers.{Numbers}
 
 -- ---- a list laid over another
@@ -95,8 +96,8 @@ entry-low n i j x y e =
     order (inl t) o = omega (arith, ltb-true i x t)
     order (inr t) o = omega (arith, eqb-true i x (and-left (eqb i x) (ltb j y) (sym (ap (λ u. u || (eqb i x && ltb j y)) t) ∙ o)))
 
-pub element-low : (n i x : ℕ) → elementTaken n i x ≡ true → (1 ≤ x) × (x ≤ n) × (i < x)
-element-low n i x e =
+pub place-low : (n i x : ℕ) → placeTaken n i x ≡ true → (1 ≤ x) × (x ≤ n) × (i < x)
+place-low n i x e =
     let a = and-left (within 1 n x) (ltb i x) e in
     (leb-true 1 x (and-left (leb 1 x) (leb x n) a), leb-true x n (and-right (leb 1 x) (leb x n) a), ltb-true i x (and-right (within 1 n x) (ltb i x) e))
 
@@ -126,14 +127,60 @@ head-is es k e r l q = sym (ap (λ t. getD t 0 []) (drop-cons es k [] l)) ∙ ap
 pub tail-is : (es : List (List ℕ)) (k : ℕ) (e : List ℕ) (r : List (List ℕ)) → drop k es ≡ e ∷ r → r ≡ drop (k + 1) es
 tail-is es k e r q = sym (ap (drop 1) q) ∙ drop-drop 1 k es
 
+-- ---- k lines are done
+
+-- of `count` lines of form f from the place `from` on k are done, and the others begin at the place i
+pub record Reached (f : text.Form) (s : List ℕ) (from count i k : ℕ) : Type 0 where
+  pub few : k ≤ count
+  pub within : i ≤ length s
+  pub form : onward f (lines (drop i s)) ≡ true
+  pub rest : saying f (lines (drop i s)) ≡ drop k (saying f (lines (drop from s)))
+
+module _ (f : text.Form) (test : List (List ℕ) → Bool) (s : List ℕ) (from count n : ℕ) (a : Ahead f test s from count n) where
+  abbrev all-lines : List (List ℕ)
+  all-lines = saying f (lines (drop from s))
+
+  pub reached-none : Reached f s from count from 0
+  reached-none = record { few = omega arith; within = a .within; form = a .form; rest = refl }
+
+  module _ (i k : ℕ) (r : Reached f s from count i k) (h : k < count) where
+    pub reached-inside : k < length all-lines
+    reached-inside = subst (λ c. k < c) (sym (a .all)) h
+
+    -- before the last: a line is there
+    pub line-there : fresh f (formsAfter f) ≡ true → (t : Bool) (e : List ℕ) (next : ℕ) → (t ≡ true → Here s i next f e)
+        → (t ≡ false → Missing f (lines (drop i s))) → Here s i next f e
+    line-there d t e next found missing = go (test-cases t)
+      where
+        go : (t ≡ true) ⊎ (t ≡ false) → Here s i next f e
+        go (inl q) = found q
+        go (inr q) =
+            let none : drop k all-lines ≡ [] =
+            sym (r .rest) ∙ order-none f (formsAfter f) d (lines (drop i s)) (sym (form-missing (lines (drop i s)) f (formsAfter f) (missing q)) ∙ r .form) in
+            absurd (omega (arith, ap length none, length-drop k all-lines, reached-inside))
+
+    module _ (e : List ℕ) (next : ℕ) (line : Here s i next f e) where
+      pub reached-split : drop k all-lines ≡ e ∷ saying f (lines (drop next s))
+      reached-split = sym (r .rest) ∙ saying-here s i next f e line
+
+      pub reached-here : getD all-lines k [] ≡ e
+      reached-here = head-is all-lines k e (saying f (lines (drop next s))) reached-inside reached-split
+
+      pub reached-more : Reached f s from count next (k + 1)
+      reached-more =
+          record {
+            few = omega arith;
+            within = line .within;
+            form =
+                sym (ap (onward f) (line .lines) ∙ order-more f (formsAfter f) (said f e) (lines (drop next s)) (eq-eqb (text.rank f) (text.rank f) refl)) ∙ r .form;
+            rest = tail-is all-lines k e (saying f (lines (drop next s))) reached-split;
+          }
+
 -- ---- after k `a` lines
 
 pub record EntriesFilled (s : List ℕ) (from count n : ℕ) (starts₀ columns₀ values₀ starts columns values : List ℕ) (i above k : ℕ) : Type 0 where
-  pub few : k ≤ count
+  pub reached : Reached text.entry s from count i k
   pub low : above ≤ n
-  pub within : i ≤ length s
-  pub form : body (lines (drop i s)) ≡ true
-  pub rest : entriesOf (drop i s) ≡ drop k (entriesOf (drop from s))
   pub left : ℕ
   pub taken : entriesTaken n above left (drop k (entriesOf (drop from s))) ≡ true
   pub passed : every (λ e. leb (row e) above) (take k (entriesOf (drop from s))) ≡ true
@@ -148,11 +195,8 @@ pub entries-begin : (s : List ℕ) (from count n : ℕ) (starts columns values :
     → EntriesFilled s from count n starts columns values starts columns values from 0 0
 entries-begin s from count n starts columns values a =
     record {
-      few = omega arith;
+      reached = reached-none text.entry (entriesTaken n 0 0) s from count n a;
       low = omega arith;
-      within = a .within;
-      form = a .form;
-      rest = refl;
       left = 0;
       taken = a .taken;
       passed = every-nil (λ e. leb (row e) 0);
@@ -169,23 +213,36 @@ module _ (s : List ℕ) (from count n : ℕ) (starts₀ columns₀ values₀ sta
   abbrev all-entries : List (List ℕ)
   all-entries = entriesOf (drop from s)
 
-  -- before the last: an `a` line is there
-  pub entry-here : k < count → (r : Numbers) → LineAt s i (97 ∷ []) 3 r → Here s i (r .next) text.entry (r .first ∷ r .second ∷ r .third ∷ [])
-  entry-here h r l = go (test-cases (r .taken))
-    where
-      go : (r .taken ≡ true) ⊎ (r .taken ≡ false) → Here s i (r .next) text.entry (r .first ∷ r .second ∷ r .third ∷ [])
-      go (inl e) = l text.entry refl entry-word refl .found e
-      go (inr e) =
-          let m = l text.entry refl entry-word refl .missing e in
-          let none : drop k all-entries ≡ [] = sym (f .rest) ∙ right-none (lines (drop i s)) (sym (entry-missing (lines (drop i s)) m) ∙ f .form) in
-          absurd (omega (arith, ap length none, length-drop k all-entries, a .all))
+  -- before the last, and the line that is there
+  module _ (h : k < count) (r : Numbers) (l : LineAt s i (97 ∷ []) 3 r) where
+    abbrev x : ℕ
+    x = r .first
 
-  module _ (x y z next : ℕ) (h : k < count) (line : Here s i next text.entry (x ∷ y ∷ z ∷ [])) where
+    abbrev y : ℕ
+    y = r .second
+
+    abbrev z : ℕ
+    z = r .third
+
+    abbrev next : ℕ
+    next = r .next
+
+    line : Here s i next text.entry (x ∷ y ∷ z ∷ [])
+    line =
+        let o = l text.entry refl entry-word refl in
+        line-there text.entry (entriesTaken n 0 0) s from count n a i k (f .reached) h entry-fresh (r .taken) _ next (o .found) (o .missing)
+
     inside : k < length all-entries
-    inside = subst (λ c. k < c) (sym (a .all)) h
+    inside = reached-inside text.entry (entriesTaken n 0 0) s from count n a i k (f .reached) h
 
     split : drop k all-entries ≡ (x ∷ y ∷ z ∷ []) ∷ entriesOf (drop next s)
-    split = sym (f .rest) ∙ saying-here s i next text.entry (x ∷ y ∷ z ∷ []) line
+    split = reached-split text.entry (entriesTaken n 0 0) s from count n a i k (f .reached) h (x ∷ y ∷ z ∷ []) next line
+
+    here-is : getD all-entries k [] ≡ x ∷ y ∷ z ∷ []
+    here-is = reached-here text.entry (entriesTaken n 0 0) s from count n a i k (f .reached) h (x ∷ y ∷ z ∷ []) next line
+
+    more : Reached text.entry s from count next (k + 1)
+    more = reached-more text.entry (entriesTaken n 0 0) s from count n a i k (f .reached) h (x ∷ y ∷ z ∷ []) next line
 
     both-taken : entryTaken n above (f .left) x y && entriesTaken n x y (entriesOf (drop next s)) ≡ true
     both-taken =
@@ -195,30 +252,24 @@ module _ (s : List ℕ) (from count n : ℕ) (starts₀ columns₀ values₀ sta
     pub entry-bounds : (1 ≤ x) × (x ≤ n) × (1 ≤ y) × (above ≤ x)
     entry-bounds = entry-low n above (f .left) x y (and-left (entryTaken n above (f .left) x y) (entriesTaken n x y (entriesOf (drop next s))) both-taken)
 
-    here-is : getD all-entries k [] ≡ x ∷ y ∷ z ∷ []
-    here-is = head-is all-entries k (x ∷ y ∷ z ∷ []) (entriesOf (drop next s)) inside split
-
     rows-from : every (λ e. leb x (row e)) (drop k all-entries) ≡ true
     rows-from =
         ap (every (λ e. leb x (row e))) split
         ∙ every-more (λ e. leb x (row e)) (x ∷ y ∷ z ∷ []) (entriesOf (drop next s)) (le-leb x x (omega arith))
         (taken-rows n x y (entriesOf (drop next s)) (and-right (entryTaken n above (f .left) x y) (entriesTaken n x y (entriesOf (drop next s))) both-taken))
 
-    pub entry-line-more : (starts′ : List ℕ) → n + 1 ≤ length starts₀ → count ≤ length columns₀ → count ≤ length values₀ → length starts′ ≡ length starts
+    pub entry-turn : (starts′ : List ℕ) → n + 1 ≤ length starts₀ → count ≤ length columns₀ → count ≤ length values₀ → length starts′ ≡ length starts
         → starts′ ≡ sets starts above (replicate (x - above) k)
         → EntriesFilled s from count n starts₀ columns₀ values₀ starts′ (set columns k (y - 1)) (set values k z) next x (k + 1)
-    entry-line-more starts′ r₁ r₂ r₃ len e =
+    entry-turn starts′ r₁ r₂ r₃ len e =
         let b = entry-bounds in
         let q : above + (x - above) ≡ x = omega (arith, b .3) in
         record {
-          few = omega arith;
+          reached = more;
           low = b .1;
-          within = line .within;
-          form = sym (ap body (line .lines) ∙ body-entry (said text.entry (x ∷ y ∷ z ∷ [])) (lines (drop next s)) refl) ∙ f .form;
-          rest = tail-is all-entries k (x ∷ y ∷ z ∷ []) (entriesOf (drop next s)) split;
           left = y;
           taken =
-              ap (entriesTaken n x y) (sym (tail-is all-entries k (x ∷ y ∷ z ∷ []) (entriesOf (drop next s)) split))
+              ap (entriesTaken n x y) (sym (more .rest))
               ∙ and-right (entryTaken n above (f .left) x y) (entriesTaken n x y (entriesOf (drop next s))) both-taken;
           passed = passed-more all-entries k above (x ∷ y ∷ z ∷ []) inside here-is (b .3) (f .passed);
           startsLength = len ∙ f .startsLength;
@@ -242,12 +293,12 @@ module _ (s : List ℕ) (from count n : ℕ) (starts₀ columns₀ values₀ sta
   -- after the last
   module _ (h : count ≤ k) where
     all-passed : k ≡ length all-entries
-    all-passed = omega (arith, h, f .few, a .all)
+    all-passed = omega (arith, h, f .reached .few, a .all)
 
     pub starts-done : (starts′ : List ℕ) → n + 1 ≤ length starts₀ → starts′ ≡ sets starts above (replicate (n + 1 - above) count) → starts′ ≡ overwrite (startsOf n all-entries) starts₀
     starts-done starts′ r e =
         let q : above + (n + 1 - above) ≡ n + 1 = omega (arith, f .low) in
-        let c : count ≡ k = omega (arith, h, f .few) in
+        let c : count ≡ k = omega (arith, h, f .reached .few) in
         let d : drop k all-entries ≡ [] = drop-of-length-le all-entries {i = k} (omega (arith, all-passed)) in
         e ∙ ap₂ (λ t v. sets t above (replicate (n + 1 - above) v)) (f .startsNow) c
         ∙ front-fill above (n + 1 - above) k (startAt all-entries) starts₀ (omega (arith, r, q))

@@ -1,4 +1,4 @@
 -- Laws that the functions' proofs share.
 pub mod Steps
 pub mod Filling
-pub mod FillingRight
+pub mod FillingPlaces

@@ -1,7 +1,7 @@
 -- The answers' cases: the paper's number and values for each.
 --     refusalOfRead, modulusOfRead, sizeOfRead, countOfRead        what the reader answers
 --     modulusOfDocument, .., rightOfSystem                         the parts of a document and of a system by name
---     startsAfter, columnsAfter, valuesAfter, rightAfter           what the reader leaves in its slices
+--     startsAfter, columnsAfter, valuesAfter, scalesAfter, rightAfter      what the reader leaves in its slices
 use mathlib.Core.List.{List}
 use Prim.Native.Nat.{ℕ}
 use Rattle.meaning.specs.Text.{Document, System}
@@ -43,17 +43,23 @@ columnsOfSystem s = s .matrix .columns
 abbrev pub valuesOfSystem : System → List ℕ
 valuesOfSystem s = s .matrix .values
 
+abbrev pub scalesOfSystem : System → List ℕ
+scalesOfSystem s = s .scales
+
 abbrev pub rightOfSystem : System → List ℕ
 rightOfSystem s = s .right
 
-abbrev pub startsAfter : List ℕ → List ℕ → List ℕ → List ℕ → List ℕ → List ℕ
-startsAfter text starts columns values right = readerAfter startsOfSystem starts text starts columns values right
+abbrev pub startsAfter : List ℕ → List ℕ → List ℕ → List ℕ → List ℕ → List ℕ → List ℕ
+startsAfter text starts columns values scales right = readerAfter startsOfSystem starts text starts columns values scales right
 
-abbrev pub columnsAfter : List ℕ → List ℕ → List ℕ → List ℕ → List ℕ → List ℕ
-columnsAfter text starts columns values right = readerAfter columnsOfSystem columns text starts columns values right
+abbrev pub columnsAfter : List ℕ → List ℕ → List ℕ → List ℕ → List ℕ → List ℕ → List ℕ
+columnsAfter text starts columns values scales right = readerAfter columnsOfSystem columns text starts columns values scales right
 
-abbrev pub valuesAfter : List ℕ → List ℕ → List ℕ → List ℕ → List ℕ → List ℕ
-valuesAfter text starts columns values right = readerAfter valuesOfSystem values text starts columns values right
+abbrev pub valuesAfter : List ℕ → List ℕ → List ℕ → List ℕ → List ℕ → List ℕ → List ℕ
+valuesAfter text starts columns values scales right = readerAfter valuesOfSystem values text starts columns values scales right
 
-abbrev pub rightAfter : List ℕ → List ℕ → List ℕ → List ℕ → List ℕ → List ℕ
-rightAfter text starts columns values right = readerAfter rightOfSystem right text starts columns values right
+abbrev pub scalesAfter : List ℕ → List ℕ → List ℕ → List ℕ → List ℕ → List ℕ → List ℕ
+scalesAfter text starts columns values scales right = readerAfter scalesOfSystem scales text starts columns values scales right
+
+abbrev pub rightAfter : List ℕ → List ℕ → List ℕ → List ℕ → List ℕ → List ℕ → List ℕ
+rightAfter text starts columns values scales right = readerAfter rightOfSystem right text starts columns values scales right

@@ -4,11 +4,11 @@
 --     Missing              no line of that form begins there, or it does not end
 --     LineOf               what was found where a line of that form was looked for
 --     LineAt               .. of the form with that word and so many numbers
--- Laws: header-word .. ending-word: the forms' words as the code writes them; line-other, line-word: another word, or the word and its numbers; entry-missing, element-missing, ending-missing, header-missing: what is
--- left of the form then; ending-here: the end of a text.
+-- Laws: header-word .. ending-word: the forms' words as the code writes them; line-other, line-word: another word, or the word and its numbers;
+-- form-missing, ending-missing, header-missing: what is left of the form then; ending-here: the end of a text.
 use mathlib.Core.Path.{_≡_, refl, sym, ap, ap₂, _∙_, subst}
 use mathlib.Core.Logic.{_⊎_, inl, inr}
-use mathlib.Core.Bool.{Bool, true, false, cond, _&&_}
+use mathlib.Core.Bool.{Bool, true, false, _&&_}
 use mathlib.Core.List.{List, [], _∷_, _++_, map, append-nil}
 use Prim.Native.Nat.{ℕ, suc, _+_, _≤_, _<_}
 use native.Mathlib.Omega.{arith}
@@ -25,7 +25,7 @@ use Rattle.text_laws.specs.Line.{parts-some, lines-parts}
 use Rattle.text_laws.specs.Form.{word, arity, word-free, has-form, has-form-other, form-of-word, form-cases, line-of}
 use Rattle.text_laws.specs.Document.{same-form}
 use Rattle.system_reader.specs.Scan.{drop-here, headOf, fieldsOf, later, after, after-split, lines-here, head-nil, head-tab, head-byte, fields-nil, fields-tab, fields-byte, later-nil, later-end, head-word, fields-word, later-word, common, common-word, common-head, common-within}
-use Rattle.system_reader.specs.Order.{ranks, closing, body, rightSide, whole, body-other, body-last, right-other, right-last, close-last, whole-other, whole-last}
+use Rattle.system_reader.specs.Order.{ranks, order, closing, whole, order-closing, order-other, order-last, whole-other, whole-last}
 use Rattle.system_reader.specs.Fields.{Fails, Numbered}
 use Rattle.system_reader.specs.declared.numeral.Numbers.{Numbers}
 
@@ -48,7 +48,7 @@ pub record LineOf (f : text.Form) (s : List ℕ) (from : ℕ) (r : Numbers) : Ty
   pub missing : r .taken ≡ false → Missing f (lines (drop from s))
 
 abbrev pub LineAt : List ℕ → ℕ → List ℕ → ℕ → Numbers → Type 0
-LineAt s from w k r = (f : text.Form) → eqb (rank f) 5 ≡ false → w ≡ word f → k ≡ arity f → LineOf f s from r
+LineAt s from w k r = (f : text.Form) → eqb (rank f) 6 ≡ false → w ≡ word f → k ≡ arity f → LineOf f s from r
 
 -- ---- the words
 
@@ -59,6 +59,10 @@ header-word = refl
 pub entry-word : 97 ∷ [] ≡ word text.entry
 unfolding bytes
 entry-word = refl
+
+pub scale-word : 115 ∷ [] ≡ word text.scale
+unfolding bytes
+scale-word = refl
 
 pub element-word : 98 ∷ [] ≡ word text.element
 unfolding bytes
@@ -81,14 +85,14 @@ fieldsHere s = headOf s ∷ fieldsOf s
 abbrev linesLater : List ℕ → List text.Line
 linesLater s = map (λ l. lineOf (parts 9 l)) (later s)
 
-module _ (f : text.Form) (known : eqb (rank f) 5 ≡ false) where
+module _ (f : text.Form) (known : eqb (rank f) 6 ≡ false) where
   -- a line is of a form exactly if it has the form's word and numbers
   other-form : (ws : List (List ℕ)) → hasForm (word f) (arity f) ws ≡ false → isOf f (lineOf ws) ≡ false
   other-form ws e = ap (isOf f) (line-of ws) ∙ go (form-cases ws) (test-cases (eqb (rank (formOf ws)) (rank f)))
     where
       go : (formOf ws ≡ text.broken) ⊎ (hasForm (word (formOf ws)) (arity (formOf ws)) ws ≡ true)
           → (eqb (rank (formOf ws)) (rank f) ≡ true) ⊎ (eqb (rank (formOf ws)) (rank f) ≡ false) → eqb (rank (formOf ws)) (rank f) ≡ false
-      go (inl b) t = ap (λ g. eqb (rank g) (rank f)) b ∙ ne-eqb 5 (rank f) (λ z. eqb-false (rank f) 5 known (sym z))
+      go (inl b) t = ap (λ g. eqb (rank g) (rank f)) b ∙ ne-eqb 6 (rank f) (λ z. eqb-false (rank f) 6 known (sym z))
       go (inr h) (inl t) = never (hasForm (word f) (arity f) ws) (subst (λ g. hasForm (word g) (arity g) ws ≡ true) (same-form (formOf ws) f (eqb-true (rank (formOf ws)) (rank f) t)) h) e
       go (inr h) (inr t) = t
 
@@ -123,7 +127,7 @@ pub word-within : (s : List ℕ) (from : ℕ) (w : List ℕ) → from ≤ length
 word-within s from w l = omega (arith, common-within (drop from s) w, length-drop from s)
 
 -- another word stands there
-word-other : (f : text.Form) → eqb (rank f) 5 ≡ false → (s : List ℕ) → common s (word f) < length (word f) → Missing f (lines s)
+word-other : (f : text.Form) → eqb (rank f) 6 ≡ false → (s : List ℕ) → common s (word f) < length (word f) → Missing f (lines s)
 word-other f known s h =
     record {
       line = lineOf (fieldsHere s);
@@ -175,9 +179,9 @@ module _ (s : List ℕ) (from : ℕ) (w : List ℕ) (k : ℕ) where
 
 -- ---- what is left of the form where a line is missing
 
-closing-cons : (l : text.Line) (ls : List text.Line) → closing (l ∷ ls) ≡ eqb (rank (l .form)) 3 && equal (ranks ls) (4 ∷ [])
-unfolding closing ranks equal
-closing-cons l ls = refl
+closing-cons : (l : text.Line) (ls : List text.Line) → closing (l ∷ ls) ≡ eqb (rank (l .form)) 4 && equal (ranks ls) (5 ∷ [])
+unfolding ranks equal
+closing-cons l ls = order-closing (l ∷ ls)
 
 module _ (ls : List text.Line) where
   by-other : (f : text.Form) (x y : List text.Line → Bool) → ((l : text.Line) (more : List text.Line) → isOf f l ≡ false → x (l ∷ more) ≡ y (l ∷ more))
@@ -188,85 +192,65 @@ module _ (ls : List text.Line) where
       go (inl e) = other (m .line) (m .more) e
       go (inr e) = ap (λ more. x (m .line ∷ more)) e ∙ last (m .line) ∙ sym (ap (λ more. y (m .line ∷ more)) e)
 
-  pub entry-missing : Missing text.entry ls → body ls ≡ rightSide ls
-  entry-missing = by-other text.entry body rightSide body-other (λ l. body-last l ∙ sym (right-last l))
-
-  pub element-missing : Missing text.element ls → rightSide ls ≡ closing ls
-  element-missing = by-other text.element rightSide closing right-other (λ l. right-last l ∙ sym (close-last l))
+  pub form-missing : (f : text.Form) (fs : List text.Form) → Missing f ls → order (f ∷ fs) ls ≡ order fs ls
+  form-missing f fs = by-other f (order (f ∷ fs)) (order fs) (order-other f fs) (λ l. order-last (f ∷ fs) l ∙ sym (order-last fs l))
 
   pub ending-missing : Missing text.ending ls → closing ls ≡ false
-  ending-missing = by-other text.ending closing (λ _. false) (λ l more e. closing-cons l more ∙ and-false-left (equal (ranks more) (4 ∷ [])) e) close-last
+  ending-missing = by-other text.ending closing (λ _. false) (λ l more e. closing-cons l more ∙ and-false-left (equal (ranks more) (5 ∷ [])) e) (order-last [])
 
   pub header-missing : Missing text.header ls → whole ls ≡ false
   header-missing = by-other text.header whole (λ _. false) whole-other whole-last
 
 -- ---- the end of a text
 
-rank-word : (c : ℕ) (h : List ℕ) (fs : List (List ℕ)) → eqb (rank (formOf ((c ∷ h) ∷ fs))) 4 ≡ false
-unfolding formOf equal hasForm
-rank-word c h fs =
-    go (equal (c ∷ h) (bytes "system") && eqb (length fs) 3 && every isNumeral fs) (equal (c ∷ h) (bytes "a") && eqb (length fs) 3 && every isNumeral fs)
-    (equal (c ∷ h) (bytes "b") && eqb (length fs) 2 && every isNumeral fs) (equal (c ∷ h) (bytes "end") && eqb (length fs) 0 && every isNumeral fs)
-  where
-    go : (s a b e : Bool)
-        → eqb (rank (cond s text.header (cond a text.entry (cond b text.element (cond e text.ending text.broken))))) 4 ≡ false
-    go true a b e = refl
-    go false true b e = refl
-    go false false true e = refl
-    go false false false true = refl
-    go false false false false = refl
-
-rank-fields : (f : List ℕ) (fs : List (List ℕ)) → eqb (rank (formOf ([] ∷ f ∷ fs))) 4 ≡ false
-unfolding formOf equal hasForm bytes
-rank-fields f fs =
-    ap (λ t. eqb (rank (cond (t && every isNumeral (f ∷ fs)) text.nothing text.broken)) 4) (ne-eqb (suc (length fs)) 0 (λ z. omega arith))
-
-rank-nothing : rank (formOf ([] ∷ [])) ≡ 4
+rank-nothing : rank (formOf ([] ∷ [])) ≡ 5
 unfolding formOf equal hasForm bytes every
 rank-nothing = refl
 
 -- after `end`: nothing, exactly at the end of the text
-pub over-nil : equal (ranks (lines [])) (4 ∷ []) ≡ true
+pub over-nil : equal (ranks (lines [])) (5 ∷ []) ≡ true
 unfolding ranks equal
 over-nil =
-    ap (λ ls. equal (ranks ls) (4 ∷ []))
+    ap (λ ls. equal (ranks ls) (5 ∷ []))
     (lines-here [] ∙ ap₂ (λ h fs. lineOf (h ∷ fs) ∷ map (λ l. lineOf (parts 9 l)) (later [])) head-nil fields-nil
     ∙ ap₂ (λ l r. l ∷ map (λ l. lineOf (parts 9 l)) r) (line-of ([] ∷ [])) later-nil)
-    ∙ ap (λ r. eqb r 4 && true) rank-nothing
+    ∙ ap (λ r. eqb r 5 && true) rank-nothing
 
-pub over-more : (c : ℕ) (t : List ℕ) → equal (ranks (lines (c ∷ t))) (4 ∷ []) ≡ false
+pub over-more : (c : ℕ) (t : List ℕ) → equal (ranks (lines (c ∷ t))) (5 ∷ []) ≡ false
 unfolding ranks equal
-over-more c t = ap (λ ls. equal (ranks ls) (4 ∷ [])) (lines-here (c ∷ t)) ∙ go (test-cases (eqb c 9)) (test-cases (eqb c 10))
+over-more c t = ap (λ ls. equal (ranks ls) (5 ∷ [])) (lines-here (c ∷ t)) ∙ go (test-cases (eqb c 9)) (test-cases (eqb c 10))
   where
-    more : (w : List (List ℕ)) → later (c ∷ t) ≡ w → (x : ℕ) (xs : List (List ℕ)) → eqb x 4 && equal (map (λ l. rank (l .form)) (map (λ l. lineOf (parts 9 l)) (later (c ∷ t)))) [] ≡ eqb x 4 && equal (map (λ l. rank (l .form)) (map (λ l. lineOf (parts 9 l)) w)) []
-    more w e x xs = ap (λ r. eqb x 4 && equal (map (λ l. rank (l .form)) (map (λ l. lineOf (parts 9 l)) r)) []) e
+    more : (w : List (List ℕ)) → later (c ∷ t) ≡ w → (x : ℕ) (xs : List (List ℕ)) → eqb x 5 && equal (map (λ l. rank (l .form)) (map (λ l. lineOf (parts 9 l)) (later (c ∷ t)))) [] ≡ eqb x 5 && equal (map (λ l. rank (l .form)) (map (λ l. lineOf (parts 9 l)) w)) []
+    more w e x xs = ap (λ r. eqb x 5 && equal (map (λ l. rank (l .form)) (map (λ l. lineOf (parts 9 l)) r)) []) e
 
-    first : (h : List ℕ) (fs : List (List ℕ)) → headOf (c ∷ t) ≡ h → fieldsOf (c ∷ t) ≡ fs → eqb (rank (formOf (h ∷ fs))) 4 ≡ false
-        → eqb (rank (lineOf (headOf (c ∷ t) ∷ fieldsOf (c ∷ t)) .form)) 4 && equal (map (λ l. rank (l .form)) (map (λ l. lineOf (parts 9 l)) (later (c ∷ t)))) [] ≡ false
+    first : (h : List ℕ) (fs : List (List ℕ)) → headOf (c ∷ t) ≡ h → fieldsOf (c ∷ t) ≡ fs → hasForm [] 0 (h ∷ fs) ≡ false
+        → eqb (rank (lineOf (headOf (c ∷ t) ∷ fieldsOf (c ∷ t)) .form)) 5 && equal (map (λ l. rank (l .form)) (map (λ l. lineOf (parts 9 l)) (later (c ∷ t)))) [] ≡ false
     first h fs p q r =
         and-false-left (equal (map (λ l. rank (l .form)) (map (λ l. lineOf (parts 9 l)) (later (c ∷ t)))) [])
-        (ap (λ l. eqb (rank (l .form)) 4) (ap₂ (λ a b. lineOf (a ∷ b)) p q ∙ line-of (h ∷ fs)) ∙ r)
+        (other-form text.nothing refl (headOf (c ∷ t) ∷ fieldsOf (c ∷ t)) (ap₂ (λ a b. hasForm [] 0 (a ∷ b)) p q ∙ r))
 
     go : (eqb c 9 ≡ true) ⊎ (eqb c 9 ≡ false) → (eqb c 10 ≡ true) ⊎ (eqb c 10 ≡ false)
-        → eqb (rank (lineOf (headOf (c ∷ t) ∷ fieldsOf (c ∷ t)) .form)) 4 && equal (map (λ l. rank (l .form)) (map (λ l. lineOf (parts 9 l)) (later (c ∷ t)))) [] ≡ false
+        → eqb (rank (lineOf (headOf (c ∷ t) ∷ fieldsOf (c ∷ t)) .form)) 5 && equal (map (λ l. rank (l .form)) (map (λ l. lineOf (parts 9 l)) (later (c ∷ t)))) [] ≡ false
     go (inl e) f =
         let q = eqb-true c 9 e in
-        first [] (headOf t ∷ fieldsOf t) (ap (λ x. headOf (x ∷ t)) q ∙ head-tab t) (ap (λ x. fieldsOf (x ∷ t)) q ∙ fields-tab t) (rank-fields (headOf t) (fieldsOf t))
+        first [] (headOf t ∷ fieldsOf t) (ap (λ x. headOf (x ∷ t)) q ∙ head-tab t) (ap (λ x. fieldsOf (x ∷ t)) q ∙ fields-tab t)
+        (has-form [] 0 [] (headOf t ∷ fieldsOf t)
+        ∙ and-false-left (every isNumeral (headOf t ∷ fieldsOf t)) (ne-eqb (suc (length (fieldsOf t))) 0 (λ z. omega arith)))
     go (inr e) (inl f) =
         let p = parts-some 10 t in
         let x = rank (lineOf (headOf (c ∷ t) ∷ fieldsOf (c ∷ t)) .form) in
         more (p .0 ∷ p .1) (ap (λ y. later (y ∷ t)) (eqb-true c 10 f) ∙ later-end t ∙ p .2) x []
-        ∙ and-false-right (eqb x 4) refl
-    go (inr e) (inr f) = first (c ∷ headOf t) (fieldsOf t) (head-byte c t e f) (fields-byte c t e f) (rank-word c (headOf t) (fieldsOf t))
+        ∙ and-false-right (eqb x 5) refl
+    go (inr e) (inr f) = first (c ∷ headOf t) (fieldsOf t) (head-byte c t e f) (fields-byte c t e f) (has-form-other [] (c ∷ headOf t) 0 (fieldsOf t) refl)
 
 pub ending-here : (s : List ℕ) (i next : ℕ) → Here s i next text.ending [] → closing (lines (drop i s)) ≡ eqb next (length s)
 ending-here s i next h = ap closing (h .lines) ∙ closing-cons (said text.ending []) (lines (drop next s)) ∙ go (test-cases (eqb next (length s)))
   where
-    go : (eqb next (length s) ≡ true) ⊎ (eqb next (length s) ≡ false) → equal (ranks (lines (drop next s))) (4 ∷ []) ≡ eqb next (length s)
+    go : (eqb next (length s) ≡ true) ⊎ (eqb next (length s) ≡ false) → equal (ranks (lines (drop next s))) (5 ∷ []) ≡ eqb next (length s)
     go (inl e) =
         let q = eqb-true next (length s) e in
-        ap (λ t. equal (ranks (lines t)) (4 ∷ [])) (drop-of-length-le s {i = next} (omega arith)) ∙ over-nil ∙ sym e
+        ap (λ t. equal (ranks (lines t)) (5 ∷ [])) (drop-of-length-le s {i = next} (omega arith)) ∙ over-nil ∙ sym e
     go (inr e) =
         let q = eqb-false next (length s) e in
         let l : next < length s = omega (arith, h .within, q) in
-        ap (λ t. equal (ranks (lines t)) (4 ∷ [])) (drop-here s next l) ∙ over-more (getD s next 0) (drop (next + 1) s) ∙ sym e
+        ap (λ t. equal (ranks (lines t)) (5 ∷ [])) (drop-here s next l) ∙ over-more (getD s next 0) (drop (next + 1) s) ∙ sym e

@@ -4,8 +4,9 @@ ghost use Prim.Native.Nat.{_+_, _-_, _≤_};
 ghost use lib.ListN.{length, drop, replicate};
 ghost use lib.Seq.{sets};
 ghost use Rattle.meaning.specs.List.{overwrite};
-ghost use Rattle.system_reader.specs.Places.{entriesOf, elementsOf};
-ghost use Rattle.system_reader.specs.Fill.{startsOf, columnsOf, valuesOf, rightOf, EntriesAhead, ElementsAhead};
+ghost use Rattle.meaning.specs.Text.{placed};
+ghost use Rattle.system_reader.specs.Places.{entriesOf, placesOf};
+ghost use Rattle.system_reader.specs.Fill.{startsOf, columnsOf, valuesOf, EntriesAhead, PlacesAhead};
 use crate::line::line;
 use checks::wide;
 
@@ -32,7 +33,7 @@ pub(crate) fn fill_entries(
     values: &mut [u32],
 )
     requires { ⌜ EntriesAhead (now text) from count n ⌝ }
-    requires { ⌜ (n + 1 ≤ length (now starts)) × (count ≤ length (now columns)) × (count ≤ length (now values)) ⌝ }
+    requires { ⌜ (n + 1 ≤ length (now starts)) × (count ≤ length (now columns)) × (count ≤ length (now values)) × (count ≤ 65536) ⌝ }
     ensures { λ _. ⌜ now (starts .exit) ≡ overwrite (startsOf n (entriesOf (drop from (now (text .entry))))) (now (starts .entry)) ⌝ }
     ensures { λ _. ⌜ now (columns .exit) ≡ overwrite (columnsOf (entriesOf (drop from (now (text .entry))))) (now (columns .entry)) ⌝ }
     ensures { λ _. ⌜ now (values .exit) ≡ overwrite (valuesOf (entriesOf (drop from (now (text .entry))))) (now (values .entry)) ⌝ }
@@ -53,19 +54,27 @@ pub(crate) fn fill_entries(
     fill(starts, above, n + 1, count as u32);
 }
 
-// The `b` lines; the other elements are 0.
-pub(crate) fn fill_elements(text: &[u8], from: usize, count: usize, n: usize, right: &mut [u32])
-    requires { ⌜ ElementsAhead (now text) from count n ⌝ }
-    requires { ⌜ n ≤ length (now right) ⌝ }
-    ensures { λ _. ⌜ now (right .exit) ≡ overwrite (rightOf n (elementsOf (drop from (now (text .entry))))) (now (right .entry)) ⌝ }
+// The lines with the word `s` or `b`; places without a line get the value `none`.
+pub(crate) fn fill_placed(
+    text: &[u8],
+    from: usize,
+    word: &[u8],
+    count: usize,
+    n: usize,
+    none: u32,
+    out: &mut [u32],
+)
+    requires { ⌜ PlacesAhead (now word) (now text) from count n ⌝ }
+    requires { ⌜ n ≤ length (now out) ⌝ }
+    ensures { λ _. ⌜ now (out .exit) ≡ overwrite (placed n none (placesOf (now (word .entry)) (drop from (now (text .entry))))) (now (out .entry)) ⌝ }
 {
-    fill(right, 0, n, 0);
+    fill(out, 0, n, none);
     let mut at = from;
     let mut k: usize = 0;
     while k < count {
-        let l = line(text, at, b"b", 2);
+        let l = line(text, at, word, 2);
         let below = wide(l.first);
-        right[below - 1] = l.second;
+        out[below - 1] = l.second;
         at = l.next;
         k += 1;
     }

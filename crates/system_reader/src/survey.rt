@@ -1,20 +1,14 @@
 // The first pass over a text: whether it is in form (2), and all that the later checks want to know of it.
 ghost use mathlib.Core.Path.{_≡_};
-ghost use mathlib.Core.Bool.{false, _&&_};
+ghost use mathlib.Core.Bool.{false};
 ghost use Prim.Native.Nat.{_≤_};
 ghost use lib.ListN.{drop};
 ghost use Rattle.meaning.specs.Refusal.{valueTaken};
 ghost use Rattle.meaning.specs.Text.{lines};
 ghost use Rattle.system_reader.specs.Order.{closing};
-ghost use Rattle.system_reader.specs.Places.{entryTaken, elementTaken, EntriesRead, ElementsRead};
+ghost use Rattle.system_reader.specs.Places.{entryTaken, placeTaken, EntriesRead, PlaceWord, PlacesRead};
 ghost use Rattle.system_reader.specs.Surveys.{SurveyedFrom, Surveyed};
 use crate::line::line;
-
-pub(crate) fn both(a: bool, b: bool) -> bool
-    ensures { λ r. ⌜ r ≡ a && b ⌝ }
-{
-    if a { b } else { false }
-}
 
 // Whether an `a` line's place is in range and after that of the line before.
 pub(crate) fn entry_taken(n: u32, above: u32, left: u32, row: u32, column: u32) -> bool
@@ -38,17 +32,17 @@ pub(crate) fn entry_taken(n: u32, above: u32, left: u32, row: u32, column: u32) 
     if above == row { left < column } else { false }
 }
 
-// The same of a `b` line.
-pub(crate) fn element_taken(n: u32, above: u32, row: u32) -> bool
-    ensures { λ r. ⌜ r ≡ elementTaken n above row ⌝ }
+// The same of an `s` or a `b` line.
+pub(crate) fn place_taken(n: u32, above: u32, place: u32) -> bool
+    ensures { λ r. ⌜ r ≡ placeTaken n above place ⌝ }
 {
-    if row < 1 {
+    if place < 1 {
         return false;
     }
-    if n < row {
+    if n < place {
         return false;
     }
-    above < row
+    above < place
 }
 
 pub(crate) fn value_taken(p: u32, value: u32) -> bool
@@ -66,6 +60,12 @@ pub(crate) struct Group {
     pub count: usize,
     pub places: bool,
     pub values: bool,
+}
+
+// Lines of a place and a value; and whether every value is 1.
+pub(crate) struct Placed {
+    pub group: Group,
+    pub ones: bool,
 }
 
 // The `a` lines from a place on.
@@ -89,8 +89,8 @@ pub(crate) fn entry_lines(text: &[u8], from: usize, p: u32, n: u32) -> Group
                 values,
             };
         }
-        places = both(places, entry_taken(n, above, left, l.first, l.second));
-        values = both(values, value_taken(p, l.third));
+        places = places & entry_taken(n, above, left, l.first, l.second);
+        values = values & value_taken(p, l.third);
         above = l.first;
         left = l.second;
         count += 1;
@@ -98,28 +98,32 @@ pub(crate) fn entry_lines(text: &[u8], from: usize, p: u32, n: u32) -> Group
     }
 }
 
-// The `b` lines from a place on.
-pub(crate) fn element_lines(text: &[u8], from: usize, p: u32, n: u32) -> Group
+// The lines with the word `s` or `b` from a place on.
+pub(crate) fn placed_lines(text: &[u8], from: usize, word: &[u8], p: u32, n: u32) -> Placed
     requires { do ⌜ from ≤ (← ⟦text.len()⟧) ⌝ }
-    ensures { λ r. ⌜ ElementsRead (now (text .entry)) from p n r ⌝ }
+    requires { ⌜ PlaceWord (now word) ⌝ }
+    ensures { λ r. ⌜ PlacesRead (now (word .entry)) (now (text .entry)) from p n r ⌝ }
 {
     let mut at = from;
     let mut count: usize = 0;
     let mut above: u32 = 0;
     let mut places = true;
     let mut values = true;
+    let mut ones = true;
     loop {
-        let l = line(text, at, b"b", 2);
+        let l = line(text, at, word, 2);
         if !l.taken {
-            return Group {
+            let group = Group {
                 next: at,
                 count,
                 places,
                 values,
             };
+            return Placed { group, ones };
         }
-        places = both(places, element_taken(n, above, l.first));
-        values = both(values, value_taken(p, l.second));
+        places = places & place_taken(n, above, l.first);
+        values = values & value_taken(p, l.second);
+        ones = ones & (l.second == 1);
         above = l.first;
         count += 1;
         at = l.next;
@@ -140,12 +144,15 @@ pub(crate) struct Survey {
     pub p: u32,
     pub n: u32,
     pub count: u32,
+    // how many `a`, `s` and `b` lines there are
     pub entries: usize,
+    pub scales: usize,
     pub elements: usize,
     pub places: bool,
     pub values: bool,
-    // where the `a` lines begin, and the `b` lines
+    // where they begin
     pub body: usize,
+    pub scaling: usize,
     pub right: usize,
 }
 
@@ -158,10 +165,12 @@ pub(crate) fn unformed() -> Survey
         n: 0,
         count: 0,
         entries: 0,
+        scales: 0,
         elements: 0,
         places: false,
         values: false,
         body: 0,
+        scaling: 0,
         right: 0,
     }
 }
@@ -172,21 +181,24 @@ pub(crate) fn survey_from(text: &[u8], p: u32, n: u32, count: u32, body: usize) 
     ensures { λ r. ⌜ SurveyedFrom (now (text .entry)) p n count body r ⌝ }
 {
     let a = entry_lines(text, body, p, n);
-    let b = element_lines(text, a.next, p, n);
-    let formed = ended(text, b.next);
-    let places = both(a.places, b.places);
-    let values = both(a.values, b.values);
+    let x = placed_lines(text, a.next, b"s", p, n);
+    let b = placed_lines(text, x.group.next, b"b", p, n);
+    let formed = ended(text, b.group.next);
+    // where there are scales, one isn't 1
+    let scaled = x.group.places & ((x.group.count == 0) | !x.ones);
     Survey {
         formed,
         p,
         n,
         count,
         entries: a.count,
-        elements: b.count,
-        places,
-        values,
+        scales: x.group.count,
+        elements: b.group.count,
+        places: a.places & scaled & b.group.places,
+        values: a.values & x.group.values & b.group.values,
         body,
-        right: a.next,
+        scaling: a.next,
+        right: x.group.next,
     }
 }
 

@@ -1,6 +1,4 @@
 -- `count_taken` meets its contract.
-use mathlib.Core.Path.{sym, _∙_}
-use borrow.Author.Tests.{eq-eqb, ne-eqb}
 use borrow.Author.Needs.{needs}
 use Rattle.system_reader.proofs.count_taken.Statement.{statement}
 use Rattle.system_reader.proofs.count_taken.Tie as tie
@@ -8,11 +6,11 @@ use Rattle.system_reader.proofs.count_taken.Tie as tie
 wide-requires : tie.Need-wide-requires
 wide-requires c κs = search needs
 
-returns : tie.Need-returns
-returns c = simp (eq-eqb _ _ (sym (c .before .wide .ensures .0) ∙ c .if1 .taken))
+wide-requires-2 : tie.Need-wide-requires-2
+wide-requires-2 c κs = search needs
 
-returns-2 : tie.Need-returns-2
-returns-2 c = simp (ne-eqb _ _ (λ e. c .if1 .left (c .before .wide .ensures .0 ∙ e)))
+returns : tie.Need-returns
+returns c = rw (c .before .wide .ensures .0, c .wide2 .ensures .0)
 
 pub count-taken-spec : {M : Type 1} → statement M
-count-taken-spec = tie.close (tie.spec wide-requires returns returns-2)
+count-taken-spec = tie.close (tie.spec wide-requires wide-requires-2 returns)

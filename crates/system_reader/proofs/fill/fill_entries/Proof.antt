@@ -4,7 +4,7 @@ use Prim.Native.Nat.{_-_, _+_}
 use native.Mathlib.Omega.{arith}
 use lib.ListN.{set, replicate}
 use lib.Seq.{sets}
-use Rattle.system_reader.proofs.Filling.{EntriesFilled, entries-begin, entry-here, entry-bounds, entry-line-more, starts-done, columns-done, values-done}
+use Rattle.system_reader.proofs.Filling.{EntriesFilled, entries-begin, entry-bounds, entry-turn, starts-done, columns-done, values-done}
 use borrow.Author.Needs.{needs}
 use Rattle.system_reader.proofs.fill.fill_entries.Statement.{statement}
 use Rattle.system_reader.proofs.fill.fill_entries.Tie as tie
@@ -25,7 +25,7 @@ slice-aggregate-line : tie.Need-slice-aggregate-line Inv-loop μ-loop
 slice-aggregate-line c = search needs
 
 line-requires : tie.Need-line-requires Inv-loop μ-loop
-line-requires c κs = (c .before .before .loop .inv .within, omega arith)
+line-requires c κs = (c .before .before .loop .inv .reached .within, omega arith)
 
 wide-requires : tie.Need-wide-requires Inv-loop μ-loop
 wide-requires c κs = search needs
@@ -38,13 +38,10 @@ fill-requires c κs =
     let l = c .before .before in
     let b = l .before .before .before in
     let d = b .before .before .before .before .before in
-    let h =
-    entry-here (d .args .text .now) (d .args .from) (d .args .count) (d .args .n) (d .args .starts .now) (d .args .columns .now) (d .args .values .now)
-    (b .loop .starts) (b .loop .columns) (b .loop .values) (b .loop .at) (b .loop .above) (b .loop .k) (d .pre .0) (b .loop .inv) (l .before .before .loop-test .taken) (l .line .result) (l .line .ensures) in
     let e =
     entry-bounds (d .args .text .now) (d .args .from) (d .args .count) (d .args .n) (d .args .starts .now) (d .args .columns .now) (d .args .values .now)
     (b .loop .starts) (b .loop .columns) (b .loop .values) (b .loop .at) (b .loop .above) (b .loop .k) (d .pre .0) (b .loop .inv)
-    _ _ _ _ (l .before .before .loop-test .taken) h in
+    (l .before .before .loop-test .taken) (l .line .result) (l .line .ensures) in
     let w = c .before .wide .ensures .0 in
     (omega (arith, e .3, w), omega (arith, e .1, w, d .pre .1 .0, b .loop .inv .startsLength))
 
@@ -53,12 +50,9 @@ sub-columns c =
     let l = c .before .before .before .before .before .before in
     let b = l .before .before .before in
     let d = b .before .before .before .before .before in
-    let h =
-    entry-here (d .args .text .now) (d .args .from) (d .args .count) (d .args .n) (d .args .starts .now) (d .args .columns .now) (d .args .values .now)
-    (b .loop .starts) (b .loop .columns) (b .loop .values) (b .loop .at) (b .loop .above) (b .loop .k) (d .pre .0) (b .loop .inv) (l .before .before .loop-test .taken) (l .line .result) (l .line .ensures) in
     entry-bounds (d .args .text .now) (d .args .from) (d .args .count) (d .args .n) (d .args .starts .now) (d .args .columns .now) (d .args .values .now)
     (b .loop .starts) (b .loop .columns) (b .loop .values) (b .loop .at) (b .loop .above) (b .loop .k) (d .pre .0) (b .loop .inv)
-    _ _ _ _ (l .before .before .loop-test .taken) h .2
+    (l .before .before .loop-test .taken) (l .line .result) (l .line .ensures) .2
 
 mul-columns : tie.Need-mul-columns Inv-loop μ-loop
 mul-columns c = search needs
@@ -83,9 +77,6 @@ loop-again c =
     let l = c .before .before .before .before .before .before in
     let b = l .before .before .before in
     let d = b .before .before .before .before .before in
-    let h =
-    entry-here (d .args .text .now) (d .args .from) (d .args .count) (d .args .n) (d .args .starts .now) (d .args .columns .now) (d .args .values .now)
-    (b .loop .starts) (b .loop .columns) (b .loop .values) (b .loop .at) (b .loop .above) (b .loop .k) (d .pre .0) (b .loop .inv) (l .before .before .loop-test .taken) (l .line .result) (l .line .ensures) in
     let f = c .before .before .before .fill in
     let w = c .before .before .before .before .before .wide in
     let r = l .line .result in
@@ -94,9 +85,9 @@ loop-again c =
     (f .last .0) (set (b .loop .columns) (b .loop .k) (r .second - 1)) (set (b .loop .values) (b .loop .k) (r .third))
     (r .next) above (b .loop .k + 1))
     (sym (w .ensures .0))
-    (entry-line-more (d .args .text .now) (d .args .from) (d .args .count) (d .args .n) (d .args .starts .now) (d .args .columns .now) (d .args .values .now)
+    (entry-turn (d .args .text .now) (d .args .from) (d .args .count) (d .args .n) (d .args .starts .now) (d .args .columns .now) (d .args .values .now)
     (b .loop .starts) (b .loop .columns) (b .loop .values) (b .loop .at) (b .loop .above) (b .loop .k) (d .pre .0) (b .loop .inv)
-    (r .first) (r .second) (r .third) (r .next) (l .before .before .loop-test .taken) h
+    (l .before .before .loop-test .taken) r (l .line .ensures)
     (f .last .0) (d .pre .1 .0) (d .pre .1 .1) (d .pre .1 .2) (f .kept .0)
     (f .ensures ∙ ap (λ x. sets (b .loop .starts) (b .loop .above) (replicate (x - b .loop .above) (b .loop .k))) (w .ensures .0)))
 

@@ -1,4 +1,6 @@
 -- `survey::survey_from` meets its contract.
+use mathlib.Core.Path.{refl}
+use Rattle.system_reader.specs.Lines.{scale-word, element-word}
 use Rattle.system_reader.specs.Surveys.{surveyed-from}
 use borrow.Author.Needs.{needs}
 use Rattle.system_reader.proofs.survey.survey_from.Statement.{statement}
@@ -7,34 +9,40 @@ use Rattle.system_reader.proofs.survey.survey_from.Tie as tie
 entry-lines-requires : tie.Need-entry-lines-requires
 entry-lines-requires c κs = search needs
 
-element-lines-requires : tie.Need-element-lines-requires
-element-lines-requires c κs = search needs
+slice-aggregate-placed-lines : tie.Need-slice-aggregate-placed-lines
+slice-aggregate-placed-lines c = search needs
+
+placed-lines-requires : tie.Need-placed-lines-requires
+placed-lines-requires c κs = (c .before .entry-lines .ensures .within, scale-word)
+
+slice-aggregate-placed-lines-2 : tie.Need-slice-aggregate-placed-lines-2
+slice-aggregate-placed-lines-2 c = search needs
+
+placed-lines-requires-2 : tie.Need-placed-lines-requires-2
+placed-lines-requires-2 c κs = (c .before .placed-lines .ensures .group .within, element-word)
 
 ended-requires : tie.Need-ended-requires
-ended-requires c κs = search needs
-
-both-requires : tie.Need-both-requires
-both-requires c κs = search needs
-
-both-requires-2 : tie.Need-both-requires-2
-both-requires-2 c κs = search needs
+ended-requires c κs = c .placed-lines2 .ensures .group .within
 
 returns : tie.Need-returns
 returns c =
-    let b = c .before .before in
-    let e = b .before .before in
-    let a = e .before .before .args in
-    surveyed-from (a .text .now) (a .p) (a .n) (a .count) (a .body) (e .entry-lines .result) (b .before .element-lines .result) (b .ended .result)
-    (c .before .both .result) (c .both2 .result) (e .entry-lines .ensures) (b .before .element-lines .ensures) (b .ended .ensures)
-    (c .before .both .ensures) (c .both2 .ensures)
+    let f = c .before .before .before .before .before .before .before .before in
+    let b = f .before in
+    let x = b .before .before in
+    let a = x .before .before in
+    let d = a .before .before .args in
+    surveyed-from (d .text .now) (d .p) (d .n) (d .count) (d .body) (a .entry-lines .result) (x .placed-lines .result) (b .placed-lines2 .result)
+    (f .ended .result) _ _ (a .entry-lines .ensures) (x .placed-lines .ensures) (b .placed-lines2 .ensures) (f .ended .ensures)
+    refl refl
 
 pub survey-from-spec : {M : Type 1} → statement M
 survey-from-spec =
     tie.close
     (tie.spec
     entry-lines-requires
-    element-lines-requires
+    slice-aggregate-placed-lines
+    placed-lines-requires
+    slice-aggregate-placed-lines-2
+    placed-lines-requires-2
     ended-requires
-    both-requires
-    both-requires-2
     returns)
