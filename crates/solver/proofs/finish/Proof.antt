@@ -2,6 +2,7 @@ use Rattle.solver.specs.declared.Counts.{Counts}
 use Rattle.solver.specs.Verdict.{closing, closing-none, divisor, constant, coefficients, taken-in}
 use Rattle.wiedemann.specs.Horner.{vector-apply}
 use Rattle.laws.specs.Lent.{part-at}
+use Rattle.laws.specs.List.{length-table}
 use Rattle.laws.specs.Part.{part, length-part}
 use Rattle.bridge.specs.ThirdCondition.{verdict-zero, verdict-singular, verdict-solved}
 use Rattle.checks.specs.declared.Products.{Products}
@@ -144,7 +145,9 @@ mul-constant : tie.Need-mul-constant
 mul-constant c = search needs
 
 slice-read-constant : tie.Need-slice-read-constant
-slice-read-constant c = search needs
+slice-read-constant c =
+    let a = c .before .before .before .before .before .before .before .before .before .before .before .before .before .before .before .before .before .before .before .before .before .before .before .before .before .args in
+    omega (arith, ap length (factor (c .before .before .before .before .before .before .before .before .before .before .before .before .before)), length-table (length (now (a .starts)) - 1 + 1) (λ i. at (part 0 (a .c .degree + 1) (now (a .work))) i))
 
 closed-requires : tie.Need-closed-requires
 closed-requires c κs =
