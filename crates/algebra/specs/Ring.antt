@@ -4,8 +4,7 @@
 --     ring-laws        the rules: associativity, commutativity, units, zeros, signs, distribution
 --     neg-*, mul-*     laws of signs and zeros that follow
 --     sub-zero-eq      a ⊕ ⊖ b ≡ 𝟎 only for a ≡ b
---     mul-cancel       in a field a ⊗ b ≡ 𝟎 and a ≢ 𝟎 only for b ≡ 𝟎
---     mul-nonzero      so a product of two that are not 𝟎 is not; waits for request (vi), Xw ≢ 0
+--     inv-mul          in a field an inverse times its element is 𝟏
 use mathlib.Core.Path.{_≡_, sym, ap, _∙_}
 use mathlib.Core.Logic.{_≢_}
 
@@ -148,10 +147,3 @@ module _ (F : Field) where
   infix 75 ⊖_
   pub inv-mul : (a : C) → a ≢ 𝟎 → inv a ⊗ a ≡ 𝟏
   inv-mul a h = mul-comm R (inv a) a ∙ mul-inv a h
-
-  pub mul-cancel : (a b : C) → a ≢ 𝟎 → a ⊗ b ≡ 𝟎 → b ≡ 𝟎
-  mul-cancel a b h e =
-      sym (one-mul R b) ∙ ap (λ x. x ⊗ b) (sym (inv-mul a h)) ∙ mul-assoc R (inv a) a b ∙ ap (λ x. inv a ⊗ x) e ∙ mul-zero R (inv a)
-
-  pub mul-nonzero : (a b : C) → a ≢ 𝟎 → b ≢ 𝟎 → a ⊗ b ≢ 𝟎
-  mul-nonzero a b ha hb e = hb (mul-cancel a b ha e)

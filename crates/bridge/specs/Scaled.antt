@@ -122,11 +122,11 @@ scale-ones n j = place (decLt j n)
     place (yes k) = getD-table n (λ j. 1) j 1 k
     place (no k) = getD-table-past n (λ j. 1) j 1 (omega arith)
 
-pub scaled-ones : (p : ℕ) (A : Matrix) {b : List ℕ} → AcceptedSystem p A b → scaled p A (table (size A) (λ j. 1)) ≡ scaled p A []
-scaled-ones p A a = scaled-same p (table (size A) (λ j. 1)) [] (scale-ones (size A)) A
+pub scaled-ones : (p : ℕ) (A : Matrix) → scaled p A (table (size A) (λ j. 1)) ≡ scaled p A []
+scaled-ones p A = scaled-same p (table (size A) (λ j. 1)) [] (scale-ones (size A)) A
 
-pub diagonal-ones : (p n : ℕ) (v : List ℕ) → length v ≡ n → diagonal p (table n (λ j. 1)) v ≡ diagonal p [] v
-diagonal-ones p n v e = diagonal-same p (table n (λ j. 1)) [] (scale-ones n) v
+pub diagonal-ones : (p n : ℕ) (v : List ℕ) → diagonal p (table n (λ j. 1)) v ≡ diagonal p [] v
+diagonal-ones p n v = diagonal-same p (table n (λ j. 1)) [] (scale-ones n) v
 
 -- ---- scales that pass the checks
 

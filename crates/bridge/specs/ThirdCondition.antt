@@ -41,7 +41,7 @@ use Rattle.meaning.specs.Recurrence.{isMonic}
 use Rattle.meaning.specs.Solver.{vectorCount, vectors, projections, Run, begin, run, Kind, solved, singular, Outcome, spent, applications, verdict, close, outcome, answered, solve, nothingLeft}
 use Rattle.meaning.specs.ThirdCondition.{inSpan, termCost, ThirdCondition, SameAnswer}
 use Rattle.meaning.specs.Refusal.{first}
-use Rattle.meaning.specs.Calls.{runChecks, EveryRun, EveryTwoRuns, EveryEmptyRun}
+use Rattle.meaning.specs.Calls.{runChecks, EveryRun, EveryTwoRuns, EveryEmptyRun, EveryPlainRun}
 use Rattle.laws.specs.Bool.{test-cases, never}
 use Rattle.laws.specs.List.{length-table, length-none}
 use Rattle.laws.specs.Accepted.{AcceptedSystem, AcceptedScales, run-accepted}
@@ -456,6 +456,5 @@ solve-same p A X Y same b words w =
     o : Outcome
     o = outcome p (scaled p A Y) b words w
 
-pub everyPlainRun : (p : ℕ) (A : Matrix) (b words : List ℕ) (w : ℕ) → first (runChecks p A [] b words w) ≡ 0
-    → solve p A (table (size A) (λ j. 1)) b words w ≡ solve p A [] b words w
-everyPlainRun p A b words w e = solve-same p A (table (size A) (λ j. 1)) [] (scale-ones (size A)) b words w
+pub everyPlainRun : EveryPlainRun
+everyPlainRun p A b words w = solve-same p A (table (size A) (λ j. 1)) [] (scale-ones (size A)) b words w

@@ -4,7 +4,8 @@
 --     field, operation, inverse                the field and its operations
 --     product, apply                           the three that write a vector; `product` is the transposed product's too
 --     recurrence                               the shortest recurrence
---     solver                                   the run, with its scales X; EveryRun and EveryTwoRuns are the third condition's theorems, EveryEmptyRun that of size 0
+--     solver                                   the run, with its scales X; EveryRun and EveryTwoRuns are the third condition's theorems, EveryEmptyRun that of size 0,
+--                                              EveryPlainRun that of n ones
 --     takes, isNull                            the two checks of offered answers
 --     reader, writer                           system text
 --     text, program                            the text call and the program
@@ -16,7 +17,7 @@ use mathlib.Core.List.{List, [], _∷_, _++_}
 use Prim.Native.Nat.{ℕ, _+_, _-_, _*_}
 use lib.Dec.{eqb, ltb, leb}
 use lib.ListN.{length}
-use Rattle.meaning.specs.List.{padded, overwrite}
+use Rattle.meaning.specs.List.{table, padded, overwrite}
 use Rattle.meaning.specs.Field.{isModulus, inverse}
 use Rattle.meaning.specs.Matrix.{Matrix, size, apply, entryCount, multiplied}
 use Rattle.meaning.specs.Recurrence.{degree, generator}
@@ -145,6 +146,10 @@ abbrev pub EveryTwoRuns : Type 0
 EveryTwoRuns =
     (p : ℕ) (A : Matrix) (X b words words′ : List ℕ) (w w′ : ℕ) → first (runChecks p A X b words w) ≡ 0 → first (runChecks p A X b words′ w′) ≡ 0
     → SameAnswer (solve p A X b words w) (solve p A X b words′ w′)
+
+-- request (vi): "n scales, all 1 if not given": a run with n ones ends as one without scales
+abbrev pub EveryPlainRun : Type 0
+EveryPlainRun = (p : ℕ) (A : Matrix) (b words : List ℕ) (w : ℕ) → solve p A (table (size A) (λ j. 1)) b words w ≡ solve p A [] b words w
 
 -- request (iii): "equal to applications × entries"
 abbrev pub EveryRunByEntry : Type 0

@@ -5,7 +5,8 @@
 --     more-cases       its other cases, and cases worked out by evidence/reference.py, which was written from the paper alone
 --     nothing-left-cases          request (ii)'s, of size 0
 --     window-cases                request (v)'s, with a window
---     proved-rows, more-rows, nothing-left-rows, window-rows      they hold
+--     scaled-cases                request (vi)'s, with scales
+--     proved-rows, more-rows, nothing-left-rows, window-rows, scaled-rows      they hold
 use mathlib.Core.Path.{_≡_, refl}
 use mathlib.Core.Bool.{Bool, true, false}
 use mathlib.Core.List.{List, [], _∷_}
@@ -76,6 +77,8 @@ pub data Case : Type 0 where
   -- the text call, and what the program prints
   text-gives : (text answer : String) → Case
   text-refuses : (text : String) (room number : ℕ) → Case
+  -- .. of so many bytes 120
+  bytes-refused : (count room number : ℕ) → Case
   -- the field: a number and an element
   sum-gives difference-gives product-of-gives : (p a b number element : ℕ) → Case
   inverse-gives : (p a number element : ℕ) → Case
@@ -208,6 +211,7 @@ Holds (text-gives text answer) =
     (textAnswer (bytes text) 7168, solvedText (bytes text), programOutput (bytes text))
     (length (bytes answer), bytes answer, bytes answer)
 Holds (text-refuses text room k) = textAnswer (bytes text) room ≡ k
+Holds (bytes-refused count room k) = textAnswer (replicate count 120) room ≡ k
 Holds (sum-gives p a b k x) = _≡_ {A = ℕ × ℕ} (operationRefusal p a b, operationAnswer plus p a b) (k, x)
 Holds (difference-gives p a b k x) = _≡_ {A = ℕ × ℕ} (operationRefusal p a b, operationAnswer minus p a b) (k, x)
 Holds (product-of-gives p a b k x) = _≡_ {A = ℕ × ℕ} (operationRefusal p a b, operationAnswer times p a b) (k, x)
@@ -528,3 +532,125 @@ window-cases =
 pub window-rows : AllHold window-cases
 unfolding compute
 window-rows = (refl, (refl, (refl, (refl, (refl, (refl, (refl, (refl, (refl, (refl, (refl, (refl, (refl, (refl, (refl, (refl, (refl, (refl, (refl, (refl, (refl, (refl, (refl, (refl, (refl, (refl, (refl, (refl, (refl, (refl, (refl, tt)))))))))))))))))))))))))))))))
+
+-- document 02, request (vi): "scaled columns"; worked out by evidence/reference.py, which builds AX entry by entry
+abbrev pub scaled-cases : List Case
+scaled-cases =
+    -- the solver
+    scaled-gives 7 diag23 (4 ∷ 5 ∷ []) (1 ∷ 1 ∷ []) [] 0 solved (4 ∷ 5 ∷ []) (6 ∷ 1 ∷ []) (made 2 1 4 ∷ []) 4 8
+    ∷ scaled-gives 7 (matrix (0 ∷ 1 ∷ 2 ∷ []) (0 ∷ 1 ∷ []) (2 ∷ 2 ∷ [])) (1 ∷ 5 ∷ []) (1 ∷ 1 ∷ []) [] 0 solved (4 ∷ 4 ∷ []) (6 ∷ 2 ∷ 1 ∷ []) (made 2 1 4 ∷ made 1 1 2 ∷ []) 7 14
+    ∷ scaled-gives 7 U (3 ∷ 2 ∷ []) (0 ∷ 1 ∷ []) [] 0 singular (6 ∷ 0 ∷ []) (0 ∷ 0 ∷ 1 ∷ []) (made 2 2 5 ∷ []) 6 6
+    ∷ scaled-gives 7 U (3 ∷ 2 ∷ []) (1 ∷ 0 ∷ []) [] 0 singular (3 ∷ 0 ∷ []) (0 ∷ 1 ∷ []) (made 2 1 4 ∷ []) 4 4
+    ∷ scaled-gives 7 (matrix (0 ∷ 2 ∷ 4 ∷ []) (0 ∷ 1 ∷ 0 ∷ 1 ∷ []) (1 ∷ 1 ∷ 6 ∷ 6 ∷ [])) (1 ∷ 2 ∷ []) (1 ∷ 6 ∷ []) [] 0 solved (6 ∷ 2 ∷ []) (1 ∷ 1 ∷ []) (made 2 1 4 ∷ []) 4 16
+    ∷ scaled-gives 7 (matrix (0 ∷ 2 ∷ 4 ∷ []) (0 ∷ 1 ∷ 0 ∷ 1 ∷ []) (1 ∷ 2 ∷ 6 ∷ 5 ∷ [])) (1 ∷ 4 ∷ []) (1 ∷ 6 ∷ []) [] 0 singular (1 ∷ 3 ∷ []) (0 ∷ 1 ∷ []) (made 2 1 4 ∷ []) 4 16
+    ∷ scaled-gives 7 diag23 (1 ∷ 1 ∷ []) (1 ∷ 1 ∷ []) [] 0 solved (4 ∷ 5 ∷ []) (6 ∷ 2 ∷ 1 ∷ []) (made 2 1 4 ∷ made 1 1 2 ∷ []) 7 14
+    ∷ scaled-gives 7 (matrix (0 ∷ 1 ∷ 2 ∷ 4 ∷ []) (0 ∷ 1 ∷ 0 ∷ 2 ∷ []) (6 ∷ 3 ∷ 5 ∷ 2 ∷ [])) (4 ∷ 1 ∷ 6 ∷ []) (2 ∷ 2 ∷ 1 ∷ []) [] 0 solved (5 ∷ 3 ∷ 2 ∷ []) (4 ∷ 1 ∷ []) (made 3 1 6 ∷ []) 6 24
+    ∷ scaled-gives 7 (matrix (0 ∷ 1 ∷ 2 ∷ 4 ∷ []) (0 ∷ 1 ∷ 0 ∷ 2 ∷ []) (6 ∷ 3 ∷ 5 ∷ 2 ∷ [])) (4 ∷ 1 ∷ 6 ∷ []) (2 ∷ 2 ∷ 1 ∷ []) [] 2 solved (5 ∷ 3 ∷ 2 ∷ []) (4 ∷ 1 ∷ []) (made 3 1 4 ∷ []) 4 16
+    ∷ scaled-gives 7 (matrix (0 ∷ 1 ∷ 3 ∷ 4 ∷ []) (1 ∷ 0 ∷ 2 ∷ 1 ∷ []) (1 ∷ 2 ∷ 3 ∷ 4 ∷ [])) (2 ∷ 3 ∷ 5 ∷ []) (2 ∷ 1 ∷ 1 ∷ []) (0 ∷ 0 ∷ 0 ∷ []) 1 solved (2 ∷ 2 ∷ 6 ∷ []) (4 ∷ 0 ∷ 1 ∷ []) (made 3 0 5 ∷ made 3 2 6 ∷ []) 12 48
+    ∷ scaled-gives 7 (matrix (0 ∷ 1 ∷ 3 ∷ 4 ∷ []) (1 ∷ 0 ∷ 2 ∷ 1 ∷ []) (1 ∷ 2 ∷ 3 ∷ 4 ∷ [])) (2 ∷ 3 ∷ 5 ∷ []) (1 ∷ 0 ∷ 2 ∷ []) [] 0 singular (2 ∷ 0 ∷ 1 ∷ []) (0 ∷ 4 ∷ 0 ∷ 1 ∷ []) (made 3 3 8 ∷ []) 10 40
+    ∷ scaled-gives 7 (matrix (0 ∷ 1 ∷ 4 ∷ 6 ∷ 7 ∷ []) (3 ∷ 0 ∷ 2 ∷ 3 ∷ 0 ∷ 3 ∷ 0 ∷ []) (3 ∷ 5 ∷ 6 ∷ 5 ∷ 2 ∷ 6 ∷ 5 ∷ [])) (5 ∷ 2 ∷ 6 ∷ 4 ∷ []) (2 ∷ 1 ∷ 0 ∷ 1 ∷ []) [] 0 singular (0 ∷ 1 ∷ 0 ∷ 0 ∷ []) (0 ∷ 0 ∷ 1 ∷ 0 ∷ 1 ∷ []) (made 4 2 9 ∷ made 2 2 5 ∷ []) 17 119
+    ∷ scaled-gives 7 (matrix (0 ∷ 1 ∷ 2 ∷ 4 ∷ []) (2 ∷ 2 ∷ 0 ∷ 1 ∷ []) (6 ∷ 3 ∷ 6 ∷ 2 ∷ [])) (4 ∷ 6 ∷ 3 ∷ []) (2 ∷ 1 ∷ 0 ∷ []) [] 1 solved (0 ∷ 0 ∷ 5 ∷ []) (6 ∷ 0 ∷ 1 ∷ []) (made 3 2 8 ∷ []) 9 36
+    ∷ scaled-gives 7 diag23 (4 ∷ 5 ∷ []) (1 ∷ 1 ∷ []) (0 ∷ 0 ∷ []) 0 solved (4 ∷ 5 ∷ []) (6 ∷ 1 ∷ []) (made 2 0 3 ∷ made 2 1 4 ∷ []) 7 14
+    ∷ scaled-gives 7 (matrix (0 ∷ 0 ∷ 0 ∷ []) [] []) (3 ∷ 2 ∷ []) (0 ∷ 3 ∷ []) [] 0 singular (0 ∷ 6 ∷ []) (0 ∷ 1 ∷ []) (made 2 0 3 ∷ made 2 1 4 ∷ []) 7 0
+    ∷ scaled-gives 7 diag23 (4 ∷ 5 ∷ []) (0 ∷ 0 ∷ []) [] 0 solved (0 ∷ 0 ∷ []) (1 ∷ []) [] 0 0
+    ∷ scaled-gives 7 (matrix (0 ∷ 1 ∷ []) (0 ∷ []) (3 ∷ [])) (5 ∷ []) (2 ∷ []) [] 0 solved (3 ∷ []) (6 ∷ 1 ∷ []) (made 1 1 2 ∷ []) 2 2
+    ∷ scaled-gives 2 (matrix (0 ∷ 0 ∷ 1 ∷ []) (1 ∷ []) (1 ∷ [])) (1 ∷ 1 ∷ []) (1 ∷ 1 ∷ []) [] 0 singular (1 ∷ 0 ∷ []) (0 ∷ 1 ∷ 1 ∷ []) (made 2 1 4 ∷ made 1 1 2 ∷ []) 7 7
+    ∷ scaled-gives 7 nothing [] [] [] 0 solved [] (1 ∷ []) [] 0 0
+    -- its refusals: 5 for the number of scales, 7 for a scale that is 0 or p, each in its order
+    ∷ scaled-refuses 7 diag23 (1 ∷ []) (1 ∷ 1 ∷ []) [] 0 2 3 48 5
+    ∷ scaled-refuses 7 diag23 (1 ∷ 1 ∷ 1 ∷ []) (1 ∷ 1 ∷ []) [] 0 2 3 48 5
+    ∷ scaled-refuses 7 diag23 (0 ∷ 0 ∷ 0 ∷ []) (1 ∷ 1 ∷ []) [] 0 2 3 48 5
+    ∷ scaled-refuses 7 diag23 (0 ∷ 1 ∷ []) (1 ∷ 1 ∷ []) [] 0 2 3 48 7
+    ∷ scaled-refuses 7 diag23 (1 ∷ 7 ∷ []) (1 ∷ 1 ∷ []) [] 0 2 3 48 7
+    ∷ scaled-refuses 7 diag23 (1 ∷ 8 ∷ []) (1 ∷ 1 ∷ []) [] 0 2 3 48 7
+    ∷ scaled-refuses 8 diag23 (1 ∷ []) (1 ∷ 1 ∷ []) [] 0 2 3 48 3
+    ∷ scaled-refuses 7 (matrix [] [] []) (1 ∷ []) [] [] 0 0 1 16 4
+    ∷ scaled-refuses 7 (matrix (0 ∷ 1 ∷ 2 ∷ []) (0 ∷ 2 ∷ []) (2 ∷ 3 ∷ [])) (1 ∷ []) (1 ∷ []) [] 0 2 3 48 5
+    ∷ scaled-refuses 7 (matrix (0 ∷ 1 ∷ 2 ∷ []) (0 ∷ 2 ∷ []) (2 ∷ 3 ∷ [])) (0 ∷ 1 ∷ []) (1 ∷ 1 ∷ []) [] 0 2 3 48 6
+    ∷ scaled-refuses 7 diag23 (7 ∷ 1 ∷ []) (1 ∷ []) [] 0 2 3 48 7
+    ∷ scaled-refuses 7 diag23 (0 ∷ 1 ∷ []) (1 ∷ 7 ∷ []) (1 ∷ []) 65 1 3 48 7
+    ∷ scaled-refuses 7 diag23 (4 ∷ 5 ∷ []) (1 ∷ []) [] 0 2 3 48 8
+    ∷ scaled-refuses 7 diag23 (4 ∷ 5 ∷ []) (1 ∷ 1 ∷ []) (1 ∷ []) 65 2 3 48 10
+    ∷ scaled-refuses 7 diag23 (4 ∷ 5 ∷ []) (1 ∷ 1 ∷ []) [] 65 2 3 47 13
+    ∷ scaled-refuses 7 diag23 (4 ∷ 5 ∷ []) (1 ∷ 1 ∷ []) [] 0 2 3 47 11
+    ∷ scaled-refuses 7 nothing (1 ∷ []) [] [] 0 0 1 16 5
+    -- the reader: the slice of scales, ones where the text has none; each cause of 2, 5, 6, 7 and 11
+    ∷ scales-read "system\t7\t2\t2\na\t1\t1\t2\na\t2\t2\t3\ns\t1\t4\ns\t2\t5\nb\t1\t1\nb\t2\t1\nend\n" 4 (4 ∷ 5 ∷ 9 ∷ 9 ∷ [])
+    ∷ scales-read "system\t7\t2\t2\na\t1\t1\t2\na\t2\t2\t3\ns\t1\t4\ns\t2\t5\nb\t1\t1\nb\t2\t1\nend\n" 2 (4 ∷ 5 ∷ [])
+    ∷ scales-read "system\t7\t2\t2\na\t1\t1\t2\na\t2\t2\t3\ns\t1\t1\ns\t2\t6\nb\t1\t1\nb\t2\t1\nend\n" 4 (1 ∷ 6 ∷ 9 ∷ 9 ∷ [])
+    ∷ scales-read "system\t7\t2\t2\na\t1\t1\t2\na\t2\t2\t3\ns\t1\t6\ns\t2\t1\nb\t1\t1\nb\t2\t1\nend\n" 4 (6 ∷ 1 ∷ 9 ∷ 9 ∷ [])
+    ∷ scales-read "system\t7\t2\t2\na\t1\t1\t2\na\t2\t2\t3\nb\t1\t1\nb\t2\t1\nend\n" 4 (1 ∷ 1 ∷ 9 ∷ 9 ∷ [])
+    ∷ scales-read "system\t3\t1\t0\ns\t1\t2\nend\n" 4 (2 ∷ 9 ∷ 9 ∷ 9 ∷ [])
+    ∷ scales-read "system\t11\t3\t1\na\t2\t3\t10\ns\t1\t1\ns\t2\t10\ns\t3\t4\nb\t3\t4\nend\n" 4 (1 ∷ 10 ∷ 4 ∷ 9 ∷ [])
+    ∷ scales-read "system\t7\t0\t0\nend\n" 4 (9 ∷ 9 ∷ 9 ∷ 9 ∷ [])
+    ∷ scales-read "system\t7\t0\t0\nend\n" 0 []
+    ∷ scales-refused "system\t7\t2\t2\na\t1\t1\t2\na\t2\t2\t3\nb\t1\t1\nb\t2\t1\ns\t1\t4\ns\t2\t5\nend\n" 4 2
+    ∷ scales-refused "system\t7\t2\t2\ns\t1\t4\ns\t2\t5\na\t1\t1\t2\na\t2\t2\t3\nb\t1\t1\nb\t2\t1\nend\n" 4 2
+    ∷ scales-refused "system\t7\t2\t2\na\t1\t1\t2\na\t2\t2\t3\ns\t1\ns\t2\nb\t1\t1\nb\t2\t1\nend\n" 4 2
+    ∷ scales-refused "system\t7\t2\t2\na\t1\t1\t2\na\t2\t2\t3\ns\t1\t4\t1\ns\t2\t5\t1\nb\t1\t1\nb\t2\t1\nend\n" 4 2
+    ∷ scales-refused "system\t7\t2\t2\na\t1\t1\t2\na\t2\t2\t3\nb\t1\t1\nb\t2\t1\ns\t3\t0\ns\t1\t0\ns\t1\t0\nend\n" 4 2
+    ∷ scales-refused "system\t7\t2\t2\na\t1\t1\t2\na\t2\t2\t3\ns\t1\t4\nb\t1\t1\nb\t2\t1\nend\n" 4 5
+    ∷ scales-refused "system\t7\t2\t2\na\t1\t1\t2\na\t2\t2\t3\ns\t1\t4\ns\t2\t5\ns\t3\t1\nb\t1\t1\nb\t2\t1\nend\n" 4 5
+    ∷ scales-refused "system\t7\t2\t2\na\t1\t1\t2\na\t2\t2\t3\ns\t3\t0\nb\t1\t1\nb\t2\t1\nend\n" 4 5
+    ∷ scales-refused "system\t7\t2\t2\na\t1\t1\t2\na\t2\t2\t3\ns\t1\t1\nb\t1\t1\nb\t2\t1\nend\n" 4 5
+    ∷ scales-refused "system\t7\t0\t0\ns\t1\t2\nend\n" 4 5
+    ∷ scales-refused "system\t9\t2\t2\na\t1\t1\t2\na\t2\t2\t3\ns\t1\t4\nb\t1\t1\nb\t2\t1\nend\n" 4 3
+    ∷ scales-refused "system\t7\t4097\t0\ns\t1\t4\ns\t2\t5\nend\n" 4 4
+    ∷ scales-refused "system\t7\t2\t2\na\t1\t1\t2\na\t2\t2\t3\ns\t1\t4\ns\t3\t5\nb\t1\t1\nb\t2\t1\nend\n" 4 6
+    ∷ scales-refused "system\t7\t2\t2\na\t1\t1\t2\na\t2\t2\t3\ns\t0\t4\ns\t1\t5\nb\t1\t1\nb\t2\t1\nend\n" 4 6
+    ∷ scales-refused "system\t7\t2\t2\na\t1\t1\t2\na\t2\t2\t3\ns\t2\t4\ns\t1\t5\nb\t1\t1\nb\t2\t1\nend\n" 4 6
+    ∷ scales-refused "system\t7\t2\t2\na\t1\t1\t2\na\t2\t2\t3\ns\t1\t4\ns\t1\t5\nb\t1\t1\nb\t2\t1\nend\n" 4 6
+    ∷ scales-refused "system\t7\t2\t2\na\t1\t1\t2\na\t2\t2\t3\ns\t1\t1\ns\t2\t1\nb\t1\t1\nb\t2\t1\nend\n" 4 6
+    ∷ scales-refused "system\t7\t1\t0\ns\t1\t1\nend\n" 4 6
+    ∷ scales-refused "system\t2\t1\t0\ns\t1\t1\nend\n" 4 6
+    ∷ scales-refused "system\t7\t2\t1\na\t1\t1\t7\ns\t1\t1\ns\t2\t1\nend\n" 4 6
+    ∷ scales-refused "system\t7\t2\t2\na\t1\t1\t2\na\t2\t2\t3\ns\t1\t0\ns\t1\t7\nb\t1\t1\nb\t2\t1\nend\n" 4 6
+    ∷ scales-refused "system\t7\t2\t2\na\t1\t1\t2\na\t2\t2\t3\ns\t1\t4\ns\t2\t5\nb\t2\t1\nb\t1\t1\nend\n" 4 6
+    ∷ scales-refused "system\t7\t2\t2\na\t1\t1\t2\na\t2\t2\t3\ns\t1\t0\ns\t2\t5\nb\t1\t1\nb\t2\t1\nend\n" 4 7
+    ∷ scales-refused "system\t7\t2\t2\na\t1\t1\t2\na\t2\t2\t3\ns\t1\t4\ns\t2\t7\nb\t1\t1\nb\t2\t1\nend\n" 4 7
+    ∷ scales-refused "system\t7\t2\t2\na\t1\t1\t2\na\t2\t2\t3\ns\t1\t8\ns\t2\t8\nb\t1\t1\nb\t2\t1\nend\n" 4 7
+    ∷ scales-refused "system\t7\t2\t2\na\t1\t1\t2\na\t2\t2\t3\ns\t1\t4\ns\t2\t7\nb\t1\t1\nb\t2\t1\nend\n" 1 7
+    ∷ scales-refused "system\t7\t2\t2\na\t1\t1\t2\na\t2\t2\t3\ns\t1\t4\ns\t2\t5\nb\t1\t1\nb\t2\t1\nend\n" 1 11
+    ∷ scales-refused "system\t7\t2\t2\na\t1\t1\t2\na\t2\t2\t3\nb\t1\t1\nb\t2\t1\nend\n" 1 11
+    -- the writer: `s` lines exactly if some scale is not 1
+    ∷ scaled-writes 7 diag23 (4 ∷ 5 ∷ []) (1 ∷ 1 ∷ []) 57 57 "system\t7\t2\t2\na\t1\t1\t2\na\t2\t2\t3\ns\t1\t4\ns\t2\t5\nb\t1\t1\nb\t2\t1\nend\n"
+    ∷ scaled-writes 7 diag23 (1 ∷ 5 ∷ []) (1 ∷ 1 ∷ []) 57 57 "system\t7\t2\t2\na\t1\t1\t2\na\t2\t2\t3\ns\t1\t1\ns\t2\t5\nb\t1\t1\nb\t2\t1\nend\n"
+    ∷ scaled-writes 7 diag23 (4 ∷ 1 ∷ []) (1 ∷ 1 ∷ []) 57 57 "system\t7\t2\t2\na\t1\t1\t2\na\t2\t2\t3\ns\t1\t4\ns\t2\t1\nb\t1\t1\nb\t2\t1\nend\n"
+    ∷ scaled-writes 7 diag23 (1 ∷ 1 ∷ []) (1 ∷ 1 ∷ []) 45 45 "system\t7\t2\t2\na\t1\t1\t2\na\t2\t2\t3\nb\t1\t1\nb\t2\t1\nend\n"
+    ∷ scaled-writes 11 (matrix (0 ∷ 0 ∷ 0 ∷ 0 ∷ []) [] []) (1 ∷ 10 ∷ 1 ∷ []) (0 ∷ 0 ∷ 0 ∷ []) 37 37 "system\t11\t3\t0\ns\t1\t1\ns\t2\t10\ns\t3\t1\nend\n"
+    ∷ scaled-writes 7 nothing [] [] 17 17 "system\t7\t0\t0\nend\n"
+    ∷ scaled-writes 7 diag23 (4 ∷ []) (1 ∷ 1 ∷ []) 60 0 "............................................................"
+    ∷ scaled-writes 7 diag23 (4 ∷ 0 ∷ []) (1 ∷ 1 ∷ []) 60 0 "............................................................"
+    ∷ scaled-writes 7 diag23 (7 ∷ 5 ∷ []) (1 ∷ 1 ∷ []) 60 0 "............................................................"
+    ∷ scaled-writes 7 diag23 (7 ∷ 5 ∷ []) (1 ∷ []) 0 0 ""
+    ∷ scaled-writes 7 nothing (1 ∷ []) [] 20 0 "...................."
+    ∷ scaled-writes 7 diag23 (4 ∷ 5 ∷ []) (1 ∷ 1 ∷ []) 56 0 "........................................................"
+    -- the text call; 26,624 bytes are read, one more is not
+    ∷ text-gives
+    "system\t7\t2\t2\na\t1\t1\t2\na\t2\t2\t3\ns\t1\t4\ns\t2\t5\nb\t1\t1\nb\t2\t1\nend\n"
+    "answer\tsolved\t1\t1\t4\t8\npass\t1\t2\t1\t4\nclose\t0\nf\t0\t6\nf\t1\t1\nx\t1\t4\nx\t2\t5\nend\n"
+    ∷ text-gives
+    "system\t7\t2\t1\na\t1\t2\t1\ns\t1\t3\ns\t2\t2\nb\t2\t1\nend\n"
+    "answer\tsingular\t2\t1\t6\t6\npass\t1\t2\t2\t5\nclose\t1\nf\t0\t0\nf\t1\t0\nf\t2\t1\nw\t1\t6\nw\t2\t0\nend\n"
+    ∷ text-gives
+    "system\t7\t2\t4\na\t1\t1\t1\na\t1\t2\t1\na\t2\t1\t6\na\t2\t2\t6\ns\t1\t1\ns\t2\t2\nb\t1\t1\nb\t2\t6\nend\n"
+    "answer\tsolved\t1\t1\t4\t16\npass\t1\t2\t1\t4\nclose\t0\nf\t0\t1\nf\t1\t1\nx\t1\t6\nx\t2\t2\nend\n"
+    ∷ text-gives
+    "system\t7\t2\t4\na\t1\t1\t1\na\t1\t2\t2\na\t2\t1\t6\na\t2\t2\t5\ns\t1\t1\ns\t2\t4\nb\t1\t1\nb\t2\t6\nend\n"
+    "answer\tsingular\t1\t1\t4\t16\npass\t1\t2\t1\t4\nclose\t0\nf\t0\t0\nf\t1\t1\nw\t1\t1\nw\t2\t3\nend\n"
+    ∷ text-gives
+    "system\t7\t3\t4\na\t1\t1\t6\na\t2\t2\t3\na\t3\t1\t5\na\t3\t3\t2\ns\t1\t4\ns\t2\t1\ns\t3\t6\nb\t1\t2\nb\t2\t2\nb\t3\t1\nend\n"
+    "answer\tsolved\t1\t1\t6\t24\npass\t1\t3\t1\t6\nclose\t0\nf\t0\t4\nf\t1\t1\nx\t1\t5\nx\t2\t3\nx\t3\t2\nend\n"
+    ∷ text-refuses "system\t7\t2\t2\na\t1\t1\t2\na\t2\t2\t3\ns\t1\t4\nb\t1\t1\nb\t2\t1\nend\n" 7168 5
+    ∷ text-refuses "system\t7\t2\t2\na\t1\t1\t2\na\t2\t2\t3\ns\t1\t1\ns\t2\t1\nb\t1\t1\nb\t2\t1\nend\n" 7168 6
+    ∷ text-refuses "system\t7\t2\t2\na\t1\t1\t2\na\t2\t2\t3\ns\t1\t4\ns\t2\t7\nb\t1\t1\nb\t2\t1\nend\n" 7168 7
+    ∷ text-refuses "system\t7\t2\t2\na\t1\t1\t2\na\t2\t2\t3\nb\t1\t1\nb\t2\t1\ns\t1\t4\ns\t2\t5\nend\n" 7168 2
+    ∷ text-refuses "system\t7\t2\t2\na\t1\t1\t2\na\t2\t2\t3\ns\t1\t4\ns\t2\t5\nb\t1\t1\nb\t2\t1\nend\n" 7167 11
+    ∷ text-refuses "system\t7\t129\t0\ns\t1\t2\nend\n" 7168 5
+    ∷ bytes-refused 26625 7168 1
+    ∷ bytes-refused 26624 7168 2
+    ∷ []
+
+pub scaled-rows : AllHold scaled-cases
+unfolding compute
+scaled-rows = (refl, (refl, (refl, (refl, (refl, (refl, (refl, (refl, (refl, (refl, (refl, (refl, (refl, (refl, (refl, (refl, (refl, (refl, (refl, (refl, (refl, (refl, (refl, (refl, (refl, (refl, (refl, (refl, (refl, (refl, (refl, (refl, (refl, (refl, (refl, (refl, (refl, (refl, (refl, (refl, (refl, (refl, (refl, (refl, (refl, (refl, (refl, (refl, (refl, (refl, (refl, (refl, (refl, (refl, (refl, (refl, (refl, (refl, (refl, (refl, (refl, (refl, (refl, (refl, (refl, (refl, (refl, (refl, (refl, (refl, (refl, (refl, (refl, (refl, (refl, (refl, (refl, (refl, (refl, (refl, (refl, (refl, (refl, (refl, (refl, (refl, (refl, (refl, (refl, (refl, (refl, (refl, (refl, (refl, (refl, (refl, (refl, (refl, tt))))))))))))))))))))))))))))))))))))))))))))))))))))))))))))))))))))))))))))))))))))))))))))))))))

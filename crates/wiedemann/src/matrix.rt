@@ -264,11 +264,11 @@ pub(crate) fn horner(
     while 0 < i {
         i -= 1;
         if i % 2 == 0 {
-            let more = scaled_step(m, g[i], v, starts, columns, values, scales, work, out);
-            done = plus(done, more);
+            let even = scaled_step(m, g[i], v, starts, columns, values, scales, work, out);
+            done = plus(done, even);
         } else {
-            let more = scaled_step(m, g[i], v, starts, columns, values, scales, out, work);
-            done = plus(done, more);
+            let odd = scaled_step(m, g[i], v, starts, columns, values, scales, out, work);
+            done = plus(done, odd);
         }
     }
     done
