@@ -1,6 +1,5 @@
 -- Laws of lists that the text's laws need beside those of the crate laws.
 --     map-append                                                        maps
---     getD-inside                                                       an element within a list, whatever is taken outside it
 --     flat-nil, flat-cons, flat-append, flat-one                        lists one after the other
 --     select-nil, select-cons, select-yes, select-no, select-append, select-all      selections
 --     every-append, every-join, every-one, every-head, every-tail, every-more, every-weaken, every-map      tests of each element
@@ -8,10 +7,6 @@ use mathlib.Core.Path.{_≡_, refl, sym, ap, _∙_}
 use mathlib.Core.Logic.{_⊎_, inl, inr}
 use mathlib.Core.Bool.{Bool, true, false, cond, _&&_}
 use mathlib.Core.List.{List, [], _∷_, _++_, map, append-assoc}
-use Prim.Native.Nat.{ℕ, zero, suc, _<_}
-use native.Mathlib.Nat.{le-of-suc-le-suc}
-use native.Mathlib.Omega.{arith}
-use lib.ListN.{getD, length}
 use Rattle.meaning.specs.List.{every, select, flat}
 use Rattle.laws.specs.Bool.{and-left, and-right, and-both, test-cases}
 use Rattle.laws.specs.List.{every-nil, every-cons}
@@ -22,14 +17,6 @@ module _ {A B : Type 0} where
   pub map-append : (f : A → B) (l m : List A) → map f (l ++ m) ≡ map f l ++ map f m
   map-append f [] m = refl
   map-append f (a ∷ l) m = ap (λ r. f a ∷ r) (map-append f l m)
-
--- ---- elements
-
-module _ {A : Type 0} where
-  pub getD-inside : (l : List A) (i : ℕ) (c d : A) → i < length l → getD l i c ≡ getD l i d
-  getD-inside [] i c d h = absurd (omega arith)
-  getD-inside (a ∷ l) zero c d h = refl
-  getD-inside (a ∷ l) (suc i) c d h = getD-inside l i c d (le-of-suc-le-suc h)
 
 -- ---- lists one after the other
 

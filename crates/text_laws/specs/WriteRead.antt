@@ -21,9 +21,9 @@ use Rattle.meaning.specs.Matrix.{Matrix, matrix, size, scaleAt}
 use Rattle.meaning.specs.Text.{Form, entry, scale, element, row, placed, system}
 use Rattle.meaning.specs.Refusal.{within, valueTaken, scaleCountTaken, before, someScale}
 use Rattle.laws.specs.Bool.{and-right, and-both, or-right, or-true-right, never, test-cases}
-use Rattle.laws.specs.List.{table-ext, table-of, length-table, every-nil, every-at, length-none}
+use Rattle.laws.specs.List.{getD-any, table-ext, table-of, length-table, every-nil, every-at, length-none}
 use Rattle.laws.specs.Accepted.{start-within}
-use Rattle.text_laws.specs.Lists.{getD-inside, select-nil, select-append, select-all, every-one, every-more, every-map}
+use Rattle.text_laws.specs.Lists.{select-nil, select-append, select-all, every-one, every-more, every-map}
 use Rattle.text_laws.specs.Tables.{every-table, flat-table-zero, flat-table-suc, flat-table-none, flat-table-one, every-flat-table, flat-rows, map-table, map-flat-table, chain-one, chain-nil, chain-table, select-none, chain-flat-table}
 use Rattle.text_laws.specs.Numeral.{small-or-large}
 use Rattle.text_laws.specs.Form.{arity, say, small, fits}
@@ -156,7 +156,7 @@ module _ (p n : ℕ) (X : List ℕ) (x : AcceptedScales p n X) where
     where
       go : (i : ℕ) → i < n → (allOnes X ≡ true) ⊎ (allOnes X ≡ false) → cond (allOnes X) 1 (at X i) ≡ scaleAt X i
       go i l (inl e) = ap (λ t. cond t 1 (at X i)) e ∙ sym (ones-at X e i)
-      go i l (inr e) = ap (λ t. cond t 1 (at X i)) e ∙ getD-inside X i 0 1 (omega (arith, scales-full e))
+      go i l (inr e) = ap (λ t. cond t 1 (at X i)) e ∙ getD-any X i 0 1 (omega (arith, scales-full e))
 
   scale-value : (i : ℕ) → i < n → allOnes X ≡ false → valueTaken p (at X i) ≡ true
   scale-value i l some = every-at (valueTaken p) X 0 (x .taken) i (omega (arith, scales-full some))
