@@ -5,12 +5,14 @@
     evidence/calls.py --gate
 
 Makes COUNT calls from SEED. Four in ten are right, the others have up to three faults, of which the first check must
-be told. Then come the calls at the limits of document 01 and those with no rows (document 02, request (ii)), the same
-each time. driver.cpp says `harm` where a slice has changed that had to stay. Exit status 0: nothing differs."""
+be told. Then come the calls at the limits of document 01, those with scales (document 02, request (vi)) and those with no
+rows (request (ii)), the same each time. driver.cpp says `harm` where a slice has changed that had to stay. Exit status 0:
+nothing differs."""
 
 import argparse
 import collections
 import random
+import re
 import sys
 import time
 
@@ -39,8 +41,8 @@ def expected_solve(result):
 
 
 def expected_read(result):
-    p, n, entries, starts, columns, values, b = result[1:]
-    return [p, n, entries] + starts[:n + 1] + columns[:entries] + values[:entries] + b[:n]
+    p, n, entries, starts, columns, values, scales, b = result[1:]
+    return [p, n, entries] + starts[:n + 1] + columns[:entries] + values[:entries] + scales[:n] + b[:n]
 
 
 def expected_bytes(result):
@@ -109,11 +111,6 @@ def some_vector(source, n, p):
     return [source.randrange(p) for _ in range(n)]
 
 
-def some_matrix(source):
-    what, p, starts, columns, values, b, words, window = systems.make(source, 12)
-    return p, starts, columns, values, b, words, window
-
-
 def some_bill(source, passes, most):
     """The places of a bill: none, less than a pass, less than all of them, all, and more."""
     all_of_them = [max(0, 3 * passes - 1), 3 * passes, 3 * passes + 1]
@@ -121,7 +118,7 @@ def some_bill(source, passes, most):
 
 
 def right_call(source, name):
-    p, starts, columns, values, b, words, window = some_matrix(source)
+    what, p, starts, columns, values, scales, b, words, window = systems.make(source, 12)
     n = len(b)
     matrix = [p, starts, columns, values]
     if name == 'field':
@@ -139,20 +136,20 @@ def right_call(source, name):
         s = some_vector(source, source.randrange(0, 30), source.choice([p, min(p, 2), min(p, 3)]))
         return Call(name, [p, s], [len(s) + 1, 4 * len(s) + 8 + source.randrange(3)])
     if name == 'solve':
-        passes = len(reference.solver_steps(*matrix, b, words, window)[5])
+        passes = len(reference.solver_steps(*matrix, scales, b, words, window)[5])
         bill = some_bill(source, passes, 3 * (reference.vectors_of(n, words) + n))
-        return Call(name, matrix + [b, words, window], [n, n + 1, bill, 16 * n + 16 + source.randrange(3)])
-    answer = reference.solver_steps(p, starts, columns, values, b, [])[2]
+        return Call(name, matrix + [scales, b, words, window], [n, n + 1, bill, 16 * n + 16 + source.randrange(3)])
+    answer = reference.solver_steps(p, starts, columns, values, scales, b, [])[2]
     if name == 'takes':
         return Call(name, matrix + [source.choice([answer, b, [0] * n]), b])
     if name == 'is_null':
         return Call(name, matrix + [source.choice([answer, b, [0] * n])])
-    text = reference.system_text(p, starts, columns, values, b)
+    text = reference.system_text(p, starts, columns, values, scales, b)
     if name == 'read':
-        room = [n + 1, len(columns), len(values), n]
+        room = [n + 1, len(columns), len(values), n, n]
         return Call(name, [text], [length + source.randrange(3) for length in room])
     if name == 'write':
-        return Call(name, matrix + [b], [len(text) + source.randrange(3)])
+        return Call(name, matrix + [scales, b], [len(text) + source.randrange(3)])
     return Call(name, [text], [ANSWER + source.randrange(3)])
 
 
@@ -164,7 +161,7 @@ def edit_text(source, text):
     numbers = [b'0', b'1', b'01', b'4', b'128', b'129', b'4096', b'4097', b'4294967295', b'4294967296', b'']
     lines = text.split(b'\n')
     row = source.randrange(len(lines))
-    choice = source.randrange(6)
+    choice = source.randrange(7)
     if choice == 0:
         return text[:at] + bytes([source.choice(b'\t\n\r 0123456789absend-')]) + text[at:]
     if choice == 1:
@@ -177,6 +174,8 @@ def edit_text(source, text):
         fields = lines[row].split(b'\t')
         fields[source.randrange(len(fields))] = source.choice(numbers)
         lines[row] = b'\t'.join(fields)
+    elif choice == 5:
+        return re.sub(rb'\n(s\t[0-9]+)\t[0-9]+', rb'\n\1\t1', text)  # scales all 1
     else:
         return text[:at]
     return b'\n'.join(lines)
@@ -230,9 +229,11 @@ def limit_calls():
     for n in (4096, 4097):
         starts, none = list(range(n + 1)), [0] * n
         yield Call('product', [7, starts, list(range(n)), [1] * n, none], [n])
-        yield Call('solve', [7, starts, list(range(n)), [1] * n, none, [], 64], [n, n + 1, 3 * n, 16 * n + 16])
-        text = reference.system_text(7, starts, list(range(n)), [1] * n, none)
-        yield Call('read', [text], [n + 1, n, n, n])
+        for scales in ([], [1] * n, [6] * n):
+            yield Call('solve', [7, starts, list(range(n)), [1] * n, scales, none, [], 64], [n, n + 1, 3 * n, 16 * n + 16])
+            text = reference.system_text(7, starts, list(range(n)), [1] * n, scales, none)
+            yield Call('write', [7, starts, list(range(n)), [1] * n, scales, none], [len(text)])
+            yield Call('read', [text], [n + 1, n, n, n, n])
     for last in (16, 17):  # 65,536 entries, and one more
         starts = [16 * i for i in range(4096)] + [65520 + last]
         columns = list(range(16)) * 4095 + list(range(last))
@@ -242,37 +243,67 @@ def limit_calls():
         yield Call('apply', [2, starts, columns, values, [1] * 4, [0] * 4096], [4096, 8192])
         yield Call('takes', [2, starts, columns, values, [0] * 4096, [0] * 4096])
         yield Call('is_null', [2, starts, columns, values, [0] * 4096])
-        yield Call('write', [2, starts, columns, values, [1] * 4096], [2000000])
+        yield Call('write', [2, starts, columns, values, [], [1] * 4096], [2000000])
     for terms in (8192, 8193):
         yield Call('recurrence', [3, [0] * terms], [terms + 1, 4 * terms + 8])
     for words in (0, 127, 128, 129, 130):
-        yield Call('solve', [7, [0, 1, 2], [0, 1], [2, 3], [1, 1], [1] * words, 0], [2, 3, 6, 48])
+        yield Call('solve', [7, [0, 1, 2], [0, 1], [2, 3], [], [1, 1], [1] * words, 0], [2, 3, 6, 48])
     for bill in (*range(12), 1000):  # three passes
-        yield Call('solve', [7, [0, 1, 2], [0, 1], [2, 3], [1, 1], [0, 0], 0], [2, 3, bill, 48])
-        yield Call('solve', [7, [0, 1, 2], [0, 1], [2, 3], [1, 1], [0, 0], 1], [2, 3, bill, 48])
-        yield Call('solve', [7, [0, 1, 2], [0, 1], [2, 3], [1, 1], [0, 0], 0], [2, 3, bill, 47])
+        yield Call('solve', [7, [0, 1, 2], [0, 1], [2, 3], [], [1, 1], [0, 0], 0], [2, 3, bill, 48])
+        yield Call('solve', [7, [0, 1, 2], [0, 1], [2, 3], [], [1, 1], [0, 0], 1], [2, 3, bill, 48])
+        yield Call('solve', [7, [0, 1, 2], [0, 1], [2, 3], [], [1, 1], [0, 0], 0], [2, 3, bill, 47])
     for window in (0, 1, 2, 3, 4, 63, 64, *BAD_WINDOWS):  # with faults of the checks before it, 9 and 10, and behind it, 11
         for p in (2, 7):
-            yield Call('solve', [p, [0, 1, 2, 3], [1, 2, 0], [1, 1, 1], [0, 0, 1], [], window], [3, 4, 9, 64])
+            yield Call('solve', [p, [0, 1, 2, 3], [1, 2, 0], [1, 1, 1], [], [0, 0, 1], [], window], [3, 4, 9, 64])
             for b, words in (([1, 1], []), ([1, 0], []), ([0, 1], [1, 1]), ([1, p], []), ([1, p], [1]), ([1, 1], [1]), ([1, 1], [1] * 130)):
                 for room in ([2, 3, 6, 48], [1, 3, 6, 48], [2, 4, 6, 48], [2, 3, 0, 47], [0, 0, 0, 0]):
-                    yield Call('solve', [p, [0, 1, 2], [0, 1], [1, p - 1], b, words, window], room)
+                    yield Call('solve', [p, [0, 1, 2], [0, 1], [1, p - 1], [], b, words, window], room)
     for n in (128, 129):
         starts, columns = list(range(n + 1)), list(range(n))
-        yield Call('text', [reference.system_text(7, starts, columns, [1] * n, [1] * n)], [ANSWER])
+        for scales in ([], [2] * n):
+            yield Call('text', [reference.system_text(7, starts, columns, [1] * n, scales, [1] * n)], [ANSWER])
         # as many passes as places, of the widest numbers
-        yield Call('text', [reference.system_text(2147483647, starts, columns, [2147483646 - i * i for i in range(n)],
-                                                  [2147483646 - i for i in range(n)])], [ANSWER])
+        for scales in ([], [2147483646] * n):
+            yield Call('text', [reference.system_text(2147483647, starts, columns, [2147483646 - i * i for i in range(n)], scales,
+                                                      [2147483646 - i for i in range(n)])], [ANSWER])
     for last in (8, 9):  # 1,024 entries, and one more
         starts = [8 * i for i in range(128)] + [1016 + last]
         columns = list(range(8)) * 127 + list(range(last))
-        yield Call('text', [reference.system_text(2, starts, columns, [1] * len(columns), [1] * 128)], [ANSWER])
-    for length in (24576, 24577):
+        yield Call('text', [reference.system_text(2, starts, columns, [1] * len(columns), [], [1] * 128)], [ANSWER])
+    for length in (24576, 24577, 26624, 26625):
         yield Call('text', [b'x' * length], [ANSWER])
     for length in (2097152, 2097153):
-        yield Call('read', [b'x' * length], [2, 1, 1, 1])
+        yield Call('read', [b'x' * length], [2, 1, 1, 1, 1])
     for length in (0, 4608, ANSWER - 1, ANSWER, ANSWER + 32):
         yield Call('text', [b'system\t2\t1\t1\na\t1\t1\t1\nb\t1\t1\nend\n'], [length])
+
+
+def scale_calls():
+    """Scales of every number around n and every value around 1 and p, with faults of the checks before and behind; the `s` lines
+    of a text, and the slice for them, likewise."""
+    for p in (2, 3, 7, 2147483647):
+        some = [0, 1, 2, p - 1, p, p + 1, 4294967295]
+        matrices = [[p, [0, 1, 2], [0, 1], [1, p - 1]], [p + 1, [0, 1, 2], [0, 1], [1, 1]], [p, [], [], []], [p, [0, 1, 1], [0, 1], [1, 1]],
+                    [p, [0, 1, 2], [0, 2], [1, 1]], [p, [0, 1, 2], [0, 1], [1, 0]]]
+        for scales in [[]] + [[a] for a in some] + [[a, b] for a in some for b in some] + [[1, 1, 1], [0, 1, 1], [1] * 4096]:
+            for k, matrix in enumerate(matrices):
+                yield Call('write', [*matrix, scales, [0, 1]], [100])
+                yield Call('solve', [*matrix, scales, [0, 1], [], 0], [2, 3, 6, 48])
+                if k == 0:
+                    for right, words, window in (([1, 1], [0, 0], 1), ([1], [1], 65), ([1, p], [1], 65), ([1, 1], [1], 65), ([1, 1], [], 65)):
+                        yield Call('solve', [*matrix, scales, right, words, window], [2, 3, 6, 48])
+                        yield Call('write', [*matrix, scales, right], [30])
+        entries = [('a', 1, 1, 1), ('a', 2, 2, p - 1)]
+        right = [('b', 1, 1), ('b', 2, 1)]
+        places = [[1, 2], [2, 1], [1, 1], [0, 1], [1, 3], [1], [1, 2, 3], [1, 2, 2]]
+        for at in places:
+            for values in ([1] * len(at), [p - 1] * len(at), [1] * (len(at) - 1) + [p - 1], [p - 1] + [1] * (len(at) - 1), [0] * len(at), [1] * (len(at) - 1) + [p]):
+                s = [('s', *line) for line in zip(at, values)]
+                for lines in (entries + s + right, s + entries + right, entries + right + s, entries + s, entries + right[:1] + s + right[1:]):
+                    text = b''.join(reference.line(*fields) for fields in [('system', p, 2, 2), *lines, ('end',)])
+                    for room in ((3, 2, 2, 2, 2), (3, 2, 2, 1, 2), (5, 4, 4, 4, 4), (3, 2, 2, 2, 1)):
+                        yield Call('read', [text], room)
+                    yield Call('text', [text], [ANSWER])
 
 
 def empty_calls():
@@ -292,15 +323,18 @@ def empty_calls():
             yield Call('is_null', [*matrix, v])
             for words, window in (([], 0), ([0], 0), ([1] * 64, 64), ([], 64), ([], 65), ([0], 65)):
                 for vector, polynomial, bill, work in ((0, 1, 0, 16), (0, 1, 7, 17), (1, 1, 3, 16), (0, 0, 3, 16), (0, 2, 3, 16), (0, 1, 3, 15)):
-                    yield Call('solve', [*matrix, v, words, window], [vector, polynomial, bill, work])
+                    yield Call('solve', [*matrix, [], v, words, window], [vector, polynomial, bill, work])
+                for scales in ([1], [0], [7, 1]):
+                    yield Call('solve', [*matrix, scales, v, words, window], [0, 1, 3, 16])
             for room in (0, 16, 17, 18):
-                yield Call('write', [*matrix, v], [room])
+                for scales in ([], [1], [0]):
+                    yield Call('write', [*matrix, scales, v], [room])
     heads = [(7, 0, 0), (2, 0, 0), (2147483647, 0, 0), (7, '00', 0), (7, '', 0), (9, 0, 0), (7, 4097, 0), (7, 0, 1), (7, 0, 65537)]
-    bodies = [[], [('a', 1, 1, 1)], [('a', 0, 0, 0)], [('b', 1, 1)], [('b', 0, 0)], [('a', 1, 1, 7), ('b', 1, 7)]]
+    bodies = [[], [('a', 1, 1, 1)], [('a', 0, 0, 0)], [('s', 1, 2)], [('s', 0, 0)], [('b', 1, 1)], [('b', 0, 0)], [('a', 1, 1, 7), ('b', 1, 7)]]
     for head in heads:
         for body in bodies:
             text = b''.join(reference.line(*fields) for fields in [('system', *head), *body, ('end',)])
-            for room in ((0, 0, 0, 0), (1, 0, 0, 0), (5, 4, 3, 2)):
+            for room in ((0, 0, 0, 0, 0), (1, 0, 0, 0, 0), (5, 4, 3, 3, 2)):
                 yield Call('read', [text], room)
             for length in (0, 40, ANSWER - 1, ANSWER):
                 yield Call('text', [text], [length])
@@ -317,6 +351,7 @@ def main():
     source = random.Random(11 if chosen.gate else chosen.seed)
     made = [some_call(source) for _ in range(8000 if chosen.gate else chosen.count)]
     made += limit_calls()
+    made += scale_calls()
     made += empty_calls()
     answers = tools.ask(tools.driver(), [call.line() for call in made])
     refusals, without_rows, differ = collections.Counter(), 0, 0

@@ -4,17 +4,19 @@
     evidence/compare.py COUNT SEED [--largest N] [--budget B]
     evidence/compare.py --gate
 
-Makes COUNT systems from SEED (systems.py), each with words and a window, every other one with a small p, where tests of
-the window often fail, and one that multiplies over 2³² entries, gives each to the static library through driver.cpp, and
-holds
+Makes COUNT systems from SEED (systems.py), each with words and a window, half of them with scales, every other one with a
+small p, where tests of the window often fail, and one that multiplies over 2³² entries, gives each to the static library
+through driver.cpp, and holds
   - kind, D, passes, applications, entries multiplied, the bill's lines, vector and polynomial to a second implementation
     (second.cpp), and where the system is small also to the reference in Python (reference.py), two programs that share
     no code with the library and count the entries one by one;
   - kind, D, vector and polynomial to what the library says without the window;
-  - kind, D and f to dense elimination: the ranks of the Krylov vectors b, Ab, .. and of Ab, A²b, .., and their first
-    dependence; by dense.cpp, by FLINT (Debian's libflint-dev) and by PARI (pari-gp), where these are installed;
-  - the vector to its meaning, Ax = b, or w is not zero and Aw = 0; the bill to its sum; and the entries multiplied to
-    applications × entries.
+  - all of it to what the library says of AX, made here entry by entry, without scales, but for the vector, which is X times
+    that; and where there are no scales, to what it says with n ones;
+  - kind, D and f to dense elimination: the ranks of the Krylov vectors b, Ab, .. and of Ab, A²b, .. (AX for A), and their
+    first dependence; by dense.cpp, by FLINT (Debian's libflint-dev) and by PARI (pari-gp), where these are installed;
+  - the vector to its meaning, Ax = b, or w is not zero and Aw = 0, with A itself; the bill to its sum; and the entries
+    multiplied to applications × entries.
 
 --gate is a small fixed set that needs python3 and g++ only. The library is target/staticlib/libhost.a, or what
 FILZEUR_LIBRARY names. Exit status 0: nothing differs."""
@@ -33,14 +35,21 @@ import tools
 
 REFERENCE_SIZE = 24  # the reference is slow
 PARI_SIZE = 40
+ONES_SIZE = 300  # beyond it a run takes long
 KINDS = {1: 'solved', 2: 'singular'}
+# places of a system's parts: what, p, starts, columns, values, scales, b, words, window
+SCALES, RIGHT, WINDOW = 5, 6, 8
 
 
 def line_of(system):
-    what, p, starts, columns, values, b, words, window = system
+    what, p, starts, columns, values, scales, b, words, window = system
     n = len(b)
     bill = 3 * (reference.vectors_of(n, words) + n)
-    return tools.spell('solve', p, starts, columns, values, b, words, window, n, n + 1, bill, 16 * n + 16)
+    return tools.spell('solve', p, starts, columns, values, scales, b, words, window, n, n + 1, bill, 16 * n + 16)
+
+
+def size_of(system):
+    return len(system[RIGHT])
 
 
 class Answer:
@@ -89,7 +98,7 @@ def adds_up(answer, n, window):
 
 def holds_itself(system, answer):
     """What can be said of the answer alone: its vector's meaning, a monic f, zeros after it, its bill, its count of entries."""
-    what, p, starts, columns, values, b, words, window = system
+    what, p, starts, columns, values, scales, b, words, window = system
     n, D = len(b), answer.degree
     if answer.harm or answer.refusal or answer.kind not in KINDS:
         return False
@@ -100,8 +109,21 @@ def holds_itself(system, answer):
     return right and shape and answer.passes <= reference.vectors_of(n, words) + n and counted
 
 
+def on_AX(system):
+    """The system with AX in A's place and no scales."""
+    what, p, starts, columns, values, scales, *rest = system
+    return what, p, starts, columns, [value * scales[column] % p for column, value in zip(columns, values)], [], *rest
+
+
+def is_X_times(system, answer, other):
+    """Whether the answer is that of AX, and its vector X times that vector."""
+    p, scales = system[1], system[SCALES]
+    other.vector = [x * scale % p for x, scale in zip(other.vector, scales)]
+    return answer.all() == other.all()
+
+
 def by_reference(system):
-    n = len(system[5])
+    n = size_of(system)
     kind, F, vector, applications, multiplied, passes = reference.solver_steps(*system[1:])
     number = 1 if kind == 'solved' else 2
     bill = reference.bill_of(passes)
@@ -122,12 +144,14 @@ def pari_lines(chosen):
               ' D = matrank(K); S = matrank(K[, 2..n + 1]);'
               ' c = if(D, matinverseimage(K[, 1..D], K[, D + 1]), []~);'
               ' print1(D, " ", S); for(i = 1, D, print1(" ", lift(-c[i]))); print(" 1"); }']
-    for what, p, starts, columns, values, b, words, window in chosen:
+    for what, p, starts, columns, values, scales, b, words, window in chosen:
         n = len(b)
         script.append('A = matrix(%d, %d) * Mod(1, %d);' % (n, n, p))
         for i in range(n):
             for k in range(starts[i], starts[i + 1]):
                 script.append('A[%d, %d] = Mod(%d, %d);' % (i + 1, columns[k] + 1, values[k], p))
+        if scales:
+            script.append('A = A * matdiagonal([%s]);' % ', '.join(map(str, scales)))
         script.append('report(%d, A, [%s]~ * Mod(1, %d));' % (p, ', '.join(map(str, b)), p))
     done = subprocess.run(['gp', '-q', '-f'], input='\n'.join(script) + '\n', stdout=subprocess.PIPE, text=True)
     return done.stdout.splitlines()
@@ -147,26 +171,41 @@ class Tally:
             print('DIFFERS from %s: %s' % (tool, system[0]))
 
 
+def by_library(made):
+    lines = tools.ask(tools.driver(), [line_of(system) for system in made])
+    return [Answer(line, size_of(system)) for line, system in zip(lines, made)]
+
+
+def with_ones(system):
+    return (*system[:SCALES], [1] * size_of(system), *system[RIGHT:])
+
+
 def compare(made, budget, packages):
     tally = Tally()
     lines = [line_of(system) for system in made]
-    answers = [Answer(line, len(system[5])) for line, system in zip(tools.ask(tools.driver(), lines), made)]
+    answers = by_library(made)
 
     for system, answer in zip(made, answers):
         tally.hold('the meaning of its vector, the sum of its bill and applications × entries', system,
                    holds_itself(system, answer))
 
-    windowed = [(system, answer) for system, answer in zip(made, answers) if system[7] > 0]
-    plain = [(*system[:7], 0) for system, answer in windowed]
-    for (system, answer), line in zip(windowed, tools.ask(tools.driver(), [line_of(system) for system in plain])):
-        tally.hold('itself without the window', system, Answer(line, len(system[5])).verdict() == answer.verdict())
+    windowed = [(system, answer) for system, answer in zip(made, answers) if system[WINDOW] > 0]
+    for (system, answer), other in zip(windowed, by_library([(*system[:WINDOW], 0) for system, answer in windowed])):
+        tally.hold('itself without the window', system, other.verdict() == answer.verdict())
+
+    scaled = [(system, answer) for system, answer in zip(made, answers) if system[SCALES]]
+    for (system, answer), other in zip(scaled, by_library([on_AX(system) for system, answer in scaled])):
+        tally.hold('itself on AX', system, is_X_times(system, answer, other))
+    plain = [(system, answer) for system, answer in zip(made, answers) if not system[SCALES] and 0 < size_of(system) <= ONES_SIZE]
+    for (system, answer), other in zip(plain, by_library([with_ones(system) for system, answer in plain])):
+        tally.hold('itself with n ones', system, other.all() == answer.all())
 
     second = tools.ask(tools.build('second', 'second.cpp'), lines)
     for system, answer, line in zip(made, answers, second):
-        tally.hold('the second implementation', system, Answer(line, len(system[5])).all() == answer.all())
+        tally.hold('the second implementation', system, Answer(line, size_of(system)).all() == answer.all())
 
     for system, answer in zip(made, answers):
-        if len(system[5]) <= REFERENCE_SIZE:
+        if size_of(system) <= REFERENCE_SIZE:
             tally.hold('the reference in Python', system, by_reference(system) == answer.all())
 
     dense = {'dense elimination': tools.build('dense', 'dense.cpp')}
@@ -184,7 +223,7 @@ def compare(made, budget, packages):
         print('PARI is left out: it needs the package pari-gp')
     elif packages:
         # not of size 0, where the script's ranges of columns are empty
-        chosen = [(s, a) for s, a in zip(made, answers) if 0 < len(s[5]) <= PARI_SIZE]
+        chosen = [(s, a) for s, a in zip(made, answers) if 0 < size_of(s) <= PARI_SIZE]
         reports = pari_lines([system for system, answer in chosen])
         for (system, answer), report in zip(chosen, reports + [''] * len(chosen)):
             tally.hold('PARI', system, report != '' and agrees_with_dense(report, answer))
@@ -193,8 +232,8 @@ def compare(made, budget, packages):
 
 
 def gate_set():
-    """Fixed: many small systems, some of a few hundred rows (one in ten of both without a row), many with a small p, and two of
-    the largest, one with a first pass of degree 0 and a window."""
+    """Fixed: many small systems, some of a few hundred rows (one in ten of both without a row), many with a small p, half of
+    all with scales, and two of the largest, one with a first pass of degree 0, a window and scales."""
     made = [systems.make(random.Random(k), 32) for k in range(300)]
     made += [systems.make(random.Random(1000 + k), 300) for k in range(30)]
     made += [systems.make(random.Random(2000 + k), 32, systems.SMALL_PRIMES[k % 5]) for k in range(300)]
@@ -203,7 +242,8 @@ def gate_set():
         matrix = systems.slices(shape(large, p, 4096))
         b = [large.randrange(p) for _ in range(4096)]
         words = [0] * zeros + [large.randrange(2 ** 32) for _ in range(2 * 4096)]
-        made.append(('%s of 4,096 rows, window %d' % (shape.__name__, window), p, *matrix, b, words, window))
+        scales = [1 + large.randrange(p - 1) for _ in range(zeros)]
+        made.append(('%s of 4,096 rows, window %d, %d scales' % (shape.__name__, window, len(scales)), p, *matrix, scales, b, words, window))
     return made
 
 
@@ -215,7 +255,7 @@ def beyond_32_bits():
     values = [1 + source.randrange(p - 1) for _ in columns]
     b = [source.randrange(p) for _ in range(n)]
     words = [0] * (8 * n) + [source.randrange(2 ** 32) for _ in range(n)]
-    return 'over 2³² entries multiplied', p, list(range(0, 16 * n + 1, 16)), columns, values, b, words, 0
+    return 'over 2³² entries multiplied', p, list(range(0, 16 * n + 1, 16)), columns, values, [], b, words, 0
 
 
 def main():
@@ -240,10 +280,12 @@ def main():
     kinds = collections.Counter(KINDS.get(answer.kind, 'refused') for answer in answers)
     several = sum(answer.passes > 1 for answer in answers)
     bills = [line for answer in answers for line in answer.bill]
-    sizes = [len(system[5]) for system in made]
-    print('%d systems of %d to %d rows, %d of them of size 0, %d with a window: %s; %d with more than one pass; %d passes billed, '
-          'of which %d ended early and %d went on after a test that failed; at most %d entries multiplied; %.0f seconds' % (
-              len(made), min(sizes), max(sizes), sizes.count(0), sum(system[7] > 0 for system in made),
+    sizes = [size_of(system) for system in made]
+    print('%d systems of %d to %d rows, %d of them of size 0, %d with a window, %d with scales that are not all 1: %s; %d with more '
+          'than one pass; %d passes billed, of which %d ended early and %d went on after a test that failed; at most %d entries '
+          'multiplied; %.0f seconds' % (
+              len(made), min(sizes), max(sizes), sizes.count(0), sum(system[WINDOW] > 0 for system in made),
+              sum(any(scale != 1 for scale in system[SCALES]) for system in made),
               ', '.join('%d %s' % (kinds[kind], kind) for kind in sorted(kinds)), several,
               len(bills), sum(saved(line) > 0 for line in bills), sum(saved(line) < 0 for line in bills),
               max(answer.multiplied for answer in answers), time.time() - began))

@@ -1,9 +1,9 @@
 // What dense elimination says of compare.py's `solve` lines: by a few lines of our own, or by FLINT
 // (-DWITH_FLINT).
 //
-// The Krylov vectors are b, Ab, A²b, .. For each line: D (the rank of b, .., Aⁿb), the rank of Ab, .., Aⁿb,
-// and the monic f of degree D with f(A)b = 0; or `skipped` where that would cost more than the argument (n ×
-// D × D).
+// The Krylov vectors are b, Ab, A²b, .., with AX for A where there are scales. For each line: D (the rank of b,
+// .., Aⁿb), the rank of Ab, .., Aⁿb, and the monic f of degree D with f(A)b = 0; or `skipped` where that would
+// cost more than the argument (n × D × D).
 #include "line.h"
 
 #include <iostream>
@@ -132,7 +132,7 @@ int main(int argc, char **argv) {
     std::string text;
     while (std::getline(std::cin, text)) {
         Line line(text);
-        std::optional<Report> report = examine(line.system, budget);
+        std::optional<Report> report = examine(second::scaled(line.system), budget);
         if (!report) {
             std::cout << "skipped" << std::endl;
             continue;

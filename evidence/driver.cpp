@@ -149,11 +149,11 @@ void recurrence(Call &call) {
 void solve(Call &call) {
     uint32_t p = call.number();
     Matrix a(call);
-    Words &b = call.reads(), &words = call.reads();
+    Words &scales = call.reads(), &b = call.reads(), &words = call.reads();
     uint32_t window = call.number();
     Words &vector = call.writes(), &polynomial = call.writes(), &bill = call.writes(), &work = call.writes();
-    filzeur_verdict v =
-        filzeur_solve(p, M(a), S(b), S(words), window, S(vector), S(polynomial), S(bill), S(work));
+    filzeur_verdict v = filzeur_solve(p, M(a), S(scales), S(b), S(words), window, S(vector), S(polynomial),
+                                      S(bill), S(work));
     size_t billed = 3 * std::min<size_t>(v.passes, bill.size() / 3);
     std::vector<uint64_t> numbers{v.kind, v.degree, v.passes, v.applications, v.multiplied, billed};
     numbers.insert(numbers.end(), bill.begin(), bill.begin() + billed);
@@ -181,16 +181,18 @@ void is_null(Call &call) {
 // The reader leaves the rest of its slices, so the answer holds only what it fills.
 void read(Call &call) {
     Bytes &text = call.reads<uint8_t>();
-    Words &starts = call.writes(), &columns = call.writes(), &values = call.writes(), &right = call.writes();
-    filzeur_system s = filzeur_read(S(text), S(starts), S(columns), S(values), S(right));
+    Words &starts = call.writes(), &columns = call.writes(), &values = call.writes(), &scales = call.writes(),
+          &right = call.writes();
+    filzeur_system s = filzeur_read(S(text), S(starts), S(columns), S(values), S(scales), S(right));
     std::vector<uint64_t> numbers{s.modulus, s.size, s.entries};
     if (s.refusal == 0) {
         numbers.insert(numbers.end(), starts.begin(), starts.begin() + s.size + 1);
         numbers.insert(numbers.end(), columns.begin(), columns.begin() + s.entries);
         numbers.insert(numbers.end(), values.begin(), values.begin() + s.entries);
+        numbers.insert(numbers.end(), scales.begin(), scales.begin() + s.size);
         numbers.insert(numbers.end(), right.begin(), right.begin() + s.size);
         if (!starts.kept(s.size + 1) || !columns.kept(s.entries) || !values.kept(s.entries) ||
-            !right.kept(s.size))
+            !scales.kept(s.size) || !right.kept(s.size))
             std::cout << "harm ";
     }
     answer(call, s.refusal, numbers);
@@ -199,9 +201,9 @@ void read(Call &call) {
 void write(Call &call) {
     uint32_t p = call.number();
     Matrix a(call);
-    Words &b = call.reads();
+    Words &scales = call.reads(), &b = call.reads();
     Bytes &text = call.writes<uint8_t>();
-    filzeur_length l = filzeur_write(p, M(a), S(b), S(text));
+    filzeur_length l = filzeur_write(p, M(a), S(scales), S(b), S(text));
     answer_bytes(call, l.refusal, l.length, text);
 }
 

@@ -28,6 +28,7 @@ struct Line {
         };
         system.p = number();
         second::Vector starts = slice(), columns = slice(), values = slice();
+        system.scales = slice();
         system.rows.resize(starts.size() - 1);
         for (size_t row = 0; row + 1 < starts.size(); row++)
             for (uint32_t k = starts[row]; k < starts[row + 1]; k++)

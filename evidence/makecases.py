@@ -32,11 +32,12 @@ def answer_line(got):
 put('Cases worked out by reference.py (made by makecases.py; do not edit by hand).')
 put('Matrices are given as dense rows "r1 / r2 / .." and as slices (starts; columns; values, columns from 0).')
 put('Polynomials lowest power first.  Output slices have exactly the stated length and hold 9 before, unless said.')
-put('"tells apart" names the wrong solvers of mutants.py that give another answer (kind, D, passes, applications, entries multiplied, vector, f, bill, close; or refusal).')
+put('"tells apart" names the wrong solvers of mutants.py that give another answer (kind, D, passes, applications, entries multiplied, vector, f, bill, close; or refusal),')
+put('and the wrong readers and writers of scales.')
 put()
 
 # ------------------------------------------------------------------ systems
-put('=== 1. SYSTEMS (solver call; bill slice of 3 x (R + n) places, of which the three of each pass are given; window 0 unless said) ===')
+put('=== 1. SYSTEMS (solver call; bill slice of 3 x (R + n) places, of which the three of each pass are given; window 0 and no scales unless said) ===')
 systems = [
     ('restart, p = 2, first factor z; the vector needs the whole F', 2, [[0, 0], [0, 1]], [1, 1], []),
     ('restart, p = 3, solved; one word vector, then unit vectors; a pass of degree 0 in the middle', 3,
@@ -83,27 +84,49 @@ windowed = [
     (64, 'window, b = 0', 7, [[2, 0], [0, 3]], [0, 0], [1, 1]),
     (64, 'window, size 0', 7, [], [], []),
 ]
+two, three = [[2, 0], [0, 3]], [[0, 1, 0], [2, 0, 3], [0, 4, 0]]
+badly, often = [[6, 0, 0], [0, 3, 0], [5, 0, 2]], [[0, 0, 0, 3], [5, 0, 6, 5], [2, 0, 0, 6], [5, 0, 0, 0]]
+with_scales = [
+    ([4, 5], 0, 'scales: AX = diag(1,1), so one pass is made, where A alone takes two', 7, two, [1, 1], []),
+    ([1, 5], 0, 'scales: AX = diag(2,3), so two passes are made, where A alone takes one', 7, [[2, 0], [0, 2]], [1, 1], []),
+    ([3, 2], 0, 'scales: singular, AXb = (2,0) and X takes it to (6,0)', 7, [[0, 1], [0, 0]], [0, 1], []),
+    ([3, 2], 0, 'scales: singular, w = b = (1,0) and X takes it to (3,0)', 7, [[0, 1], [0, 0]], [1, 0], []),
+    ([1, 2], 0, 'scales: solved, where A alone is singular (Ab = 0)', 7, [[1, 1], [6, 6]], [1, 6], []),
+    ([1, 4], 0, 'scales: singular, where A alone solves', 7, [[1, 2], [6, 5]], [1, 6], []),
+    ([1, 1], 0, 'scales: ones act as none', 7, two, [1, 1], []),
+    ([4, 1, 6], 0, 'scales: one pass, where A alone takes three', 7, badly, [2, 2, 1], []),
+    ([4, 1, 6], 2, 'scales and a window: the same, and the pass ends early', 7, badly, [2, 2, 1], []),
+    ([2, 3, 5], 1, 'scales, a window and words: a pass of degree 0, then one that ends early', 7, three, [2, 1, 1], [0, 0, 0]),
+    ([2, 3, 5], 0, 'scales, with words', 7, three, [1, 0, 2], [1, 2, 3]),
+    ([5, 2, 6, 4], 0, 'scales: a restart on AX, two passes of degree 2', 7, often, [2, 1, 0, 1], []),
+    ([5, 2, 6, 4], 1, 'scales and a window: the same, and the test of the first pass fails', 7, often, [2, 1, 0, 1], []),
+    ([3, 2], 0, 'scales: no entries', 7, [[0, 0], [0, 0]], [0, 3], []),
+    ([4, 5], 0, 'scales: b = 0', 7, two, [0, 0], [1, 1]),
+    ([5], 0, 'scales: n = 1', 7, [[3]], [2], []),
+    ([1, 1], 0, 'scales: p = 2, where ones are the only ones', 2, [[0, 0], [0, 1]], [1, 1], []),
+    ([2147483646, 65536, 2], 0, 'scales: p = 2147483647', 2147483647, [[2147483646, 0, 5], [0, 65536, 0], [7, 0, 2147483645]], [1, 2, 3], []),
+]
 told = set()
-for k, (window, what, p, M, b, words) in enumerate([(0, *system) for system in systems] + windowed, 1):
+for k, (X, window, what, p, M, b, words) in enumerate([([], 0, *system) for system in systems] + [([], *system) for system in windowed] + with_scales, 1):
     n = len(M)
     S = selftest.dense_to_sparse(M)
-    selftest.check_system(p, n, M, b, [words, []], [window])
-    got = ref.solve(p, *S, b, words, window, [9] * n, [9] * (n + 1), [9] * (3 * (ref.vectors_of(n, words) + n)), [9] * (16 * n + 16))
+    selftest.check_system(p, n, M, b, [words, []], [window], X)
+    got = ref.solve(p, *S, X, b, words, window, [9] * n, [9] * (n + 1), [9] * (3 * (ref.vectors_of(n, words) + n)), [9] * (16 * n + 16))
     kind, D, passes, apps, multiplied, vector, poly, bill = got[1:]
     put('1.%d  %s' % (k, what))
     put('   p = %d, n = %d, A = %s   (starts %s; columns %s; values %s)' % (p, n, rows(M), nums(S[0]), nums(S[1]), nums(S[2])))
-    put('   b = %s; words = %s%s' % (nums(b), nums(words), '; window = %d' % window if window else ''))
+    put('   b = %s; words = %s%s%s' % (nums(b), nums(words), '; window = %d' % window if window else '', '; scales = %s' % nums(X) if X else ''))
     put('   -> %s, D = %d, passes = %d, applications = %d, multiplied = %d, %s = %s, polynomial slice = %s, bill = %s, close = %d' %
         (kind, D, passes, apps, multiplied, 'x' if kind == 'solved' else 'w', nums(vector), nums(poly), nums(bill[:3 * passes]),
          ref.close_of(D)))
-    for i, (u, left, terms, f, after, test, made) in enumerate(ref.solver_steps(p, *S, b, words, window)[5], 1):
+    for i, (u, left, terms, f, after, test, made) in enumerate(ref.solver_steps(p, *S, X, b, words, window)[5], 1):
         ended = 'it ends the pass' if len(terms) < 2 * left else 'it fails'
         put('      pass %d: u = %s, left = %d, terms = %s, %sf = %s, degree %d, r becomes %s, applications %d' %
             (i, nums(u), left, nums(terms), 'test after term %d with L = %d: %s, ' % (*test, ended) if test else '', nums(f),
              len(f) - 1, nums(after), made))
     if 'full degree' in what or 'one pass is enough' in what:
         assert D == n and passes == 1, (D, passes)
-    apart = mutants.told_apart(p, S, b, words, window)
+    apart = mutants.told_apart(p, S, X, b, words, window)
     told.update(apart)
     put('   tells apart: ' + (', '.join(apart) or '(none)'))
 put()
@@ -208,10 +231,20 @@ offered('3.c16', 'w: %s, w = 0 0 0' % A3A, ref.check_kernel(5, *S3, [0, 0, 0]))
 ZA = 'p = 2, A = 0 0 / 0 0 (starts 0 0 0; columns (none); values (none))'
 offered('3.c17', 'Ax = b: %s, x = 1 1, b = 0 0' % ZA, ref.check_solution(2, *Z, [1, 1], [0, 0]))
 offered('3.c18', 'w: %s, w = 0 1' % ZA, ref.check_kernel(2, *Z, [0, 1]))
+# what a run with scales answers is right for A; what it has found on AX, before X, isn't
+for k, (M, X, b, vectors) in enumerate([([[1, 1], [6, 6]], [1, 2], [1, 6], ([6, 2], [6, 1])), ([[1, 2], [6, 5]], [1, 4], None, ([1, 3], [1, 6]))]):
+    S = selftest.dense_to_sparse(M)
+    A = 'p = 7, A = %s (starts %s; columns %s; values %s)' % (rows(M), nums(S[0]), nums(S[1]), nums(S[2]))
+    for m, v in enumerate(vectors):
+        told.update(mutants.checks_told_apart(7, S, X, v, b))
+        if b:
+            offered('3.c%d' % (19 + 2 * k + m), 'Ax = b: %s, x = %s, b = %s' % (A, nums(v), nums(b)), ref.check_solution(7, *S, v, b))
+        else:
+            offered('3.c%d' % (19 + 2 * k + m), 'w: %s, w = %s' % (A, nums(v)), ref.check_kernel(7, *S, v))
 put()
 
 # ------------------------------------------------------------------ reader
-put('=== 4. TEXTS FOR THE READER (lent: starts 5, columns 4, values 4, b 4 places, all 9 before, unless said) ===')
+put('=== 4. TEXTS FOR THE READER (lent: starts 5, columns 4, values 4, scales 4, b 4 places, all 9 before, unless said) ===')
 good = b'system\t7\t2\t3\na\t1\t1\t2\na\t1\t2\t1\na\t2\t2\t3\nb\t1\t1\nb\t2\t1\nend\n'
 texts = [
     ('good', good, None),
@@ -239,12 +272,12 @@ texts = [
     ('6: b rows fall (and an a value of 7, 7)', b'system\t7\t2\t1\na\t1\t1\t7\nb\t2\t1\nb\t1\t1\nend\n', None),
     ('6: b row 3 of n = 2', b'system\t7\t2\t0\nb\t3\t1\nend\n', None),
     ('7: a value = p', b'system\t7\t1\t1\na\t1\t1\t7\nend\n', None),
-    ('7: b value 0 (and lent b too short, 11)', b'system\t7\t1\t0\nb\t1\t0\nend\n', (2, 0, 0, 0)),
-    ('11: starts of 2 places for n = 2', good, (2, 4, 4, 4)),
-    ('11: columns of 2 places for 3 entries', good, (5, 2, 4, 4)),
-    ('good: slices exactly long enough', good, (3, 3, 3, 2)),
+    ('7: b value 0 (and lent b too short, 11)', b'system\t7\t1\t0\nb\t1\t0\nend\n', (2, 0, 0, 4, 0)),
+    ('11: starts of 2 places for n = 2', good, (2, 4, 4, 4, 4)),
+    ('11: columns of 2 places for 3 entries', good, (5, 2, 4, 4, 4)),
+    ('good: slices exactly long enough', good, (3, 3, 3, 2, 2)),
     ('good, size 0', b'system\t7\t0\t0\nend\n', None),
-    ('good, size 0, slices exactly long enough', b'system\t7\t0\t0\nend\n', (1, 0, 0, 0)),
+    ('good, size 0, slices exactly long enough', b'system\t7\t0\t0\nend\n', (1, 0, 0, 0, 0)),
     ('2: size 00', b'system\t7\t00\t0\nend\n', None),
     ('3: size 0, p = 9 (and count 1 without a lines, 5)', b'system\t9\t0\t1\nend\n', None),
     ('5: size 0, count 1 without a lines', b'system\t7\t0\t1\nend\n', None),
@@ -252,19 +285,73 @@ texts = [
     ('6: size 0 and an a line (of value 7, 7)', b'system\t7\t0\t1\na\t1\t1\t7\nend\n', None),
     ('6: size 0 and a b line', b'system\t7\t0\t0\nb\t1\t1\nend\n', None),
     ('6: size 0 and a b line of row 0', b'system\t7\t0\t0\nb\t0\t1\nend\n', None),
-    ('11: size 0, no place for its start', b'system\t7\t0\t0\nend\n', (0, 4, 4, 4)),
+    ('11: size 0, no place for its start', b'system\t7\t0\t0\nend\n', (0, 4, 4, 4, 4)),
 ]
+
+
+def scaled_text(*s, head=(7, 2, 2), a=((1, 1, 2), (2, 2, 3)), b=((1, 1), (2, 1))):
+    """diag(2,3), b = (1,1) and these `s` lines."""
+    return b''.join(ref.line(*fields) for fields in [('system', *head), *[('a', *e) for e in a], *[('s', *e) for e in s], *[('b', *e) for e in b], ('end',)])
+
+
+s45 = b's\t1\t4\ns\t2\t5\n'
+plain = scaled_text()
+texts += [
+    ('good, scales', scaled_text((1, 4), (2, 5)), None),
+    ('good, scales, slices exactly long enough', scaled_text((1, 4), (2, 5)), (3, 2, 2, 2, 2)),
+    ('good, the first scale 1', scaled_text((1, 1), (2, 6)), None),
+    ('good, the last scale 1', scaled_text((1, 6), (2, 1)), None),
+    ('good, no s lines, a slice of exactly n scales', plain, (5, 4, 4, 2, 4)),
+    ('good, scales, no a lines and no b lines', scaled_text((1, 2), head=(3, 1, 0), a=(), b=()), None),
+    ('good, three scales, two rows empty', scaled_text((1, 1), (2, 10), (3, 4), head=(11, 3, 1), a=[(2, 3, 10)], b=[(3, 4)]), None),
+    ('2: s lines after the b lines', plain.replace(b'end', s45 + b'end'), None),
+    ('2: an s line between the b lines', plain.replace(b'b\t2', s45 + b'b\t2'), None),
+    ('2: s lines before the a lines', plain.replace(b'a\t1', s45 + b'a\t1'), None),
+    ('2: s lines between the a lines', plain.replace(b'a\t2', s45 + b'a\t2'), None),
+    ('2: s lines of one number', scaled_text([1], [2]), None),
+    ('2: s lines of three numbers', scaled_text((1, 4, 1), (2, 5, 1)), None),
+    ('2: an s line without numbers', scaled_text([]), None),
+    ('2: leading zero in an s line', scaled_text((1, '04'), (2, 5)), None),
+    ('2: numeral 4294967296 in an s line', scaled_text((1, 4294967296), (2, 5)), None),
+    ('3: p = 9 (and one s line, 5)', scaled_text((1, 4), head=(9, 2, 2)), None),
+    ('4: n = 4097 (and two s lines, 5)', scaled_text((1, 4), (2, 5), head=(7, 4097, 2)), None),
+    ('5: one s line of two', scaled_text((1, 4)), None),
+    ('5: one s line of two, out of range (6) and of value 0 (7)', scaled_text((3, 0)), None),
+    ('5: one s line more than n', scaled_text((1, 4), (2, 5), (3, 1)), None),
+    ('5: as many s lines as entries', scaled_text((1, 4), head=(7, 2, 1), a=[(1, 1, 2)]), None),
+    ('5: two s lines, count 3 with two a lines', scaled_text((1, 4), (2, 5), head=(7, 2, 3)), None),
+    ('5: size 0 and an s line', scaled_text((1, 2), head=(7, 0, 0), a=(), b=()), None),
+    ('6: s place 3 of n = 2', scaled_text((1, 4), (3, 5)), None),
+    ('6: s place 0', scaled_text((0, 4), (1, 5)), None),
+    ('6: s places fall', scaled_text((2, 4), (1, 5)), None),
+    ('6: the same s place twice (and values 0 and 7, 7)', scaled_text((1, 0), (1, 7)), None),
+    ('6: the same s place twice', scaled_text((2, 4), (2, 5)), None),
+    ('6: s values all 1', scaled_text((1, 1), (2, 1)), None),
+    ('6: s values all 1, p = 2', scaled_text((1, 1), head=(2, 1, 0), a=(), b=()), None),
+    ('6: s values all 1 (and an a value of 7, 7)', scaled_text((1, 1), (2, 1), a=((1, 1, 2), (2, 2, 7))), None),
+    ('7: s value 0', scaled_text((1, 1), (2, 0)), None),
+    ('7: s value = p', scaled_text((1, 7), (2, 5)), None),
+    ('7: s value 8, which is 1 modulo p', scaled_text((1, 8), (2, 1)), None),
+    ('7: s value 2, p = 2', scaled_text((1, 2), head=(2, 1, 0), a=(), b=()), None),
+    ('7: s value 4294967295 (and a slice of 1 scale, 11)', scaled_text((1, 4294967295), (2, 5)), (5, 4, 4, 1, 4)),
+    ('11: a slice of 1 scale for n = 2', scaled_text((1, 4), (2, 5)), (5, 4, 4, 1, 4)),
+    ('11: a slice of 1 scale for n = 2, no s lines', plain, (5, 4, 4, 1, 4)),
+]
+USUAL = (5, 4, 4, 4, 4)
 for k, (what, text, lengths) in enumerate(texts, 1):
-    lengths = lengths or (5, 4, 4, 4)
+    lengths = lengths or USUAL
     got = ref.read_system(text, *[[9] * m for m in lengths])
-    put('4.%d  %s: "%s"%s' % (k, what, esc(text), '' if lengths == (5, 4, 4, 4) else '  lent lengths %s' % nums(lengths)))
+    put('4.%d  %s: "%s"%s' % (k, what, esc(text), '' if lengths == USUAL else '  lent lengths %s' % nums(lengths)))
     if got[0] == 'refused':
         assert what.startswith('%d:' % got[1]), (what, got)
         put('   -> refused %d' % got[1])
     else:
         assert what.startswith('good')
-        put('   -> p = %d, n = %d, entries = %d; starts %s; columns %s; values %s; b %s' %
-            (got[1], got[2], got[3], nums(got[4]), nums(got[5]), nums(got[6]), nums(got[7])))
+        put('   -> p = %d, n = %d, entries = %d; starts %s; columns %s; values %s; scales %s; b %s' % (*got[1:4], *map(nums, got[4:])))
+    apart = mutants.reads_told_apart(text, lengths)
+    told.update(apart)
+    if apart:
+        put('   tells apart: ' + ', '.join(apart))
 put()
 
 # ------------------------------------------------------------------ text call
@@ -279,15 +366,23 @@ for k, (what, text) in enumerate([
         ('diag(2,3), 2 passes', b'system\t7\t2\t2\na\t1\t1\t2\na\t2\t2\t3\nb\t1\t1\nb\t2\t1\nend\n'),
         ('size 0', b'system\t7\t0\t0\nend\n'),
         ('size 0, p = 2', b'system\t2\t0\t0\nend\n'),
+        ('scales, AX = diag(1,1)', scaled_text((1, 4), (2, 5))),
+        ('scales, singular', scaled_text((1, 3), (2, 2), head=(7, 2, 1), a=[(1, 2, 1)], b=[(2, 1)])),
+        ('scales, solved where A alone is singular', scaled_text((1, 1), (2, 2), head=(7, 2, 4), a=[(1, 1, 1), (1, 2, 1), (2, 1, 6), (2, 2, 6)], b=[(1, 1), (2, 6)])),
+        ('scales, singular where A alone solves', scaled_text((1, 1), (2, 4), head=(7, 2, 4), a=[(1, 1, 1), (1, 2, 2), (2, 1, 6), (2, 2, 5)], b=[(1, 1), (2, 6)])),
+        ('scales, one pass where A alone takes three', scaled_text((1, 4), (2, 1), (3, 6), head=(7, 3, 4), a=[(1, 1, 6), (2, 2, 3), (3, 1, 5), (3, 3, 2)],
+                                                                   b=[(1, 2), (2, 2), (3, 1)])),
+        ('scales, no entries, b = 0', scaled_text((1, 2), head=(3, 1, 0), a=(), b=())),
 ], 1):
     got = ref.text_call(text, bytes([9]) * 7168)
     assert got[0] == 'ok' and got[2][got[1]:] == bytes([9]) * (7168 - got[1])
     assert ref.program(text) == got[2][:got[1]]
     put('5.%d  %s: "%s"' % (k, what, esc(text)))
     put('   -> %d, "%s"' % (got[1], esc(got[2][:got[1]])))
+    told.update(mutants.calls_told_apart(text, 7168))
 for k, (what, text, length, printed) in enumerate([
-        ('24,577 bytes "x"', b'x' * 24577, 0, True),
-        ('24,576 bytes "x"', b'x' * 24576, 0, True),
+        ('26,625 bytes "x"', b'x' * 26625, 0, True),
+        ('26,624 bytes "x"', b'x' * 26624, 0, True),
         ('n = 129, no entries: "system\\t7\\t129\\t0\\nend\\n"', b'system\t7\t129\t0\nend\n', 7168, True),
         ('n = 129 and b value 7: "system\\t7\\t129\\t0\\nb\\t1\\t7\\nend\\n"', b'system\t7\t129\t0\nb\t1\t7\nend\n', 7168, True),
         ('n = 4097: "system\\t7\\t4097\\t0\\nend\\n"', b'system\t7\t4097\t0\nend\n', 7168, True),
@@ -297,37 +392,66 @@ for k, (what, text, length, printed) in enumerate([
         ('size 0 and answer slice of 7,167: "system\\t7\\t0\\t0\\nend\\n"', b'system\t7\t0\t0\nend\n', 7167, False),
         ('size 0 and a b line: "system\\t7\\t0\\t0\\nb\\t1\\t1\\nend\\n"', b'system\t7\t0\t0\nb\t1\t1\nend\n', 7168, True),
         ('size 0 and count 1: "system\\t7\\t0\\t1\\nend\\n"', b'system\t7\t0\t1\nend\n', 7168, True),
+        ('24,577 bytes "x"', b'x' * 24577, 0, True),
+        *[('%s: "%s"' % (what, esc(text)), text, 7168, True) for what, text in (
+            ('s lines after the b lines', plain.replace(b'end', s45 + b'end')),
+            ('one s line of two', scaled_text((1, 4))),
+            ('s values all 1', scaled_text((1, 1), (2, 1))),
+            ('s value = p', scaled_text((1, 4), (2, 7))),
+            ('n = 129 and one s line', b'system\t7\t129\t0\ns\t1\t2\nend\n'))],
+        ('scales and answer slice of 7,167: "%s"' % esc(scaled_text((1, 4), (2, 5))), scaled_text((1, 4), (2, 5)), 7167, False),
 ], 1):
     got = ref.text_call(text, bytes(length))
+    told.update(mutants.calls_told_apart(text, length))
     put('5.r%d %s -> refused %d%s' % (k, what, got[1], '; program prints "%s"' % esc(ref.program(text)) if printed else ''))
 put()
 
 # ------------------------------------------------------------------ writer
 put('=== 6. WRITER (bytes before: all "."; n from the starts) ===')
-for k, (what, p, M, b, extra) in enumerate([
-        ('out of exactly the length', 7, [[2, 1], [0, 3]], [1, 1], 0),
-        ('3 bytes more, they stay', 11, [[0, 0, 0], [0, 0, 10], [0, 0, 0]], [0, 0, 4], 3),
-        ('no entries, b = 0', 2, [[0]], [0], 0),
-        ('size 0', 7, [], [], 0),
-        ('size 0, 2 bytes more, they stay', 2147483647, [], [], 2),
+for k, (what, p, M, X, b, extra) in enumerate([
+        ('out of exactly the length', 7, [[2, 1], [0, 3]], [], [1, 1], 0),
+        ('3 bytes more, they stay', 11, [[0, 0, 0], [0, 0, 10], [0, 0, 0]], [], [0, 0, 4], 3),
+        ('no entries, b = 0', 2, [[0]], [], [0], 0),
+        ('size 0', 7, [], [], [], 0),
+        ('size 0, 2 bytes more, they stay', 2147483647, [], [], [], 2),
+        ('scales', 7, two, [4, 5], [1, 1], 0),
+        ('scales, 2 bytes more, they stay', 7, two, [4, 5], [1, 1], 2),
+        ('the first scale 1', 7, two, [1, 5], [1, 1], 0),
+        ('the last scale 1', 7, two, [4, 1], [1, 1], 0),
+        ('all scales 1: no s lines', 7, two, [1, 1], [1, 1], 0),
+        ('no scales: no s lines', 7, two, [], [1, 1], 0),
+        ('scales, no entries, b = 0', 11, [[0] * 3] * 3, [1, 10, 1], [0, 0, 0], 0),
+        ('scales, p = 2', 2, [[0]], [1], [1], 0),
+        ('scales, widest numbers', 2147483647, [[2147483646]], [2147483646], [2147483646], 0),
 ], 1):
     S = selftest.dense_to_sparse(M)
-    m = len(ref.system_text(p, *S, b))
-    got = ref.write_system(p, *S, b, b'.' * (m + extra))
-    put('6.%d  %s: p = %d, starts %s; columns %s; values %s; b %s; out of %d bytes' % (k, what, p, nums(S[0]), nums(S[1]), nums(S[2]), nums(b), m + extra))
+    m = len(ref.system_text(p, *S, X, b))
+    got = ref.write_system(p, *S, X, b, b'.' * (m + extra))
+    put('6.%d  %s: p = %d, starts %s; columns %s; values %s%s; b %s; out of %d bytes' %
+        (k, what, p, nums(S[0]), nums(S[1]), nums(S[2]), '; scales %s' % nums(X) if X else '', nums(b), m + extra))
     put('   -> %d, "%s"' % (got[1], esc(got[2])))
-    got = ref.write_system(p, *S, b, b'.' * (m - 1))
+    got = ref.write_system(p, *S, X, b, b'.' * (m - 1))
     put('   out of %d bytes -> refused %d' % (m - 1, got[1]))
-put('6.r1 p = 7, diag(2,3), b = 1 7, out of 0 bytes -> ' + answer_line(ref.write_system(7, [0, 1, 2], [0, 1], [2, 3], [1, 7], b'')))
-put('6.r2 p = 7, diag(2,3), b = 1, out of 100 bytes -> ' + answer_line(ref.write_system(7, [0, 1, 2], [0, 1], [2, 3], [1], bytes(100))))
-put('6.r3 p = 7, starts 0; columns (none); values (none); b 0; out of 0 bytes -> ' + answer_line(ref.write_system(7, [0], [], [], [0], b'')))
+    apart = mutants.writes_told_apart(p, S, X, b, m + extra) + mutants.writes_told_apart(p, S, X, b, m - 1)
+    told.update(apart)
+    if apart:
+        put('   tells apart: ' + ', '.join(sorted(set(apart), key=mutants.TEXT_NAMES.index)))
+put('6.r1 p = 7, diag(2,3), b = 1 7, out of 0 bytes -> ' + answer_line(ref.write_system(7, [0, 1, 2], [0, 1], [2, 3], [], [1, 7], b'')))
+put('6.r2 p = 7, diag(2,3), b = 1, out of 100 bytes -> ' + answer_line(ref.write_system(7, [0, 1, 2], [0, 1], [2, 3], [], [1], bytes(100))))
+put('6.r3 p = 7, starts 0; columns (none); values (none); b 0; out of 0 bytes -> ' + answer_line(ref.write_system(7, [0], [], [], [], [0], b'')))
 put('6.r4 p = 7, starts (none); columns (none); values (none); b (none); out of 100 bytes -> ' +
-    answer_line(ref.write_system(7, [], [], [], [], bytes(100))))
+    answer_line(ref.write_system(7, [], [], [], [], [], bytes(100))))
+for k, (X, b, room) in enumerate([([4], [1, 1], 100), ([4, 5, 1], [1, 1], 100), ([4, 0], [1, 1], 100), ([7, 5], [1, 1], 100), ([1], [1, 7], 0), ([0, 1], [1], 0),
+                                  ([4, 5], [1], 0)], 5):
+    put('6.r%d p = 7, diag(2,3), scales = %s, b = %s, out of %d bytes -> %s' %
+        (k, nums(X), nums(b), room, answer_line(ref.write_system(7, [0, 1, 2], [0, 1], [2, 3], X, b, bytes(room)))))
+put('6.r12 p = 7, starts 0; columns (none); values (none); scales 1; b (none); out of 100 bytes -> ' +
+    answer_line(ref.write_system(7, [0], [], [], [1], [], bytes(100))))
 put()
 
 # ------------------------------------------------------------------ refusals of the solver
-put('=== 7. REFUSALS OF THE SOLVER CALL, AND BILLS OF EVERY LENGTH (slices: vector 2, polynomial 3, bill 6, work 48; window 0 unless said) ===')
-base = dict(p=7, starts=[0, 1, 2], columns=[0, 1], values=[2, 3], b=[1, 1], words=[], window=0, vector=2, polynomial=3, bill=6, work=48)
+put('=== 7. REFUSALS OF THE SOLVER CALL, AND BILLS OF EVERY LENGTH (slices: vector 2, polynomial 3, bill 6, work 48; window 0 and no scales unless said) ===')
+base = dict(p=7, starts=[0, 1, 2], columns=[0, 1], values=[2, 3], scales=[], b=[1, 1], words=[], window=0, vector=2, polynomial=3, bill=6, work=48)
 empty = dict(starts=[0], columns=[], values=[], b=[], vector=0, polynomial=1, work=16)
 for number, what, change in [
         (3, 'p = 1', dict(p=1)),
@@ -398,25 +522,53 @@ for number, what, change in [
         (13, 'size 0, window 65', dict(empty, window=65)),
         (10, 'size 0, window 65 (13), and one word', dict(empty, window=65, words=[1])),
         (13, 'size 0, window 65, and polynomial of 0 places (11)', dict(empty, window=65, polynomial=0)),
+        (0, 'scales: one pass, three places stay', dict(scales=[4, 5])),
+        (0, 'scales all 1: two passes', dict(scales=[1, 1])),
+        (0, 'scales 6, the largest', dict(scales=[6, 6])),
+        (5, 'one scale for n = 2', dict(scales=[4])),
+        (5, 'three scales for n = 2', dict(scales=[4, 5, 1])),
+        (5, 'three scales for n = 2, all 0 (7)', dict(scales=[0, 0, 0])),
+        (5, 'one scale, and column 2 with n = 2 (6)', dict(scales=[4], columns=[0, 2])),
+        (5, 'one scale, and value 0 (7), and b of 1 element (8)', dict(scales=[4], values=[2, 0], b=[1])),
+        (5, 'right scales, and starts that end at 1 with 2 entries', dict(scales=[4, 5], starts=[0, 1, 1])),
+        (4, 'one scale (5), and no starts', dict(empty, starts=[], scales=[1])),
+        (3, 'one scale (5), and p = 8', dict(scales=[4], p=8)),
+        (6, 'a scale 0 (7), and column 2 with n = 2', dict(scales=[0, 5], columns=[0, 2])),
+        (7, 'a scale 0, the first', dict(scales=[0, 5])),
+        (7, 'a scale 0, the last', dict(scales=[4, 0])),
+        (7, 'a scale 7 = p, the first', dict(scales=[7, 5])),
+        (7, 'a scale 7 = p, the last', dict(scales=[4, 7])),
+        (7, 'a scale 8, which is 1 modulo p', dict(scales=[8, 1])),
+        (7, 'a scale 4294967295', dict(scales=[4, 4294967295])),
+        (7, 'a scale 2 with p = 2', dict(p=2, values=[1, 1], scales=[1, 2])),
+        (7, 'a scale 0, and b of 1 element (8)', dict(scales=[4, 0], b=[1])),
+        (7, 'a scale 7 = p, and b element 7 (9), 3 words (10), window 65 (13), and vector of 1 place (11)',
+         dict(scales=[7, 5], b=[1, 7], words=[1, 1, 1], window=65, vector=1)),
+        (8, 'right scales, and b of 1 element', dict(scales=[4, 5], b=[1])),
+        (9, 'right scales, and b element 7 = p', dict(scales=[4, 5], b=[1, 7])),
+        (11, 'right scales, and work of 47 places', dict(scales=[4, 5], work=47)),
+        (5, 'size 0 and one scale', dict(empty, scales=[1])),
+        (5, 'size 0 and one scale 0 (7), and one word (10)', dict(empty, scales=[0], words=[1])),
 ]:
     d = dict(base)
     d.update(change)
-    got = ref.solve(d['p'], d['starts'], d['columns'], d['values'], d['b'], d['words'], d['window'], [9] * d['vector'],
+    got = ref.solve(d['p'], d['starts'], d['columns'], d['values'], d['scales'], d['b'], d['words'], d['window'], [9] * d['vector'],
                     [9] * d['polynomial'], [9] * d['bill'], [9] * d['work'])
     assert (got == ('refused', number)) if number else got[0] == 'ok', (what, got)
-    put('%s: p = %d; starts %s; columns %s; values %s; b %s; words %s%s; vector %d, polynomial %d, bill %d, work %d' %
-        (what, d['p'], nums(d['starts']), nums(d['columns']), nums(d['values']), nums(d['b']),
+    put('%s: p = %d; starts %s; columns %s; values %s%s; b %s; words %s%s; vector %d, polynomial %d, bill %d, work %d' %
+        (what, d['p'], nums(d['starts']), nums(d['columns']), nums(d['values']), '; scales %s' % nums(d['scales']) if d['scales'] else '', nums(d['b']),
          nums(d['words']) if len(d['words']) < 10 else '%d times %d' % (len(d['words']), d['words'][0]),
          '; window %d' % d['window'] if d['window'] else '', d['vector'], d['polynomial'], d['bill'], d['work']))
     put('   -> ' + ('refused %d' % number if number else
                     '%s, D = %d, passes = %d, applications = %d, multiplied = %d, vector %s, polynomial %s, bill %s' %
                     (*got[1:6], nums(got[6]), nums(got[7]), nums(got[8]))))
-    if (len(d['starts']) <= 1 or d['window']) and number != 11:  # mutants.py lends slices of the right lengths
-        apart = mutants.told_apart(d['p'], (d['starts'], d['columns'], d['values']), d['b'], d['words'], d['window'])
+    if (len(d['starts']) <= 1 or d['window'] or d['scales']) and number != 11:  # mutants.py lends slices of the right lengths
+        apart = mutants.told_apart(d['p'], (d['starts'], d['columns'], d['values']), d['scales'], d['b'], d['words'], d['window'])
         told.update(apart)
         put('   tells apart: ' + (', '.join(apart) or '(none)'))
 put()
-assert set(mutants.NAMES) - told == set(mutants.HIDDEN), set(mutants.NAMES) - told
+hidden = set(mutants.NAMES + mutants.TEXT_NAMES + mutants.CHECK_NAMES) - told
+assert hidden == set(mutants.HIDDEN), hidden
 
 # ------------------------------------------------------------------ field
 put('=== 8. FIELD ===')

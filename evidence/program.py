@@ -20,18 +20,19 @@ HIGH = 2147483647
 LIMIT = reference.CALL_TEXT
 
 
-def text_of(p, n, a, b, count=None, end=('end',)):
-    lines = [('system', p, n, len(a) if count is None else count)] + [('a', *e) for e in a] + [('b', *e) for e in b] + [end]
-    return b''.join(reference.line(*fields) for fields in lines)
+def text_of(p, n, a, b, count=None, end=('end',), s=()):
+    lines = [('a', *e) for e in a] + [('s', *e) for e in s] + [('b', *e) for e in b]
+    return b''.join(reference.line(*fields) for fields in [('system', p, n, len(a) if count is None else count), *lines, end])
 
 
-def longest():
-    """The longest text that is accepted: 1,024 entries in the places with the most digits, 128 elements of b, ten digits in each value. It has
-    23,420 bytes, so that no text of 24,576 is accepted: a good one of that length has more than 1,024 entries and gets 11."""
+def longest(scaled=True):
+    """The longest text that is accepted: 1,024 entries in the places with the most digits, 128 scales and elements of b, ten digits in each
+    value. It has 25,488 bytes, so that no text of 26,624 is accepted: a good one of that length has more than 1,024 entries and gets 11."""
     wide = range(100, 129)
     places = [(i, j) for i in wide for j in wide] + [(i, j) for j in (100, 115, 128) for i in range(10, 100)]
     a = [(i, j, HIGH - 1 - i * j) for i, j in sorted(places[:1024])]
-    return text_of(HIGH, 128, a, [(i, HIGH - i) for i in range(1, 129)])
+    s = [(j, HIGH - 2 * j) for j in range(1, 129)]
+    return text_of(HIGH, 128, a, [(i, HIGH - i) for i in range(1, 129)], s=s if scaled else ())
 
 
 def in_form(length):
@@ -59,8 +60,10 @@ def texts():
     ring = [(i, i % 128 + 1, HIGH - i) for i in range(1, 129)]
     band = [(i, j, i + j) for i in range(1, 129) for j in range(max(1, i - 1), min(128, i + 1) + 1)]
 
+    assert len(longest()) == 25488
+
     # accepted: document 01's first case, solved and singular systems, no pass and two and 128 of them, 128 rows, 1,024 entries,
-    # the longest text, no rows
+    # the longest texts, no rows
     yield 0, first
     yield 0, text_of(7, 2, [(1, 1, 2), (2, 2, 3)], ones)
     yield 0, text_of(7, 2, [(1, 1, 2), (2, 2, 3)], [(2, 1)])
@@ -73,14 +76,30 @@ def texts():
     yield 0, text_of(65537, 128, band, [(i, i) for i in range(1, 129)])
     yield 0, text_of(2, 128, [(i, j, 1) for i in range(1, 129) for j in range(1, 9)], [(1, 1)])
     yield 0, longest()
+    yield 0, longest(scaled=False)
     for p in (2, 7, HIGH):
         yield 0, text_of(p, 0, [], [])
 
-    # 1 only from 24,577 bytes on, whatever they hold; so too where what comes before, up to that place, is a text of its own
-    for length in (LIMIT, LIMIT + 1, LIMIT + 2, 100000):
+    # .. and with scales: solved, singular, one pass where there were two and three, two where there was one, another kind than that
+    # of A alone, 128 of them, 1 but for the first and but for the last, no entries, b = 0
+    for s in ([4, 5], [1, 5], [4, 1], [6, 6]):
+        yield 0, text_of(7, 2, [(1, 1, 2), (2, 2, 3)], ones, s=list(enumerate(s, 1)))
+        yield 0, text_of(7, 2, [(1, 1, 2), (2, 2, 2)], ones, s=list(enumerate(s, 1)))
+        yield 0, text_of(7, 2, [(1, 2, 1)], [(2, 1)], s=list(enumerate(s, 1)))
+    yield 0, text_of(7, 2, [(1, 1, 1), (1, 2, 1), (2, 1, 6), (2, 2, 6)], [(1, 1), (2, 6)], s=[(1, 1), (2, 2)])
+    yield 0, text_of(7, 2, [(1, 1, 1), (1, 2, 2), (2, 1, 6), (2, 2, 5)], [(1, 1), (2, 6)], s=[(1, 1), (2, 4)])
+    yield 0, text_of(7, 3, [(1, 1, 6), (2, 2, 3), (3, 1, 5), (3, 3, 2)], [(1, 2), (2, 2), (3, 1)], s=[(1, 4), (2, 1), (3, 6)])
+    yield 0, text_of(3, 1, [], [], s=[(1, 2)])
+    yield 0, text_of(HIGH, 128, ring, [(1, HIGH - 1)], s=[(j, HIGH - j) for j in range(1, 129)])
+    yield 0, text_of(HIGH, 128, ring[:-1], [(1, HIGH - 1), (128, 5)], s=[(j, j) for j in range(1, 129)])
+    yield 0, text_of(65537, 128, band, [(i, i) for i in range(1, 129)], s=[(j, 1 + (j == 128)) for j in range(1, 129)])
+
+    # 1 only from 26,625 bytes on, whatever they hold; so too where what comes before, up to that place, is a text of its own
+    for length in (24576, 24577, LIMIT, LIMIT + 1, LIMIT + 2, 100000):
         yield 1 if length > LIMIT else 2, b'x' * length
         yield 1 if length > LIMIT else 2, (first * (length // len(first) + 1))[:length]
     yield 11, in_form(LIMIT)
+    yield 11, in_form(24577)
     yield 1, in_form(LIMIT + 1)
     for more in (1, 4, 1000, 40000, 75424):
         yield 1, in_form(LIMIT) + b'\n' * more
@@ -124,6 +143,38 @@ def texts():
     for value in (0, 7, 8, 4294967295):
         yield 7, text_of(7, 2, [(1, 1, value)], ones)
         yield 7, text_of(7, 2, two, [(2, value)])
+
+    # `s` lines: out of form and out of place, too few and too many, out of range and out of order, all of value 1, no scales
+    scaled = text_of(7, 2, two, ones, s=[(1, 4), (2, 5)])
+    s, head, tail = b's\t1\t4\ns\t2\t5\n', b'system\t7\t2\t3\n', b'b\t1\t1\nb\t2\t1\nend\n'
+    yield 0, scaled
+    yield 2, first.replace(b'end', s + b'end')
+    yield 2, first.replace(b'b\t2', s + b'b\t2')
+    yield 2, first.replace(b'a\t1\t1', s + b'a\t1\t1')
+    yield 2, first.replace(b'a\t2\t2', s + b'a\t2\t2')
+    yield 2, s + first
+    yield 2, head + s + first[len(head):]
+    yield 2, first + s
+    for old, new in ((b's\t1\t4', b's\t1'), (b's\t1\t4', b's\t1\t4\t4'), (b's\t1\t4', b's'), (b's\t1\t4', b's\t1\t04'), (b's\t1', b's 1'), (b's\t1', b'S\t1'),
+                     (b's\t1\t4', b's\t1\t4294967296'), (b's\t1\t4', b'\ns\t1\t4')):
+        yield 2, scaled.replace(old, new)
+    yield 2, scaled[:scaled.index(tail)]
+    for lines in ([(1, 4)], [(2, 5)], [(1, 1)], [(1, 4), (2, 5), (2, 5)], [(1, 4), (2, 5), (3, 1)], [(0, 0)]):
+        yield 5, text_of(7, 2, two, ones, s=lines)
+        yield 5, text_of(7, 129, [], [], s=lines)
+    yield 5, text_of(7, 2, two, ones, 2, s=[(1, 4), (2, 5)])
+    for lines in ([(1, 4), (3, 5)], [(0, 4), (1, 5)], [(0, 4), (2, 5)], [(2, 4), (1, 5)], [(1, 4), (1, 5)], [(2, 4), (2, 5)], [(1, 1), (2, 1)], [(1, 0), (1, 7)],
+                  [(1, 4), (4294967295, 5)]):
+        yield 6, text_of(7, 2, two, ones, s=lines)
+    yield 6, text_of(2, 1, [], [], s=[(1, 1)])
+    yield 6, text_of(7, 128, [], [], s=[(j, 1) for j in range(1, 129)])
+    yield 6, text_of(7, 2, [(1, 1, 7)], ones, s=[(1, 1), (2, 1)])
+    for value in (0, 7, 8, 4294967295):
+        yield 7, text_of(7, 2, two, ones, s=[(1, value), (2, 5)])
+        yield 7, text_of(7, 2, two, ones, s=[(1, 1), (2, value)])
+    yield 7, text_of(2, 1, [], [], s=[(1, 2)])
+    for n in (129, 2000):
+        yield 11, text_of(7, n, [], [], s=[(j, 1 + j % 6) for j in range(1, n + 1)])
     for n in (129, 4096):
         yield 11, text_of(HIGH, n, ring, [(1, 5)])
     yield 11, text_of(2, 128, [(i, j, 1) for i in range(1, 129) for j in range(1, 9)] + [(128, 9, 1)], [])
@@ -139,14 +190,17 @@ def texts():
     for row in (0, 1, 4294967295):
         yield 6, text_of(7, 0, [(row, row, 1)], [])
         yield 6, text_of(7, 0, [], [(row, 1)])
+        yield 5, text_of(7, 0, [], [], s=[(row, 2)])
     yield 6, text_of(7, 0, [], [(1, 7)])
 
     # two causes: the first in order is told
-    causes = [(3, dict(p=8)), (4, dict(n=4097)), (5, dict(count=9)), (6, dict(b=[(2, 1), (2, 1)])), (7, dict(a=[(1, 1, 0)]))]
+    causes = [(3, dict(p=8)), (4, dict(n=4097)), (5, dict(count=9)), (6, dict(b=[(2, 1), (2, 1)])), (7, dict(a=[(1, 1, 0)])), (7, dict(s=[(1, 0), (2, 2)])),
+              (6, dict(s=[(2, 2), (2, 2)])), (6, dict(s=[(1, 1), (2, 1)])), (5, dict(s=[(1, 2)]))]
     right = dict(p=7, n=2, a=[(1, 1, 2)], b=ones, count=1)
     for k, (number, cause) in enumerate(causes):
-        for _, later in causes[k + 1:]:
-            yield number, text_of(**{**right, **later, **cause})
+        for other, later in causes[k + 1:]:
+            if cause.keys() != later.keys():
+                yield min(number, other), text_of(**{**right, **later, **cause})
         yield 2, text_of(**{**right, **cause}, end=('end', ''))
 
 

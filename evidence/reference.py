@@ -1,8 +1,9 @@
 """Reference implementation of document 01 (Wiedemann solver modulo word-size primes).
 
-Plain Python 3, standard library only.  Written from 00-conditions.md, 01-scope.md, requests (i) to (iii) and (v) of
-02-change-requests.md and source 002 alone; but whoever wrote the cases of n = 0 had seen the library's checks 4 and 10, and
-whoever wrote the window (B 33) had been told how the library reads request (v), though not seen its code.
+Plain Python 3, standard library only.  Written from 00-conditions.md, 01-scope.md, requests (i) to (iii), (v) and (vi) of
+02-change-requests.md and source 002 alone; but whoever wrote the cases of n = 0 had seen the library's checks 4 and 10,
+whoever wrote the window (B 33) had been told how the library reads request (v), though not seen its code, and whoever wrote
+the scales (B 35 to 39) had read how the library defines them, before there was code.
 
 Every public call takes lists of ints (32-bit numbers, 0 .. 2**32 - 1) or bytes, never changes an argument, and
 returns either ('ok', ...) or ('refused', number).  A lent slice that is written is passed in with its old contents
@@ -21,28 +22,30 @@ A. Checks of each call, in the order made.  Order = rising number, but 13 comes 
      polynomial_apply  g(A)v       3, 4, 5, 6, 7, 8 (len v != n or len g not 1..n+1), 9 (v, g),
                                    11 (len out != n or len work < 2n)
      recurrence                    3, 8 (N > 8192), 9 (s), 11 (len poly != N+1 or len work < 4N+8)
-     solve                         3, 4, 5, 6, 7, 8 (len b != n), 9 (b), 10, 13 (window > 64),
+     solve                         3, 4, 5 (also: number of scales neither 0 nor n), 6, 7 (also: a scale 0 or >= p),
+                                   8 (len b != n), 9 (b), 10, 13 (window > 64),
                                    11 (len vector != n, len poly != n+1, len work < 16n+16; never the bill)
      check_solution  (Ax = b)      3, 4, 5, 6, 7, 8 (len x != n or len b != n), 9 (x, b)
      check_kernel                  3, 4, 5, 6, 7, 8 (len w != n), 9 (w)
-     read_system                   2, 3, 4, 5, 6, 7, 11 (starts < n+1, columns < entries, values < entries, b < n)
-     write_system                  3, 4, 5, 6, 7, 8 (len b != n), 9 (b), 11 (out shorter than the text)
+     read_system                   2, 3, 4, 5, 6, 7, 11 (starts < n+1, columns < entries, values < entries, scales < n, b < n)
+     write_system                  3, 4, 5 and 7 as for solve, 6, 8 (len b != n), 9 (b), 11 (out shorter than the text)
      text_call                     1, 2, 3, 4, 5, 6, 7, 11 (n > 128, entries > 1024, or answer slice < 7168)
      program                       as text_call, with an answer slice that is long enough (only n and entries give 11)
 B. Choices.
   1. "Slices as long as stated": where the paper says "has n places", "n + 1 places", "N + 1 places" the length must be
      EXACTLY that (longer is refused, 11); where it says "at least" a longer slice is taken.  Exactly: out of the three
-     products, recurrence polynomial, solver vector and polynomial.  At least: all work slices, the reader's four slices,
+     products, recurrence polynomial, solver vector and polynomial.  At least: all work slices, the reader's five slices,
      the text call's answer (7168), the writer's out (its text's length).
   2. Elements (9) come before output lengths (11), and words (10) stand between them.  So an element >= p wins over a
      short out slice, and also over bad words.
   3. Words are "any 32-bit numbers": neither 8 nor 9 looks at them, only 10.
-  4. The values of a matrix are looked at by 7, never 9; elements of b given as a slice are looked at by 9 (0 is fine
-     there), `b` lines of a text by 7 (0 is refused there).
+  4. The values of a matrix and the scales are looked at by 7, never 9; elements of b given as a slice are looked at by 9
+     (0 is fine there), `b` lines of a text by 7 (0 is refused there).
   5. Check 4 on a matrix: len(starts) - 1 not in 0..4096; no starts -> 4.  One start is n = 0 (request (ii)); 5 then wants
      it to be 0 and no entries, so that no entry is left for 6 and 7 to look at.
   6. Check 5 on a matrix: starts[0] != 0, or starts fall anywhere, or starts[n] != len(columns), or
-     len(columns) != len(values), or more than 65536 entries (either slice).  All one number, so no inner order.
+     len(columns) != len(values), or more than 65536 entries (either slice), or a wrong number of scales (B 36).  All one
+     number, so no inner order.
   7. Check 6 on a matrix: a column >= n, or not strictly above the one before it in its row (equal -> 6).  The rows of a
      matrix in slices cannot be out of order by themselves (falling starts are 5).
   8. A field record with a bad p is 3 in every call that takes a field, also the recurrence; 3 comes before everything
@@ -50,24 +53,28 @@ B. Choices.
   9. The recurrence's list of more than 8192 elements -> 8 (also when the poly slice is right for it).  N = 0 is taken:
      L = 0, f = 1, poly slice of one place.
  10. g of length 0 or over n + 1 -> 8.  g's leading coefficients may be 0, and g may be all zeros.
- 11. Text, check 2 ("line forms and order of letters"): the whole text must be  system-line, a-lines, b-lines, `end`,
-     each with exactly its number of tab-parted fields and each closed by byte 10, nothing after the `end` line.  So 2 for:
-     empty text; missing last byte 10; bytes (even a byte 10) after end; missing end; `b` before `a`; a second system line;
-     blank line; blank instead of tab; carriage return; empty numeral; sign; leading zero (00, 01); numeral over
-     4294967295; wrong number of fields; upper case.  A missing end, or an a-line after a b-line, is 2 even where 3..7 apply too.
+ 11. Text, check 2 ("line forms and order of letters"): the whole text must be  system-line, a-lines, s-lines, b-lines,
+     `end`, each with exactly its number of tab-parted fields and each closed by byte 10, nothing after the `end` line.  So 2
+     for: empty text; missing last byte 10; bytes (even a byte 10) after end; missing end; `b` before `a` or `s`, `s` before
+     `a`; a second system line; blank line; blank instead of tab; carriage return; empty numeral; sign; leading zero (00, 01);
+     numeral over 4294967295; wrong number of fields; upper case.  A missing end, or an a-line after a b-line, is 2 even where
+     3..7 apply too.
  12. A numeral over 4294967295 is 2 everywhere, also in the place of p, n, count, row, column or value.
  13. Header p bad (incl. 0, 1) -> 3; header n over 4096 -> 4 (0 is taken, request (ii)); header count != number of `a`
-     lines, or over 65536 `a` lines (= count) -> 5, before any look at rows (6) or values (7).  All in that order whatever
-     the order in the text.  With n = 0 every `a` line that is counted right, and every `b` line, is out of range -> 6.
- 14. Row 0 or column 0 in a text, or over n -> 6; equal (row, column) twice -> 6; `b` rows the same.  6 of a `b` line
-     comes before 7 of an `a` line.
- 15. The reader answers p, n and the entry count, beside the four slices.  It writes n+1 starts, `entries` columns and
-     values (columns from 0), and n elements of b (zeros for the rows that have no `b` line); the rest stays.
+     lines, or over 65536 `a` lines (= count), or a wrong number of `s` lines (B 37) -> 5, before any look at rows (6) or
+     values (7).  All in that order whatever the order in the text.  With n = 0 every `a` line that is counted right, and every `b`
+     line, is out of range -> 6.
+ 14. Row 0 or column 0 in a text, or over n -> 6; equal (row, column) twice -> 6; `b` rows and `s` places the same.  6 of a
+     `b` line comes before 7 of an `a` line.
+ 15. The reader answers p, n and the entry count, beside the five slices.  It writes n+1 starts, `entries` columns and
+     values (columns from 0), n scales (ones if there are no `s` lines) and n elements of b (zeros for the rows that have no
+     `b` line); the rest stays.
  16. The reader's slice lengths (11) come after 7.  Its entry count there is the header's (equal to the `a` lines by then).
- 17. The writer has no check 2: the longest text possible (n = 4096, 65536 entries) is under 1,600,000 bytes.
+ 17. The writer has no check 2: the longest text possible (n = 4096, 65536 entries, scales) is under 1,700,000 bytes.
  18. The text call: n of 129..4096 -> 11, n over 4096 -> 4; a text that is over 128 / 1024 and has a fault of 2..7 gets the
      lower number.  A short answer slice (< 7168) is 11 even where the answer would fit, and only after 1..7.
- 19. The text call's 24,576 bytes is below the reader's 2,097,152, so the length part of 2 is never reached there.
+ 19. The text call's 26,624 bytes (request (vi)) is below the reader's 2,097,152, so the length part of 2 is never reached
+     there.  No text that fits its arrays is longer: 25,488 bytes is the longest of 128 places and 1,024 entries with scales.
  20. Answer lines: tab-parted, byte 10 at the end, as in the system text.  f lines for ALL powers 0..D (zeros too, the
      leading 1 too); x / w lines for ALL places (zeros too).
  21. Program: prints "refused" TAB number LF.  The paper names no exit status and no standard-error text: none here (0).
@@ -98,6 +105,18 @@ B. Choices.
      nothing is tested, though "the last 0 discrepancies" are all 0.  Where the test fails its L products are charged, and
      f(A)r is worked out again with the f of all terms, also if that is the same f.
  34. The text call and the program have no window: theirs is 0, and 13 is no check of theirs.
+ 35. Request (vi): AX has the starts and columns of A, and each value times the scale of its column modulo p, which is not 0.
+     It is built here entry by entry, and the whole run is made on it: kind, f, D, passes, bill, applications and entries
+     multiplied are those of AX, which has as many entries as A.  The vector slice gets X times the vector of that run,
+     solved or singular.  Products, g(A)v and the two checks of offered answers know no scales.
+ 36. A slice of scales has 0 or n elements (5), each 1 to p - 1 (7).  None, and n ones, are the same system; no check turns
+     n ones in a slice down (6 is for a text with `s` lines).
+ 37. A text has 0 or n `s` lines, n being the header's, also if it is 0 (5).  Their places are 1 to n and rise strictly (6), so
+     those of n lines are 1, 2, .., n; "values all 1" is 6 too, and so before a value of an `a` line (7).  Modulo 2 every
+     text with `s` lines is refused.
+ 38. The reader fills n scales whether the text has `s` lines or not; a slice of less than n places is 11 in both cases.
+ 39. The writer puts n `s` lines exactly if some scale isn't 1, so none and n ones give the same text.  A text read and written
+     again is the same; a system written and read has the same scales, n ones for none.
 """
 
 import sys
@@ -111,7 +130,7 @@ MAX_VECTORS = 64
 MAX_WINDOW = 64
 MAX_NUMERAL = 4294967295
 MAX_TEXT = 2097152
-CALL_TEXT = 24576
+CALL_TEXT = 26624
 CALL_N = 128
 CALL_ENTRIES = 1024
 CALL_ANSWER = 7168
@@ -190,7 +209,7 @@ def bad4(starts):
     return len(starts) == 0 or not (0 <= len(starts) - 1 <= MAX_N)
 
 
-def bad5(starts, columns, values):
+def bad5(starts, columns, values, scales):
     if starts[0] != 0:
         return True
     for i in range(len(starts) - 1):
@@ -199,6 +218,8 @@ def bad5(starts, columns, values):
     if starts[len(starts) - 1] != len(columns):
         return True
     if len(columns) != len(values):
+        return True
+    if len(scales) != 0 and len(scales) != len(starts) - 1:
         return True
     return len(columns) > MAX_ENTRIES
 
@@ -243,17 +264,17 @@ def vectors_of(n, words):
     return 0 if n == 0 else len(words) // n
 
 
-def matrix_refusal(p, starts, columns, values):
-    """The first of 3, 4, 5, 6, 7 that turns p and the matrix down, or 0."""
+def matrix_refusal(p, starts, columns, values, scales=()):
+    """The first of 3, 4, 5, 6, 7 that turns p, the matrix and its scales down, or 0."""
     if bad3(p):
         return 3
     if bad4(starts):
         return 4
-    if bad5(starts, columns, values):
+    if bad5(starts, columns, values, scales):
         return 5
     if bad6(starts, columns):
         return 6
-    if bad7(p, values):
+    if bad7(p, values) or bad7(p, scales):
         return 7
     return 0
 
@@ -263,6 +284,23 @@ def matrix_check(p, starts, columns, values):
     if number:
         return refused(number)
     return ('ok', len(starts) - 1)
+
+
+# ---------------------------------------------------------------- scales (request (vi), on accepted input)
+
+def scale_of(scales, j):
+    """That of column j, from 0; no scales stand for ones."""
+    return scales[j] if len(scales) else 1
+
+
+def scaled_values(p, columns, values, scales):
+    """The values of AX; its starts and columns are those of A."""
+    return [values[k] * scale_of(scales, columns[k]) % p for k in range(len(values))]
+
+
+def scaled_vector(p, scales, v):
+    """Xv"""
+    return [v[j] * scale_of(scales, j) % p for j in range(len(v))]
 
 
 # ---------------------------------------------------------------- products (meanings, on accepted input)
@@ -520,8 +558,8 @@ def make_pass(p, starts, columns, values, u, r, left, window):
     return terms, steps.f(), after, test, applications + made, multiplied + more
 
 
-def solver_steps(p, starts, columns, values, b, words, window=0):
-    """The steps of document 01, with the window of request (v), on accepted input.
+def run_on(p, starts, columns, values, b, words, window):
+    """The steps of document 01, with the window of request (v), on accepted input: the run on this matrix.
 
     Returns kind, F, vector, applications, entries multiplied, and a list of passes (u, left, terms, f, r after,
     test, applications)."""
@@ -558,6 +596,12 @@ def solver_steps(p, starts, columns, values, b, words, window=0):
     return 'singular', F, vector, applications, multiplied, passes
 
 
+def solver_steps(p, starts, columns, values, scales, b, words, window=0):
+    """The run on AX, and X times its vector; what run_on returns."""
+    kind, F, vector, *rest = run_on(p, starts, columns, scaled_values(p, columns, values, scales), b, words, window)
+    return (kind, F, scaled_vector(p, scales, vector), *rest)
+
+
 def bill_of(passes):
     """The bill's lines: left, t and applications of each pass."""
     return [(left, len(f) - 1, applications) for u, left, terms, f, after, test, applications in passes]
@@ -574,9 +618,9 @@ def bill_slice(lines, bill):
     return numbers + list(bill[len(numbers):])
 
 
-def solve(p, starts, columns, values, b, words, window, vector, polynomial, bill, work):
+def solve(p, starts, columns, values, scales, b, words, window, vector, polynomial, bill, work):
     """('ok', kind, D, passes, applications, entries multiplied, vector slice, polynomial slice, bill slice) or a refusal."""
-    number = matrix_refusal(p, starts, columns, values)
+    number = matrix_refusal(p, starts, columns, values, scales)
     if number:
         return refused(number)
     n = len(starts) - 1
@@ -590,7 +634,7 @@ def solve(p, starts, columns, values, b, words, window, vector, polynomial, bill
         return refused(13)
     if len(vector) != n or len(polynomial) != n + 1 or len(work) < 16 * n + 16:
         return refused(11)
-    kind, F, x, applications, multiplied, passes = solver_steps(p, starts, columns, values, b, words, window)
+    kind, F, x, applications, multiplied, passes = solver_steps(p, starts, columns, values, scales, b, words, window)
     D = len(F) - 1
     return ('ok', kind, D, len(passes), applications, multiplied, x, F + [0] * (n - D), bill_slice(bill_of(passes), bill))
 
@@ -650,8 +694,20 @@ def parse_line(line, word, count):
     return numbers
 
 
+def parse_lines(lines, k, word, count):
+    """The numbers of each of the lines from k on that begin with the word, and where they end; None if one has another form."""
+    found = []
+    while k < len(lines) and lines[k].startswith(word + b'\t'):
+        numbers = parse_line(lines[k], word, count)
+        if numbers is None:
+            return None
+        found.append(numbers)
+        k += 1
+    return found, k
+
+
 def parse_text(text):
-    """(p, n, count, a lines, b lines), or None where check 2 turns the text down."""
+    """(p, n, count, a lines, s lines, b lines), or None where check 2 turns the text down."""
     text = bytes(text)
     if len(text) > MAX_TEXT:
         return None
@@ -662,51 +718,52 @@ def parse_text(text):
     if header is None:
         return None
     k = 1
-    a_lines = []
-    while k < len(lines) and lines[k].startswith(b'a\t'):
-        numbers = parse_line(lines[k], b'a', 3)
-        if numbers is None:
+    parts = []
+    for word, count in (b'a', 3), (b's', 2), (b'b', 2):
+        found = parse_lines(lines, k, word, count)
+        if found is None:
             return None
-        a_lines.append(numbers)
-        k += 1
-    b_lines = []
-    while k < len(lines) and lines[k].startswith(b'b\t'):
-        numbers = parse_line(lines[k], b'b', 2)
-        if numbers is None:
-            return None
-        b_lines.append(numbers)
-        k += 1
+        part, k = found
+        parts.append(part)
     if k != len(lines) - 1 or lines[k] != b'end':
         return None
-    return header[0], header[1], header[2], a_lines, b_lines
+    return (*header, *parts)
+
+
+def places_bad(lines, n):
+    """Whether the first numbers of these lines are out of 1 to n or don't rise strictly."""
+    before = 0
+    for place, value in lines:
+        if not (1 <= place <= n) or place <= before:
+            return True
+        before = place
+    return False
 
 
 def parse_system(text):
-    """Checks 2 to 7 on a text: ('ok', p, n, starts, columns, values, b), all of exact length, or a refusal."""
+    """Checks 2 to 7 on a text: ('ok', p, n, starts, columns, values, scales, b), all of exact length, or a refusal."""
     parsed = parse_text(text)
     if parsed is None:
         return refused(2)
-    p, n, count, a_lines, b_lines = parsed
+    p, n, count, a_lines, s_lines, b_lines = parsed
     if bad3(p):
         return refused(3)
     if not (0 <= n <= MAX_N):
         return refused(4)
     if count != len(a_lines) or len(a_lines) > MAX_ENTRIES:
         return refused(5)
+    if len(s_lines) != 0 and len(s_lines) != n:
+        return refused(5)
     before = (0, 0)
     for row, column, value in a_lines:
         if not (1 <= row <= n and 1 <= column <= n) or (row, column) <= before:
             return refused(6)
         before = (row, column)
-    before = 0
-    for row, value in b_lines:
-        if not (1 <= row <= n) or row <= before:
-            return refused(6)
-        before = row
-    for row, column, value in a_lines:
-        if value == 0 or value >= p:
-            return refused(7)
-    for row, value in b_lines:
+    if places_bad(s_lines, n) or places_bad(b_lines, n):
+        return refused(6)
+    if len(s_lines) != 0 and all(value == 1 for place, value in s_lines):
+        return refused(6)
+    for *place, value in a_lines + s_lines + b_lines:
         if value == 0 or value >= p:
             return refused(7)
     starts = [0] * (n + 1)
@@ -716,25 +773,29 @@ def parse_system(text):
         starts[i + 1] += starts[i]
     columns = [column - 1 for row, column, value in a_lines]
     values = [value for row, column, value in a_lines]
+    scales = [1] * n
+    for place, value in s_lines:
+        scales[place - 1] = value
     b = [0] * n
     for row, value in b_lines:
         b[row - 1] = value
-    return ('ok', p, n, starts, columns, values, b)
+    return ('ok', p, n, starts, columns, values, scales, b)
 
 
-def read_system(text, starts, columns, values, b):
-    """('ok', p, n, entries, starts, columns, values, b), slices with their final contents, or a refusal."""
+def read_system(text, starts, columns, values, scales, b):
+    """('ok', p, n, entries, starts, columns, values, scales, b), slices with their final contents, or a refusal."""
     system = parse_system(text)
     if system[0] == 'refused':
         return system
-    p, n, starts1, columns1, values1, b1 = system[1:]
+    p, n, starts1, columns1, values1, scales1, b1 = system[1:]
     entries = len(values1)
-    if len(starts) < n + 1 or len(columns) < entries or len(values) < entries or len(b) < n:
+    if len(starts) < n + 1 or len(columns) < entries or len(values) < entries or len(scales) < n or len(b) < n:
         return refused(11)
     return ('ok', p, n, entries,
             starts1 + list(starts[n + 1:]),
             columns1 + list(columns[entries:]),
             values1 + list(values[entries:]),
+            scales1 + list(scales[n:]),
             b1 + list(b[n:]))
 
 
@@ -742,21 +803,24 @@ def line(*fields):
     return '\t'.join(str(x) for x in fields).encode('ascii') + b'\n'
 
 
-def system_text(p, starts, columns, values, b):
+def system_text(p, starts, columns, values, scales, b):
     n = len(starts) - 1
     text = line('system', p, n, len(values))
     for i in range(n):
         for k in range(starts[i], starts[i + 1]):
             text += line('a', i + 1, columns[k] + 1, values[k])
+    if any(x != 1 for x in scales):
+        for j in range(n):
+            text += line('s', j + 1, scales[j])
     for i in range(n):
         if b[i] != 0:
             text += line('b', i + 1, b[i])
     return text + line('end')
 
 
-def write_system(p, starts, columns, values, b, out):
+def write_system(p, starts, columns, values, scales, b, out):
     """('ok', length, out with its final contents) or a refusal."""
-    number = matrix_refusal(p, starts, columns, values)
+    number = matrix_refusal(p, starts, columns, values, scales)
     if number:
         return refused(number)
     n = len(starts) - 1
@@ -764,7 +828,7 @@ def write_system(p, starts, columns, values, b, out):
         return refused(8)
     if bad9(p, b):
         return refused(9)
-    text = system_text(p, starts, columns, values, b)
+    text = system_text(p, starts, columns, values, scales, b)
     if len(out) < len(text):
         return refused(11)
     return ('ok', len(text), text + bytes(out[len(text):]))
@@ -779,10 +843,10 @@ def text_call(text, answer):
     system = parse_system(text)
     if system[0] == 'refused':
         return system
-    p, n, starts, columns, values, b = system[1:]
+    p, n, starts, columns, values, scales, b = system[1:]
     if n > CALL_N or len(values) > CALL_ENTRIES or len(answer) < CALL_ANSWER:
         return refused(11)
-    kind, F, vector, applications, multiplied, passes = solver_steps(p, starts, columns, values, b, [])
+    kind, F, vector, applications, multiplied, passes = solver_steps(p, starts, columns, values, scales, b, [])
     D = len(F) - 1
     result = line('answer', kind, D, len(passes), applications, multiplied)
     for number, row in enumerate(bill_of(passes), 1):

@@ -1,6 +1,7 @@
 // A second implementation of document 01's solver, made to be different from the first: terms by the
 // transposed matrix, recurrences by Euclid's algorithm, where a pass may end early (document 02, request (v))
-// from its quotients, 128-bit sums. It assumes a system and a window that are accepted.
+// from its quotients, 128-bit sums; scales (request (vi)) by making AX, entry by entry. It assumes a system
+// and a window that are accepted.
 #ifndef SECOND_H
 #define SECOND_H
 
@@ -19,6 +20,7 @@ struct System {
     std::vector<std::vector<std::pair<uint32_t, uint32_t>>>
         rows; // (column, value), both as document 01 has them
     Vector b;
+    Vector scales = {}; // of the columns; none stand for ones
 };
 
 struct Pass {
@@ -66,6 +68,16 @@ inline Vector times(const System &s, const Vector &v, uint64_t &multiplied) {
 inline Vector times(const System &s, const Vector &v) {
     uint64_t multiplied = 0;
     return times(s, v, multiplied);
+}
+
+// AX in A's place, and no scales.
+inline System scaled(System s) {
+    if (!s.scales.empty())
+        for (auto &row : s.rows)
+            for (auto &[column, value] : row)
+                value = multiply(s.p, value, s.scales[column]);
+    s.scales.clear();
+    return s;
 }
 
 inline System transpose(const System &s) {
@@ -163,7 +175,7 @@ inline bool is_zero(const Vector &v) {
 // Counts each product with the matrix as it is made, and each entry in it.
 class Run {
   public:
-    explicit Run(const System &system) : s(system), t(transpose(system)) {}
+    explicit Run(const System &system) : s(scaled(system)), t(transpose(s)), scales(system.scales) {}
 
     Answer operator()(const Vector &words, size_t window = 0) {
         size_t n = s.rows.size();
@@ -179,9 +191,11 @@ class Run {
         if (answer.f.size() > 1) {
             answer.vector = apply(Polynomial(answer.f.begin() + 1, answer.f.end()), s.b);
             answer.solved = answer.f[0] != 0;
-            uint32_t scale = answer.solved ? subtract(s.p, 0, invert(s.p, answer.f[0])) : 1;
+            uint32_t factor = answer.solved ? subtract(s.p, 0, invert(s.p, answer.f[0])) : 1;
             for (uint32_t &element : answer.vector)
-                element = multiply(s.p, element, scale);
+                element = multiply(s.p, element, factor);
+            for (size_t i = 0; i < scales.size(); i++)
+                answer.vector[i] = multiply(s.p, answer.vector[i], scales[i]);
         }
         answer.applications = count.made;
         answer.multiplied = count.multiplied;
@@ -239,7 +253,8 @@ class Run {
         uint64_t made = 0, multiplied = 0;
     };
 
-    System s, t;
+    System s, t; // AX, and its transpose
+    Vector scales;
     Count count;
 };
 

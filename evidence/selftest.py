@@ -116,13 +116,26 @@ def random_words(p, n):
     return [rng.choice((0, 0, 0, 1, p, p - 1, 2 ** 32 - 1)) for _ in range(R * n)]
 
 
+def random_scales(p, n):
+    """None, n ones, or any."""
+    style = rng.randrange(4)
+    if style == 0:
+        return []
+    return [1 if style == 1 or rng.random() < 0.2 else rng.randrange(1, p) for _ in range(n)]
+
+
+def d_scaled(M, X, p):
+    """AX, entry by entry; no scales are ones"""
+    return [[M[i][j] * X[j] % p for j in range(len(X))] for i in range(len(X))] if X else M
+
+
 def dirty(k):
     return [rng.randrange(2 ** 32) for _ in range(k)]
 
 
-def run(p, n, S, b, words, bill=(), window=0):
+def run(p, n, S, b, words, bill=(), window=0, X=()):
     """solve, with dirty slices"""
-    return ref.solve(p, *S, b, words, window, dirty(n), dirty(n + 1), list(bill), dirty(16 * n + 16 + rng.randrange(3)))
+    return ref.solve(p, *S, list(X), b, words, window, dirty(n), dirty(n + 1), list(bill), dirty(16 * n + 16 + rng.randrange(3)))
 
 
 def sum_of_bill(lines):
@@ -209,9 +222,9 @@ def empty_cases():
         expect(ref.matrix_check(p, [0], [], []) == ('ok', 0))
         expect(run(p, 0, ([0], [], []), [], []) == (*solved, []))
     for bill in ([], [9], [9] * 3, [9] * 7):
-        expect(ref.solve(*A, [], [], 0, [], [9], bill, [9] * 16) == (*solved, bill))
-        expect(ref.solve(*A, [], [], 64, [], [9], bill, [9] * 17) == (*solved, bill))
-    expect(ref.solver_steps(*A, [], []) == ('solved', [1], [], 0, 0, []))
+        expect(ref.solve(*A, [], [], [], 0, [], [9], bill, [9] * 16) == (*solved, bill))
+        expect(ref.solve(*A, [], [], [], 64, [], [9], bill, [9] * 17) == (*solved, bill))
+    expect(ref.solver_steps(*A, [], [], []) == ('solved', [1], [], 0, 0, []))
     expect(ref.product(*A, [], []) == ref.transposed_product(*A, [], []) == ('ok', 0, []))
     expect(ref.polynomial_apply(*A, [0], [], [], []) == ref.polynomial_apply(*A, [6], [], [], [9]) == ('ok', 0, []))
     expect(ref.check_solution(*A, [], []) == ('ok', True, 0) and ref.check_kernel(*A, []) == ('ok', False, 0))
@@ -223,36 +236,36 @@ def empty_cases():
             expect(ref.matrix_check(*matrix) == ('refused', number))
             expect(ref.product(*matrix, v, []) == ref.transposed_product(*matrix, v, []) == ('refused', number))
             expect(ref.polynomial_apply(*matrix, [1], v, [], []) == ('refused', number))
-            expect(ref.solve(*matrix, v, [], 65, [], [9], [], [9] * 16) == ('refused', number))
+            expect(ref.solve(*matrix, [], v, [], 65, [], [9], [], [9] * 16) == ('refused', number))
             expect(ref.check_solution(*matrix, v, v) == ref.check_kernel(*matrix, v) == ('refused', number))
-            expect(ref.write_system(*matrix, v, bytes(99)) == ('refused', number))
+            expect(ref.write_system(*matrix, [], v, bytes(99)) == ('refused', number))
     for v in ([0], [7]):
         expect(ref.product(*A, v, [9]) == ref.transposed_product(*A, v, [9]) == ('refused', 8))
-        expect(ref.polynomial_apply(*A, [1], v, [], []) == ref.solve(*A, v, [1], 65, [], [9], [], [9] * 16) == ('refused', 8))
+        expect(ref.polynomial_apply(*A, [1], v, [], []) == ref.solve(*A, [], v, [1], 65, [], [9], [], [9] * 16) == ('refused', 8))
         expect(ref.check_solution(*A, v, []) == ref.check_solution(*A, [], v) == ref.check_kernel(*A, v) == ('refused', 8))
-        expect(ref.write_system(*A, v, b'') == ('refused', 8))
+        expect(ref.write_system(*A, [], v, b'') == ('refused', 8))
     for g, number in ([], 8), ([1, 1], 8), ([7, 7], 8), ([7], 9):
         expect(ref.polynomial_apply(*A, g, [], [9], []) == ('refused', number))
     for count in 1, 2, 64, 65:
-        expect(ref.solve(*A, [], [1] * count, 65, [9], [9], [], []) == ('refused', 10))
-    expect(ref.solve(*A, [], [], 65, [9], [9], [], []) == ('refused', 13))
+        expect(ref.solve(*A, [], [], [1] * count, 65, [9], [9], [], []) == ('refused', 10))
+    expect(ref.solve(*A, [], [], [], 65, [9], [9], [], []) == ('refused', 13))
     expect(ref.product(*A, [], [9]) == ref.transposed_product(*A, [], [9]) == ref.polynomial_apply(*A, [1], [], [9], []) == ('refused', 11))
     for vector, polynomial, work in (1, 1, 16), (0, 0, 16), (0, 2, 16), (0, 1, 15), (0, 1, 0):
-        expect(ref.solve(*A, [], [], 64, [9] * vector, [9] * polynomial, [], [9] * work) == ('refused', 11))
+        expect(ref.solve(*A, [], [], [], 64, [9] * vector, [9] * polynomial, [], [9] * work) == ('refused', 11))
 
     # texts
     text, answer = b'system\t7\t0\t0\nend\n', b'answer\tsolved\t0\t0\t0\t0\nclose\t0\nf\t0\t1\nend\n'
-    expect(ref.write_system(*A, [], b'.' * 19) == ('ok', 17, text + b'..') and ref.write_system(*A, [], b'.' * 16) == ('refused', 11))
-    expect(ref.read_system(text, [9], [], [], []) == ('ok', 7, 0, 0, [0], [], [], []))
-    expect(ref.read_system(text, [9, 8], [7], [6], [5, 4]) == ('ok', 7, 0, 0, [0, 8], [7], [6], [5, 4]))
-    expect(ref.read_system(text, [], [7], [6], [5]) == ('refused', 11))
+    expect(ref.write_system(*A, [], [], b'.' * 19) == ('ok', 17, text + b'..') and ref.write_system(*A, [], [], b'.' * 16) == ('refused', 11))
+    expect(ref.read_system(text, [9], [], [], [], []) == ('ok', 7, 0, 0, [0], [], [], [], []))
+    expect(ref.read_system(text, [9, 8], [7], [6], [3], [5, 4]) == ('ok', 7, 0, 0, [0, 8], [7], [6], [3], [5, 4]))
+    expect(ref.read_system(text, [], [7], [6], [3], [5]) == ('refused', 11))
     expect(len(answer) > 18 and ref.text_call(text, b'.' * 7168) == ('ok', 40, answer + b'.' * 7128) and ref.program(text) == answer)
     expect(ref.text_call(text, bytes(7167)) == ('refused', 11))
     for line, number in ((b'system\t7\t0\t0\n', 2), (b'system\t7\t00\t0\nend\n', 2), (b'system\t9\t0\t1\nend\n', 3),
                          (b'system\t7\t4097\t0\nend\n', 4), (b'system\t7\t0\t1\nend\n', 5), (b'system\t7\t0\t0\na\t1\t1\t1\nend\n', 5),
                          (b'system\t7\t0\t1\na\t1\t1\t1\nend\n', 6), (b'system\t7\t0\t1\na\t0\t0\t0\nend\n', 6),
                          (b'system\t7\t0\t0\nb\t1\t1\nend\n', 6), (b'system\t7\t0\t0\nb\t0\t7\nend\n', 6)):
-        expect(ref.read_system(line, [], [], [], []) == ref.text_call(line, b'') == ('refused', number), line)
+        expect(ref.read_system(line, [], [], [], [], []) == ref.text_call(line, b'') == ('refused', number), line)
         expect(ref.program(line) == b'refused\t%d\n' % number)
 
 
@@ -329,9 +342,9 @@ def window_cases():
         expect(run(7, 2, diag(2, 3), [7, 1], [1], [], window) == ('refused', 9))
         for lengths in (1, 3, 48), (2, 2, 48), (2, 3, 47), (0, 0, 0):
             vector, polynomial, work = ([9] * k for k in lengths)
-            expect(ref.solve(7, *diag(2, 3), [1, 1], [], window, vector, polynomial, [], work) == ('refused', 13))
-            expect(ref.solve(7, *diag(2, 3), [1, 1], [1], window, vector, polynomial, [], work) == ('refused', 10))
-            expect(ref.solve(7, *diag(2, 3), [1, 1], [], 64, vector, polynomial, [], work) == ('refused', 11))
+            expect(ref.solve(7, *diag(2, 3), [], [1, 1], [], window, vector, polynomial, [], work) == ('refused', 13))
+            expect(ref.solve(7, *diag(2, 3), [], [1, 1], [1], window, vector, polynomial, [], work) == ('refused', 10))
+            expect(ref.solve(7, *diag(2, 3), [], [1, 1], [], 64, vector, polynomial, [], work) == ('refused', 11))
 
 
 def first_test(p, terms, window):
@@ -344,13 +357,93 @@ def first_test(p, terms, window):
     return None
 
 
+# ---------------------------------------------------------------- request (vi) of document 02: scaled columns
+
+def scale_cases():
+    """Runs on AX, what they answer for A, the `s` lines, and each new cause of a refusal on either side of its bound; by hand."""
+    diag, U, none = ([0, 1, 2], [0, 1], [2, 3]), ([0, 1, 1], [1], [1]), ([0, 0, 0], [], [])
+    for p, n, S, X, b, words, window, want, bill in (
+            # AX = diag(1,1): one pass of degree 1 and y = b, where diag(2,3) takes two; AX = diag(2,3), where diag(2,2) takes one
+            (7, 2, diag, [4, 5], [1, 1], [], 0, ('solved', 1, 1, 4, 8, [4, 5], [6, 1, 0]), [2, 1, 4]),
+            (7, 2, diag, [4, 5], [1, 1], [1, 1], 1, ('solved', 1, 1, 3, 6, [4, 5], [6, 1, 0]), [2, 1, 3]),
+            (7, 2, ([0, 1, 2], [0, 1], [2, 2]), [1, 5], [1, 1], [], 0, ('solved', 2, 2, 7, 14, [4, 4], [6, 2, 1]), [2, 1, 4, 1, 1, 2]),
+            # AX = 0 2 / 0 0: AXb = (2, 0), and X takes it to (6, 0); w = b = (1, 0), and X takes it to (3, 0)
+            (7, 2, U, [3, 2], [0, 1], [], 0, ('singular', 2, 1, 6, 6, [6, 0], [0, 0, 1]), [2, 2, 5]),
+            (7, 2, U, [3, 2], [1, 0], [], 0, ('singular', 1, 1, 4, 4, [3, 0], [0, 1, 0]), [2, 1, 4]),
+            # no entries: w = b, then X; b = 0: nothing
+            (7, 2, none, [3, 2], [0, 3], [], 0, ('singular', 1, 2, 7, 0, [0, 6], [0, 1, 0]), [2, 0, 3, 2, 1, 4]),
+            (7, 2, diag, [4, 5], [0, 0], [1, 1], 0, ('solved', 0, 0, 0, 0, [0, 0], [1, 0, 0]), []),
+            (2, 1, ([0, 1], [0], [1]), [1], [1], [], 0, ('solved', 1, 1, 2, 2, [1], [1, 1]), [1, 1, 2]),
+            # values times scales beyond 32 bits: (p - 1)(p - 1) = 1
+            (2147483647, 1, ([0, 1], [0], [2147483646]), [2147483646], [5], [], 0,
+             ('solved', 1, 1, 2, 2, [2147483642], [2147483646, 1]), [1, 1, 2])):
+        expect(run(p, n, S, b, words, bill, window, X) == ('ok', *want, bill), S, X, b, run(p, n, S, b, words, bill, window, X))
+    # n ones act as none
+    for X in [1, 1], []:
+        expect(run(7, 2, diag, [1, 1], [], [], 0, X) == ('ok', 'solved', 2, 2, 7, 14, [4, 5], [6, 2, 1], []))
+    # the two checks of offered answers stay with A
+    expect(ref.check_solution(7, *diag, [4, 5], [1, 1]) == ('ok', True, 2) and ref.check_solution(7, *diag, [1, 1], [1, 1]) == ('ok', False, 2))
+
+    # 5: neither 0 nor n of them; 7: 0 or at least p; the checks in their order, a later fault beside each
+    for X, number in (([1], 5), ([1, 1, 1], 5), ([0], 5), ([7, 7, 7], 5), ([0, 1], 7), ([1, 0], 7), ([7, 1], 7), ([6, 7], 7), ([1, 8], 7),
+                      ([2 ** 32 - 1, 1], 7), ([6, 6], 0)):
+        for b, words, later in ([1, 1], [], 0), ([1, 1], [1], 10), ([1], [1], 8), ([1, 7], [1], 9):
+            got = run(7, 2, diag, b, words, [], 0, X)
+            expect(got == ('refused', number or later) if number or later else got[0] == 'ok', X, b, words, got)
+        for b, room, later in ([1, 1], 99, 0), ([1, 1], 0, 11), ([1], 0, 8), ([1, 7], 0, 9):
+            got = ref.write_system(7, *diag, X, b, bytes(room))
+            expect(got == ('refused', number or later) if number or later else got[0] == 'ok', X, b, room, got)
+    for S, X, number in ((([0, 1, 2], [0, 2], [2, 3]), [1], 5), (([0, 1, 2], [0, 2], [2, 3]), [0, 7], 6), (([0, 1, 2], [0, 1], [0, 3]), [1], 5),
+                         (([0, 1, 2], [0, 1], [0, 3]), [4, 5], 7), (([], [], []), [1], 4), (([1, 1, 2], [0, 1], [2, 3]), [4, 5], 5)):
+        expect(run(7, 2, S, [1, 1], [], [], 0, X) == ref.write_system(7, *S, X, [1, 1], bytes(99)) == ('refused', number))
+        expect(ref.solve(8, *S, X, [1, 1], [], 0, [], [], [], []) == ref.write_system(8, *S, X, [1, 1], b'') == ('refused', 3))
+    for X in [1], [0], [1, 1]:  # size 0 has none
+        expect(run(7, 0, ([0], [], []), [], [], [], 0, X) == ref.write_system(7, [0], [], [], X, [], bytes(99)) == ('refused', 5))
+
+    # the writer: `s` lines exactly if some scale isn't 1; the reader: what they say, or ones
+    head, tail = b'system\t7\t2\t2\na\t1\t1\t2\na\t2\t2\t3\n', b'b\t1\t1\nb\t2\t1\nend\n'
+    for X, lines, read in (([4, 5], b's\t1\t4\ns\t2\t5\n', [4, 5]), ([1, 2], b's\t1\t1\ns\t2\t2\n', [1, 2]), ([2, 1], b's\t1\t2\ns\t2\t1\n', [2, 1]),
+                           ([1, 1], b'', [1, 1]), ([], b'', [1, 1])):
+        text = head + lines + tail
+        expect(ref.write_system(7, *diag, X, [1, 1], b'.' * (len(text) + 2)) == ('ok', len(text), text + b'..'))
+        expect(ref.write_system(7, *diag, X, [1, 1], b'.' * (len(text) - 1)) == ('refused', 11))
+        for places in 2, 3:
+            expect(ref.read_system(text, [9] * 3, [9] * 2, [9] * 2, [9] * places, [9] * 2) ==
+                   ('ok', 7, 2, 2, *diag, read + [9] * (places - 2), [1, 1]))
+        expect(ref.read_system(text, [9] * 3, [9] * 2, [9] * 2, [9], [9] * 2) == ('refused', 11))
+    expect(ref.program(head + b's\t1\t4\ns\t2\t5\n' + tail) ==
+           b'answer\tsolved\t1\t1\t4\t8\npass\t1\t2\t1\t4\nclose\t0\nf\t0\t6\nf\t1\t1\nx\t1\t4\nx\t2\t5\nend\n')
+    expect(ref.program(b'system\t7\t2\t1\na\t1\t2\t1\ns\t1\t3\ns\t2\t2\nb\t2\t1\nend\n') ==
+           b'answer\tsingular\t2\t1\t6\t6\npass\t1\t2\t2\t5\nclose\t1\nf\t0\t0\nf\t1\t0\nf\t2\t1\nw\t1\t6\nw\t2\t0\nend\n')
+    s = b's\t1\t4\ns\t2\t5\n'
+    for text, number in ((head + s + tail, 0), (s + head + tail, 2), (head[:15] + s + head[15:] + tail, 2), (head + tail[:6] + s + tail[6:], 2),
+                         (head + tail[:-4] + s + b'end\n', 2), (head + tail + s, 2), (head + b's\t1\ns\t2\n' + tail, 2),
+                         (head + b's\t1\t4\t5\n' + tail, 2), (head + b's\n' + tail, 2), (head + b'S\t1\t4\ns\t2\t5\n' + tail, 2),
+                         (head + b's\t1\t4\ns\t2\t05\n' + tail, 2), (head + b's 1\t4\ns\t2\t5\n' + tail, 2),
+                         (head + b's\t1\t4\n' + tail, 5), (head + s + b's\t3\t1\n' + tail, 5), (head + b's\t3\t0\n' + tail, 5),
+                         (head + b's\t1\t4\ns\t3\t5\n' + tail, 6), (head + b's\t0\t4\ns\t1\t5\n' + tail, 6), (head + b's\t2\t4\ns\t1\t5\n' + tail, 6),
+                         (head + b's\t2\t4\ns\t2\t5\n' + tail, 6), (head + b's\t1\t0\ns\t1\t7\n' + tail, 6), (head + b's\t1\t1\ns\t2\t1\n' + tail, 6),
+                         (head.replace(b'\t3\n', b'\t7\n') + b's\t1\t1\ns\t2\t1\n' + tail, 6), (head + s + b'b\t2\t1\nb\t1\t1\nend\n', 6),
+                         (head + b's\t1\t0\ns\t2\t5\n' + tail, 7), (head + b's\t1\t4\ns\t2\t7\n' + tail, 7), (head + b's\t1\t6\ns\t2\t6\n' + tail, 0),
+                         (head + b's\t1\t1\ns\t2\t0\n' + tail, 7), (head + b's\t1\t4294967295\ns\t2\t1\n' + tail, 7),
+                         (head + b's\t1\t4294967296\ns\t2\t1\n' + tail, 2),
+                         (b'system\t2\t1\t0\ns\t1\t1\nend\n', 6), (b'system\t2\t1\t0\ns\t1\t0\nend\n', 7), (b'system\t2\t1\t0\ns\t1\t2\nend\n', 7),
+                         (b'system\t3\t1\t0\ns\t1\t2\nend\n', 0), (b'system\t7\t0\t0\ns\t1\t2\nend\n', 5), (b'system\t7\t0\t0\ns\t0\t2\nend\n', 5),
+                         (b'system\t9\t1\t0\ns\t1\t2\ns\t2\t2\nend\n', 3), (b'system\t7\t4097\t0\ns\t1\t2\nend\n', 4)):
+        got = ref.read_system(text, [9] * 3, [9] * 2, [9] * 2, [9] * 2, [9] * 2)
+        expect(got == ('refused', number) if number else got[0] == 'ok', text, got)
+        expect(ref.program(text).startswith(b'refused\t%d\n' % number if number else b'answer\t'), text)
+
+
 # ---------------------------------------------------------------- solver against dense elimination
 
 WINDOWS = (0, 0, 1, 1, 1, 2, 2, 3, 5, 64)
 
 
-def check_system(p, n, M, b, words_list, windows=WINDOWS):
-    S = dense_to_sparse(M)
+def check_system(p, n, A, b, words_list, windows=WINDOWS, X=()):
+    """The run is on M = AX, built entry by entry, and its vector is an answer for A itself."""
+    S = dense_to_sparse(A)
+    M = d_scaled(A, X, p)
     krylov = [b]
     for _ in range(n):
         krylov.append(d_mul(M, krylov[-1], p))
@@ -359,10 +452,10 @@ def check_system(p, n, M, b, words_list, windows=WINDOWS):
         R = len(words) // n if n else 0
         bill = dirty(rng.randrange(3 * n + 4))
         window = rng.choice(windows)
-        got = run(p, n, S, b, words, bill, window)
-        expect(got[0] == 'ok', 'refused', got, p, M, b)
+        got = run(p, n, S, b, words, bill, window, X)
+        expect(got[0] == 'ok', 'refused', got, p, A, X, b)
         _, kind, D, passes, applications, multiplied, vector, poly, billed = got
-        where = (p, M, b, words, window, got)
+        where = (p, A, X, b, words, window, got)
         f = poly[:D + 1]
         expect(len(poly) == n + 1 and len(vector) == n and not any(poly[D + 1:]), 'lengths', where)
         expect(f[D] == 1 and all(0 <= c < p for c in poly + vector), 'monic', where)
@@ -371,15 +464,19 @@ def check_system(p, n, M, b, words_list, windows=WINDOWS):
         expect(not any(d_apply_poly(M, f, b, p)), 'f(A)b', where)
         expect((kind == 'solved') == d_in_span(b, krylov[1:], p), 'kind', where)
         if kind == 'solved':
-            expect(d_mul(M, vector, p) == b, 'Ax = b', where)
+            expect(d_mul(A, vector, p) == b, 'Ax = b', where)
             expect(ref.check_solution(p, *S, vector, b) == ('ok', True, len(S[2])), where)
         else:
-            expect(kind == 'singular' and any(vector) and not any(d_mul(M, vector, p)), 'Aw = 0', where)
-            expect(d_rank(M, p) < n, 'singular matrix', where)
+            expect(kind == 'singular' and any(vector) and not any(d_mul(A, vector, p)), 'Aw = 0', where)
+            expect(d_rank(A, p) < n, 'singular matrix', where)
             expect(ref.check_kernel(p, *S, vector) == ('ok', True, len(S[2])), where)
+        # y and w of AX are what X takes to the answer
+        of_AX = d_apply_poly(M, f[1:], b, p)
+        c = -d_inv(f[0], p) if kind == 'solved' and D else 1
+        expect(vector == [c * y * (X[j] if X else 1) % p for j, y in enumerate(of_AX)], 'Xy', where)
         expect(passes <= R + n, 'passes', where)
         # the passes, one by one
-        trace = ref.solver_steps(p, *S, b, words, window)[5]
+        trace = ref.solver_steps(p, *S, list(X), b, words, window)[5]
         expect(len(trace) == passes, where)
         r, before, total, lines = b, 0, 0, []
         for k, (u, left, terms, g, after, test, made) in enumerate(trace):
@@ -421,20 +518,28 @@ def check_system(p, n, M, b, words_list, windows=WINDOWS):
         written = min(len(bill) - len(bill) % 3, len(lines))
         expect(billed == lines[:written] + bill[written:], 'bill', where, bill)
         results.append((kind, D, vector, poly))
-        count(kind)
-    expect(all(x == results[0] for x in results), 'words or windows change the answer', p, M, b, results)
+        count(kind + (', scaled' if any(x != 1 for x in X) else ''))
+    expect(all(x == results[0] for x in results), 'words or windows change the answer', p, A, X, b, results)
     # text round trip
-    length_out = ref.write_system(p, *S, b, b'\xee' * 5000)
+    X = list(X)
+    length_out = ref.write_system(p, *S, X, b, b'\xee' * 5000)
     expect(length_out[0] == 'ok')
     text = length_out[2][:length_out[1]]
     expect(length_out[2] == text + b'\xee' * (5000 - len(text)))
-    expect(ref.write_system(p, *S, b, b'\xee' * len(text)) == ('ok', len(text), text))
-    expect(ref.write_system(p, *S, b, b'\xee' * (len(text) - 1)) == ('refused', 11))
+    expect(ref.write_system(p, *S, X, b, b'\xee' * len(text)) == ('ok', len(text), text))
+    expect(ref.write_system(p, *S, X, b, b'\xee' * (len(text) - 1)) == ('refused', 11))
+    expect(text.count(b'\ns\t') == (n if any(x != 1 for x in X) else 0), 's lines', text)
     e = len(S[1])
-    back = ref.read_system(text, [77] * (n + 3), [78] * (e + 1), [79] * e, [80] * (n + 2))
-    expect(back == ('ok', p, n, e, S[0] + [77] * 2, S[1] + [78], S[2], list(b) + [80] * 2), 'read', back)
+    read_X = X or [1] * n
+    back = ref.read_system(text, [77] * (n + 3), [78] * (e + 1), [79] * e, [81] * (n + 1), [80] * (n + 2))
+    expect(back == ('ok', p, n, e, S[0] + [77] * 2, S[1] + [78], S[2], read_X + [81], list(b) + [80] * 2), 'read', back)
+    expect(ref.write_system(p, *S, read_X, b, b'\xee' * len(text)) == ('ok', len(text), text), 'written again')
     # text call = solver without words
-    got = run(p, n, S, b, [], [0] * (3 * n))
+    got = run(p, n, S, b, [], [0] * (3 * n), 0, X)
+    # n ones act as none
+    if read_X == [1] * n:
+        for Y in [], [1] * n:
+            expect(run(p, n, S, b, [], [0] * (3 * n), 0, Y) == got and ref.system_text(p, *S, Y, b) == text, 'ones', p, A, b)
     answer = ref.text_call(text, b'\x01' * 7200)
     expect(answer[0] == 'ok' and answer[1] > 18)
     lines = answer[2][:answer[1]].decode().split('\n')
@@ -457,6 +562,10 @@ def solver_tests(rounds):
             for b in vectors:
                 check_system(p, n, M, b, [[]] + vectors)
                 count('exhaustive systems')
+                for X in itertools.product(range(1, p), repeat=n):
+                    if any(x != 1 for x in X):
+                        check_system(p, n, M, b, [[], rng.choice(vectors)], X=list(X))
+                        count('exhaustive systems, scaled')
     for _ in range(rounds):
         p = rng.choice(PRIMES)
         n = random_size(8)
@@ -468,8 +577,11 @@ def solver_tests(rounds):
             b = d_mul(M, [rng.randrange(p) for _ in range(n)], p)
         else:
             b = [rng.randrange(p) for _ in range(n)]
-        check_system(p, n, M, b, [[]] + [random_words(p, n) for _ in range(3)])
-        count('random systems' if n else 'random systems of size 0')
+        X = random_scales(p, n)
+        if style == 3:
+            b = d_mul(d_scaled(M, X, p), [rng.randrange(p) for _ in range(n)], p)
+        check_system(p, n, M, b, [[]] + [random_words(p, n) for _ in range(3)], X=X)
+        count('random systems%s%s' % (', scaled' if any(x != 1 for x in X) else '', '' if n else ' of size 0'))
 
 
 # ---------------------------------------------------------------- products, recurrence, field
@@ -611,7 +723,8 @@ def refusal_tests(rounds):
         g = [rng.randrange(p) for _ in range(rng.randrange(1, n + 2))]
         words = [rng.randrange(2 ** 32) for _ in range(n * rng.choice((0, 1, 2, 64)))]
         window = rng.choice((0, 1, 64)) if rng.random() < 0.7 else rng.choice((65, 66, 2 ** 32 - 1))
-        slices = {'starts': starts, 'columns': columns, 'values': values, 'v': v, 'b': b, 'g': g, 'words': words,
+        scales = random_scales(p, n)
+        slices = {'starts': starts, 'columns': columns, 'values': values, 'scales': scales, 'v': v, 'b': b, 'g': g, 'words': words,
                   'out': [9] * n, 'poly': [9] * (n + 1), 'bill': [9] * (3 * n), 'work': [9] * (16 * n + 16),
                   'gwork': [9] * (2 * n)}
         for _ in range(rng.choice((0, 1, 1, 2, 3))):
@@ -619,9 +732,10 @@ def refusal_tests(rounds):
                 p = rng.choice((0, 1, 4, 9, 91, 2147483646, 2147483648, 4294967291, 4294967295))
             name = rng.choice(list(slices))
             slices[name] = mutate(slices[name], p)
-        starts, columns, values, v, b, g, words = (slices[k] for k in ('starts', 'columns', 'values', 'v', 'b', 'g', 'words'))
+        starts, columns, values, scales, v, b, g, words = (slices[k] for k in ('starts', 'columns', 'values', 'scales', 'v', 'b', 'g', 'words'))
         causes, m = matrix_causes(p, starts, columns, values)
         A = (p, starts, columns, values)
+        scaled = causes | ({5} if scales and len(scales) != m else set()) | ({7} if any(not 1 <= x < p for x in scales) else set())
         long_v = {8} if len(v) != m else set()
         long_b = {8} if len(b) != m else set()
         big = lambda x: {9} if any(c >= p for c in x) else set()
@@ -641,16 +755,16 @@ def refusal_tests(rounds):
              causes | long_v | ({8} if not 1 <= len(g) <= m + 1 else set()) | big(v) | big(g) | o11 |
              ({11} if len(slices['gwork']) < 2 * m else set()), 'polynomial_apply')
         # 13 stands between 10 and 11
-        same(ref.solve(*A, b, words, window, slices['out'], slices['poly'], slices['bill'], slices['work']),
-             causes | long_b | big(b) | w10 | ({10.5} if window > 64 else set()) | o11 |
+        same(ref.solve(*A, scales, b, words, window, slices['out'], slices['poly'], slices['bill'], slices['work']),
+             scaled | long_b | big(b) | w10 | ({10.5} if window > 64 else set()) | o11 |
              ({11} if len(slices['poly']) != m + 1 else set()) | ({11} if len(slices['work']) < 16 * m + 16 else set()), 'solve')
         same(ref.check_solution(*A, v, b), causes | long_v | long_b | big(v) | big(b), 'check_solution')
         same(ref.check_kernel(*A, v), causes | long_v | big(v), 'check_kernel')
-        got = ref.write_system(*A, b, bytes(2000))
-        same(got, causes | long_b | big(b), 'write')
+        got = ref.write_system(*A, scales, b, bytes(2000))
+        same(got, scaled | long_b | big(b), 'write')
         if got[0] == 'ok':
-            expect(ref.write_system(*A, b, bytes(got[1])) == ('ok', got[1], got[2][:got[1]]))
-            same(ref.write_system(*A, b, bytes(got[1] - 1)), {11}, 'write short')
+            expect(ref.write_system(*A, scales, b, bytes(got[1])) == ('ok', got[1], got[2][:got[1]]))
+            same(ref.write_system(*A, scales, b, bytes(got[1] - 1)), {11}, 'write short')
         s = mutate(b, p)
         bp = {3} if 3 in causes else set()
         poly = [1] * (len(s) + rng.choice((1, 1, 1, 0, 2)))
@@ -672,7 +786,8 @@ def refusal_tests(rounds):
 # ---------------------------------------------------------------- texts
 
 NUM = rb'(?:0|[1-9][0-9]{0,9})'
-FORM = re.compile(rb'system(?:\t' + NUM + rb'){3}\n(?:a(?:\t' + NUM + rb'){3}\n)*(?:b(?:\t' + NUM + rb'){2}\n)*end\n')
+FORM = re.compile(rb'system(?:\t' + NUM + rb'){3}\n(?:a(?:\t' + NUM + rb'){3}\n)*(?:s(?:\t' + NUM + rb'){2}\n)*(?:b(?:\t' + NUM +
+                  rb'){2}\n)*end\n')
 
 
 def text_causes(text):
@@ -683,32 +798,38 @@ def text_causes(text):
     rows = [r.split(b'\t') for r in text.split(b'\n')]
     p, n, m = (int(x) for x in rows[0][1:])
     a = [tuple(int(x) for x in r[1:]) for r in rows if r[0] == b'a']
+    s = [tuple(int(x) for x in r[1:]) for r in rows if r[0] == b's']
     b = [tuple(int(x) for x in r[1:]) for r in rows if r[0] == b'b']
     if p < 2 or p > 2147483647 or any(p % d == 0 for d in range(2, int(p ** 0.5) + 1)):
         causes.add(3)
     if n > 4096:
         causes.add(4)
-    if m != len(a) or m > 65536:
+    if m != len(a) or m > 65536 or s and len(s) != n:
         causes.add(5)
     places = [x[:2] for x in a]
-    brows = [x[0] for x in b]
-    if sorted(set(places)) != places or sorted(set(brows)) != brows or any(not 1 <= i <= n for x in places for i in x) \
-            or any(not 1 <= i <= n for i in brows):
+    if sorted(set(places)) != places or any(not 1 <= i <= n for x in places for i in x):
         causes.add(6)
-    if any(not 1 <= x[-1] < p for x in a + b):
+    for lines in s, b:
+        if sorted({x[0] for x in lines}) != [x[0] for x in lines] or any(not 1 <= x[0] <= n for x in lines):
+            causes.add(6)
+    if {x[1] for x in s} == {1}:
+        causes.add(6)
+    if any(not 1 <= x[-1] < p for x in a + s + b):
         causes.add(7)
-    return causes, (p, n, m, a, b)
+    return causes, (p, n, m, a, s, b)
 
 
 def text_tests(rounds):
-    pieces = [b'\t', b'\n', b'0', b'1', b'2', b'a', b'b', b'end\n', b'a\t1\t1\t1\n', b'b\t1\t1\n', b'system\t7\t2\t1\n', b' ', b'\r',
+    pieces = [b'\t', b'\n', b'0', b'1', b'2', b'a', b's', b'b', b'end\n', b'a\t1\t1\t1\n', b's\t1\t1\n', b'b\t1\t1\n', b'system\t7\t2\t1\n', b' ', b'\r',
               b'-', b'+', b'9999999999', b'4294967295', b'4294967296', b'00', b'\x00', b'\xff', b'5' * 5000]
     for _ in range(rounds):
         p = rng.choice((2, 3, 5, 7, 101))
         n = random_size(3)
         S = dense_to_sparse(random_dense(p, n))
         b = [rng.randrange(p) for _ in range(n)]
-        text = ref.system_text(p, *S, b)
+        text = ref.system_text(p, *S, random_scales(p, n), b)
+        if rng.random() < 0.1:  # `s` lines all of value 1
+            text = re.sub(rb'(s\t[0-9]+)\t[0-9]+', rb'\1\t1', text)
         for _ in range(rng.choice((0, 1, 1, 1, 2, 2, 3))):
             style = rng.randrange(6)
             k = rng.randrange(len(text) + 1)
@@ -733,7 +854,7 @@ def text_tests(rounds):
                 rows.insert(i, rows[i])
                 text = b'\n'.join(rows)
         causes, parsed = text_causes(text)
-        lengths = [rng.choice((0, 1, 2, 3, 4, 10, 10, 10)) if rng.random() < 0.2 else 200 for _ in range(4)]
+        lengths = [rng.choice((0, 1, 2, 3, 4, 10, 10, 10)) if rng.random() < 0.2 else 200 for _ in range(5)]
         got = ref.read_system(text, *[[9] * k for k in lengths])
         call = ref.text_call(text, bytes(rng.choice((7168, 7168, 7167, 4608, 0, 8000))) if rng.random() < 0.3 else bytes(7168))
         if causes:
@@ -742,8 +863,8 @@ def text_tests(rounds):
             expect(ref.program(text) == b'refused\t%d\n' % min(causes))
             count('text refusal %d%s' % (min(causes), ' (of several)' if len(causes) > 1 else ''))
         else:
-            p, n, m, a, bl = parsed
-            need = [n + 1, m, m, n]
+            p, n, m, a, sl, bl = parsed
+            need = [n + 1, m, m, n, n]
             if any(x < y for x, y in zip(lengths, need)):
                 expect(got == ('refused', 11))
                 count('text refusal 11')
@@ -752,12 +873,13 @@ def text_tests(rounds):
                 expect([len(x) for x in got[4:]] == lengths)
                 for x, y in zip(got[4:], need):
                     expect(set(x[y:]) <= {9})
-                s, c, v, bb = (x[:y] for x, y in zip(got[4:], need))
+                s, c, v, x, bb = (x[:y] for x, y in zip(got[4:], need))
                 expect(ref.matrix_check(p, s, c, v) == ('ok', n))
                 expect([(i + 1, c[k] + 1, v[k]) for i in range(n) for k in range(s[i], s[i + 1])] == a)
+                expect(x == [1] * n if not sl else list(enumerate(x, 1)) == sl)
                 expect([(i + 1, bb[i]) for i in range(n) if bb[i]] == bl)
-                expect(ref.write_system(p, s, c, v, bb, bytes(len(text))) == ('ok', len(text), text), 'written again')
-                count('text read' if n else 'text read, size 0')
+                expect(ref.write_system(p, s, c, v, x, bb, bytes(len(text))) == ('ok', len(text), text), 'written again')
+                count('text read%s' % (', scaled' if sl else '' if n else ', size 0'))
                 if n <= 128:
                     expect((call[0] == 'ok') or call == ('refused', 11))
                 else:
@@ -767,27 +889,28 @@ def text_tests(rounds):
     short = b'system\t7\t1\t0\nend\n'
     expect(ref.text_call(short, answer)[1] > 18)
     expect(ref.text_call(b'', answer) == ('refused', 2) and ref.program(b'') == b'refused\t2\n')
-    expect(ref.text_call(b'x' * 24577, b'') == ('refused', 1) and ref.text_call(b'x' * 24576, b'') == ('refused', 2))
+    expect(ref.text_call(b'x' * 26625, b'') == ('refused', 1) and ref.text_call(b'x' * 26624, b'') == ('refused', 2))
     expect(ref.text_call(short, bytes(7167)) == ('refused', 11))
-    big = ref.system_text(7, *dense_to_sparse([[1] * 33 for _ in range(33)]), [0] * 33)
-    expect(len(big) <= 24576 and ref.text_call(big, answer) == ('refused', 11))
+    big = ref.system_text(7, *dense_to_sparse([[1] * 33 for _ in range(33)]), [], [0] * 33)
+    expect(len(big) <= 26624 and ref.text_call(big, answer) == ('refused', 11))
     M = [[1] * 32 for _ in range(32)]
-    big = ref.system_text(7, *dense_to_sparse(M), [0] * 32)
+    big = ref.system_text(7, *dense_to_sparse(M), [], [0] * 32)
     expect(ref.text_call(big, answer)[0] == 'ok')
     many = b'system\t7\t300\t65537\n' + b''.join(b'a\t%d\t%d\t1\n' % (i // 300 + 1, i % 300 + 1) for i in range(65537)) + b'end\n'
-    expect(ref.read_system(many, [0] * 301, [0] * 70000, [0] * 70000, [0] * 300) == ('refused', 5))
+    expect(ref.read_system(many, [0] * 301, [0] * 70000, [0] * 70000, [0] * 300, [0] * 300) == ('refused', 5))
     many = b'system\t7\t300\t65536\n' + b''.join(b'a\t%d\t%d\t1\n' % (i // 300 + 1, i % 300 + 1) for i in range(65536)) + b'end\n'
-    expect(ref.read_system(many, [0] * 301, [0] * 65536, [0] * 65536, [0] * 300)[:4] == ('ok', 7, 300, 65536))
-    expect(ref.read_system(b'\n' * 2097153, [], [], [], []) == ('refused', 2))
+    expect(ref.read_system(many, [0] * 301, [0] * 65536, [0] * 65536, [0] * 300, [0] * 300)[:4] == ('ok', 7, 300, 65536))
+    expect(ref.read_system(b'\n' * 2097153, [], [], [], [], []) == ('refused', 2))
     # longest answers: of one pass, and of a pass for each place
     p, n = 2147483647, 128
     M = [[0] * n for _ in range(n)]
     for i in range(n):
         M[i][(i + 1) % n] = p - 1 - i
         M[i][(i + 7) % n] = p - 2 - 3 * i
-    one = ref.system_text(p, *dense_to_sparse(M), [p - 1 - i for i in range(n)])
-    each = ref.system_text(p, list(range(n + 1)), list(range(n)), [p - 1 - i * i for i in range(n)], [p - 1 - i for i in range(n)])
-    for text, passes in (one, 1), (each, n):
+    one = ref.system_text(p, *dense_to_sparse(M), [], [p - 1 - i for i in range(n)])
+    each = ref.system_text(p, list(range(n + 1)), list(range(n)), [p - 1 - i * i for i in range(n)], [], [p - 1 - i for i in range(n)])
+    scaled = ref.system_text(p, list(range(n + 1)), list(range(n)), [p - 1 - i * i for i in range(n)], [p - 1] * n, [p - 1 - i for i in range(n)])
+    for text, passes in (one, 1), (each, n), (scaled, n):
         got = ref.text_call(text, answer)
         expect(got[0] == 'ok' and got[1] <= 7168)
         expect(got[2].split(b'\n')[passes].startswith(b'pass\t%d\t' % passes) and got[2].split(b'\n')[passes + 1].startswith(b'close\t'))
@@ -801,6 +924,7 @@ if __name__ == '__main__':
     empty_cases()
     entry_cases()
     window_cases()
+    scale_cases()
     field_tests()
     product_tests(rounds)
     recurrence_tests(rounds)

@@ -1,7 +1,7 @@
-"""Systems to try a solver on: every shape that the papers name, each with a choice of p, b, words and a window.
+"""Systems to try a solver on: every shape that the papers name, each with a choice of p, scales, b, words and a window.
 
-make(random, largest, p) gives one run: what it is in words, p, starts, columns, values, b, words, window. Any p if none is
-said."""
+make(random, largest, p) gives one run: what it is in words, p, starts, columns, values, scales, b, words, window. Any p if
+none is said."""
 
 from reference import is_prime, times
 
@@ -137,6 +137,18 @@ def some_words(random, p, n):
     return words
 
 
+def some_scales(random, p, n):
+    """None for every other system. Otherwise any, of few values, ones but for one or two, or n ones."""
+    if random.random() < 0.5:
+        return []
+    few = [value(random, p) for _ in range(3)]
+    scales = random.choice([[value(random, p) for _ in range(n)], [random.choice(few) for _ in range(n)], [1] * n, [1] * n])
+    if n and random.random() < 0.8:
+        for _ in range(2):
+            scales[random.randrange(n)] = random.choice([p - 1, value(random, p)])
+    return scales
+
+
 def make(random, largest, p=None):
     p, n = p or some_prime(random), some_size(random, largest)
     shape = random.choice(SHAPES) if n else zero
@@ -144,5 +156,6 @@ def make(random, largest, p=None):
     sides = right_sides(random, p, n, matrix)
     side = random.choice(sorted(sides) + ['any b', 'b = Ay'])
     words, window = some_words(random, p, n), random.choice(WINDOWS)
-    what = '%s, n = %d, p = %d, %s, window %d' % (shape.__name__.replace('_', ' '), n, p, side, window)
-    return (what, p, *matrix, sides[side], words, window)
+    scales = some_scales(random, p, n)
+    what = '%s, n = %d, p = %d, %s, window %d, %d scales' % (shape.__name__.replace('_', ' '), n, p, side, window, len(scales))
+    return (what, p, *matrix, scales, sides[side], words, window)

@@ -15,8 +15,8 @@ from generator import FREE, listed, printed, run, shown  # noqa: E402
 dice = random.Random(20261115)
 bill_dice = random.Random(20261117)
 calls, answers = [], []
-# passes that ended early, and that went on after a test that failed
-early = failed = 0
+# passes that ended early, and that went on after a test that failed; accepted runs with scales that are not all 1, and those of them whose f is not that of A
+early = failed = scaled = other_f = 0
 
 
 def rank(p, rows):
@@ -67,16 +67,17 @@ def billed(bill, n, degree, passes, applications, window):
     return len(bill) < 3 * passes or (left == n - degree and total == applications and set(bill[3 * passes:]) <= {FREE})
 
 
-def add(p, starts, columns, values, b, words, vector=None, polynomial=None, work=None, bill=None, window=0):
+def add(p, starts, columns, values, b, words, vector=None, polynomial=None, work=None, bill=None, window=0, scales=()):
+    global scaled, other_f
     n = max(len(starts) - 1, 0)
     vector = n if vector is None else vector
     polynomial = n + 1 if polynomial is None else polynomial
     work = 16 * n + 16 if work is None else work
     every_pass = 3 * (n + reference.vectors_of(n, words))
     bill = bill_dice.choice((0, 1, 2, 3, 4, 5, 8, every_pass, every_pass, every_pass)) if bill is None else bill
-    calls.append([[p, window, vector, polynomial, bill, work], starts, columns, values, b, words])
+    calls.append([[p, window, vector, polynomial, bill, work], starts, columns, values, scales, b, words])
     lent = [[FREE] * places for places in (vector, polynomial, bill)]
-    answer = reference.solve(p, starts, columns, values, b, words, window, *lent, [0] * work)
+    answer = reference.solve(p, starts, columns, values, scales, b, words, window, *lent, [0] * work)
     if answer[0] == 'refused':
         answers.append(printed(answer[1]) + ''.join(map(shown, lent)) + shown([FREE] * work))
         return
@@ -84,7 +85,12 @@ def add(p, starts, columns, values, b, words, vector=None, polynomial=None, work
     answers.append(printed(0, kind == 'solved', D, passes, applications, multiplied) + shown(x) + shown(F) + shown(lines) + shown([]))
     assert billed(lines, n, D, passes, applications, window) and multiplied == applications * len(values)
     if window:  # kind, vector and f are those without it
-        assert (kind, x, F) == tuple(reference.solve(p, starts, columns, values, b, words, 0, *lent, [0] * work)[k] for k in (1, 6, 7))
+        assert (kind, x, F) == tuple(reference.solve(p, starts, columns, values, scales, b, words, 0, *lent, [0] * work)[k] for k in (1, 6, 7))
+    if any(s != 1 for s in scales):
+        scaled += 1
+        other_f += F != reference.solve(p, starts, columns, values, [], b, words, 0, *lent, [0] * work)[7]
+    elif scales:  # all 1: the answer is that without them
+        assert answer == reference.solve(p, starts, columns, values, [], b, words, window, *lent, [0] * work)
     if n <= 24:
         A = dense(starts, columns, values)
         image = [sum(c * y for c, y in zip(row, x)) % p for row in A]
@@ -92,6 +98,13 @@ def add(p, starts, columns, values, b, words, vector=None, polynomial=None, work
             assert image == b
         else:
             assert any(x) and not any(image) and rank(p, A) < n
+    if n <= 24 and scales:  # f and the kind are those of AX: D independent vectors b, AXb, .., f(AX)b = 0, and b in the span of the later ones or not
+        AX = [[c * s % p for c, s in zip(row, scales)] for row in A]
+        krylov = [b]
+        for _ in range(n):
+            krylov.append([sum(c * y for c, y in zip(row, krylov[-1])) % p for row in AX])
+        assert rank(p, krylov[:D]) == D and not any(sum(c * v[i] for c, v in zip(F, krylov)) % p for i in range(n))
+        assert (kind == 'solved') == (rank(p, krylov) == rank(p, krylov[1:]))
 
 
 def system(p, n, density, deficient=0):
@@ -239,8 +252,69 @@ for p, n, window in ((2, 60, 1), (2, 60, 5), (3, 60, 2), (7, 57, 1), (65537, 60,
         add(p, *A, b, words, bill=3 * (n + len(words) // n), window=window)
 
 
+# scales: fewer passes than A alone takes and more, another kind than that of A alone, w that is and that is not on an axis, ones; with words and windows, with
+# no entries, with b = 0, with the largest elements
+scale_dice = random.Random(20261118)
+twos, full, tall = ([0, 1, 2], [0, 1], [2, 2]), ([0, 2, 4], [0, 1, 0, 1], [1, 1, 6, 6]), ([0, 2, 4], [0, 1, 0, 1], [1, 2, 6, 5])
+badly = ([0, 1, 2, 4], [0, 1, 0, 2], [6, 3, 5, 2])
+high = 2147483647
+for words in ([], [1, 1], [0, 0], [3, 5, 8, 8]):
+    for window in (0, 1, 2, 64):
+        for A, b in ((diag, [1, 1]), (twos, [1, 1]), (upper, [0, 1]), (upper, [1, 0]), (full, [1, 6]), (tall, [1, 6]), (([0, 0, 0], [], []), [0, 3]), (diag, [0, 0])):
+            add(7, *A, b, words, bill=9, window=window, scales=scale_dice.choice(([4, 5], [1, 2], [1, 4], [3, 2], [6, 6], [1, 6], [5, 1])))
+for scales in ([4, 5], [1, 5], [3, 2], [1, 1], [6, 6], [1, 2], [1, 4], [2, 1]):
+    for A, b in ((diag, [1, 1]), (twos, [1, 1]), (upper, [0, 1]), (upper, [1, 0]), (full, [1, 6]), (tall, [1, 6])):
+        add(7, *A, b, [], bill=6, scales=scales)
+for bill in (0, 1, 2, 3, 4, 7):
+    add(7, *diag, [1, 1], [], bill=bill, scales=[4, 5])
+for window in (0, 1, 2, 3, 4, 5, 64):
+    add(7, *badly, [2, 2, 1], [], bill=9, window=window, scales=[4, 1, 6])
+    add(7, *badly, [2, 2, 1], [1, 2, 3], bill=12, window=window, scales=[1, 1, 1])
+for p in (2, 3, 7, 65537, high):
+    for scales in ([], [1], [p - 1]):
+        add(p, [0, 1], [0], [p - 1], [1], [], bill=3, scales=scales)
+        add(p, [0, 0], [], [], [1], [], bill=3, scales=scales)
+        add(p, [0], [], [], [], [], bill=3, scales=scales)
+add(high, [0, 2, 3, 5], [0, 2, 1, 0, 2], [high - 1, 5, 65536, 7, high - 2], [1, 2, 3], [], bill=9, scales=[high - 1, 65536, high - 2])
+# .. of every number around n and every value around 1 and p; in what order they are looked at: 5, 6, 7, 8, 9, 10, 13, 11
+for scales in ([1], [4], [0], [7], [4, 5, 1], [1, 1, 1], [0, 0, 0], [0, 5], [4, 0], [7, 5], [4, 7], [8, 1], [1, 8], [4294967295, 1], [1, 4294967295], [1] * 64):
+    add(7, *diag, [1, 1], [], bill=6, scales=scales)
+    add(7, *diag, [1], [], bill=6, scales=scales)
+    add(7, *diag, [1, 7], [1], 1, 2, 47, 6, 65, scales)
+    add(7, [0, 1, 2], [0, 2], [2, 3], [1, 1], [], bill=6, scales=scales)
+    add(7, [0, 1, 2], [0, 1], [2, 0], [1, 1], [], bill=6, scales=scales)
+    add(7, [0, 1, 1], [0, 1], [2, 3], [1, 1], [], bill=6, scales=scales)
+    add(7, [], [], [], [], [], 0, 1, 16, 3, 0, scales)
+    add(8, *diag, [1, 1], [], bill=6, scales=scales)
+for scales in ([2, 1], [1, 2], [0, 1]):
+    add(2, [0, 1, 2], [0, 1], [1, 1], [1, 1], [], bill=6, scales=scales)
+for more in ([7, 5], [1, 1], [4, 5]):
+    add(7, *diag, [1], [1], 1, 2, 47, 6, 65, more)
+    add(7, *diag, [1, 7], [1], 1, 2, 47, 6, 65, more)
+    add(7, *diag, [1, 1], [1], 1, 2, 47, 6, 65, more)
+    add(7, *diag, [1, 1], [], 1, 2, 47, 6, 65, more)
+    for lengths in ((1, 3, 48), (2, 2, 48), (2, 4, 48), (2, 3, 47), (2, 3, 49)):
+        add(7, *diag, [1, 1], [], *lengths, 6, 64, more)
+# .. random ones, over small fields, with words and windows; where A's f is short, that of AX is long
+for p, count, most in ((3, 50, 16), (5, 50, 16), (7, 50, 16), (65537, 25, 16), (high, 25, 16)):
+    for _ in range(count):
+        n = scale_dice.randrange(1, most + 1)
+        A = system(p, n, min(1.0, scale_dice.choice((1.0, 2.0, 4.0)) / n), scale_dice.choice((0, 0, 1)))
+        if scale_dice.random() < 0.3:
+            few = [scale_dice.randrange(1, p) for _ in range(3)]
+            A = (list(range(n + 1)), list(range(n)), [scale_dice.choice(few) for _ in range(n)])
+        kind = scale_dice.randrange(4)
+        scales = [1 if kind == 0 and j != n - 1 or kind == 1 and j else scale_dice.randrange(1, p) for j in range(n)]
+        words, b = words_for(p, n), vector(p, n, scale_dice.choice((0.0, 0.5, 0.9)))
+        add(p, *A, b, words, bill=3 * (n + len(words) // n), window=scale_dice.choice((0, 0, 1, 2, 5, 64)), scales=scales)
+for p, n, window in ((3, 60, 0), (7, 57, 2), (65537, 60, 0), (high, 60, 5), (65537, 200, 0)):
+    A, scales = system(p, n, 4.0 / n), [scale_dice.randrange(1, p) for _ in range(n)]
+    add(p, *A, vector(p, n), [scale_dice.randrange(4294967296) for _ in range(n)], bill=3 * (n + 1), window=window, scales=scales)
+
+
 def make():
-    remark = '%d calls; %d passes ended early, %d went on after a test that failed' % (len(calls), early, failed)
+    remark = '%d calls; %d passes ended early, %d went on after a test that failed; %d runs with scales that are not all 1, %d of them with another f than that of A' % (
+        len(calls), early, failed, scaled, other_f)
     return listed(calls), ''.join(a + '\n' for a in answers).encode(), remark
 
 

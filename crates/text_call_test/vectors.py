@@ -12,7 +12,7 @@ sys.path[:0] = [str(crates / 'test_io'), str(crates.parent / 'evidence')]
 import reference  # noqa: E402
 from generator import FREE_BYTE, Place, Texts, printed, run, shown_bytes  # noqa: E402
 
-LEAST, BUFFER = 7168, 24577
+LEAST, BUFFER = 7168, 26625
 dice = random.Random(20261116)
 calls, answers, numbers, texts = [], [], {}, Texts()
 
@@ -36,8 +36,8 @@ def add(text, room=LEAST, letter='c', buffer=BUFFER):
     answers.append((printed(answer[1]) + shown_bytes(lent[answer[1]:]) + '\n').encode() + answer[2][:answer[1]])
 
 
-def text_of(p, n, a, b, count=None, end='end\n'):
-    rows = [('system', p, n, len(a) if count is None else count)] + [('a',) + e for e in a] + [('b',) + e for e in b]
+def text_of(p, n, a, b, count=None, end='end\n', s=()):
+    rows = [('system', p, n, len(a) if count is None else count)] + [('a',) + e for e in a] + [('s',) + e for e in s] + [('b',) + e for e in b]
     return (''.join('\t'.join(str(x) for x in r) + '\n' for r in rows) + end).encode()
 
 
@@ -137,7 +137,7 @@ add(text_of(2, 128, [(i, j, 1) for i in range(1, 129) for j in range(1, 9)] + [(
 add(text_of(2, 128, [], [(128, 1)]))
 add(text_of(2, 128, [], []))
 
-# 24,576 bytes are read, 24,577 get 1, whatever they hold
+# 24,576 bytes, and one more, which are read since there are scales
 for size in (24576, 24577):
     a, b = system(high, 128, 1200, least=10 ** 9)
     while len(text_of(high, 128, a, b)) > size + 20:
@@ -147,16 +147,15 @@ for size in (24576, 24577):
         a[k] = a[k][:2] + (a[k][2] // 10 ** excess,)
     assert len(text_of(high, 128, a, b)) == size
     add(text_of(high, 128, a, b))
-    assert answers[-1].startswith(b' 11 ' if size == 24576 else b' 1 ')
+    assert answers[-1].startswith(b' 11 ')
     add(text_of(high, 128, a, b), letter='o')
-    assert answers[-1].endswith(b'refused\t11\n' if size == 24576 else b'refused\t1\n')
+    assert answers[-1].endswith(b'refused\t11\n')
 add(first * 463 + first[:37])
 add(first * 463 + first[:38])
 add(first * 463 + first[:38], 0)
 add(first * 463 + first[:38], letter='o')
 
-# the output: a buffer of at least 24,577 bytes, with no more read than it has
-assert len(first * 463 + first[:38]) == BUFFER
+# the output: a buffer of at least 26,625 bytes, with no more read than it has
 for buffer in (0, len(first), 24576, 24577, 24578, 30000):
     for text in (b'', first, first * 463 + first[:38], first * 464):
         add(text, letter='o', buffer=buffer)
@@ -203,6 +202,76 @@ for _ in range(40):
     add(dice.choice((some[:i] + byte + some[i + 1:], some[:i] + some[i + 1:], some[:i] + some[i:i + 1] + some[i:])))
 add(b'')
 add(b'', letter='o')
+
+# scales: systems solved and singular, of another kind than A alone, with fewer passes and with more; sizes from 1 to 128, 128 of the widest numbers
+full, tall = [(1, 1, 1), (1, 2, 1), (2, 1, 6), (2, 2, 6)], [(1, 1, 1), (1, 2, 2), (2, 1, 6), (2, 2, 5)]
+for s in ([4, 5], [1, 5], [4, 1], [6, 6], [1, 2], [1, 4], [3, 2]):
+    for a, b in ((diag, [(1, 1), (2, 1)]), ([(1, 1, 2), (2, 2, 2)], [(1, 1), (2, 1)]), ([(1, 2, 1)], [(2, 1)]), ([(1, 2, 1)], [(1, 1)]), (full, [(1, 1), (2, 6)]),
+                 (tall, [(1, 1), (2, 6)]), ([], [(2, 3)]), (diag, [])):
+        add(text_of(7, 2, a, b, s=list(enumerate(s, 1))))
+        add(text_of(7, 2, a, b, s=list(enumerate(s, 1))), letter='o')
+for n in (*range(1, 12), *range(12, 128, 9), 99, 100, 127, 128):
+    p = dice.choice((3, 7, 65537, high))
+    add(text_of(p, n, *system(p, n, 4, 0.8), s=[(j, dice.randrange(1, p)) for j in range(1, n)] + [(n, p - 1)]))
+for p in (3, 7, 65537, high):
+    for n in (1, 2, 3, 9, 10, 30):
+        add(text_of(p, n, *system(p, n, 3 * n, dice.choice((0.0, 0.5)), dice.randrange(2) if n > 1 else 0), s=[(j, 1) for j in range(1, n)] + [(n, 2)]))
+for p, n in ((3, 60), (65537, 50)):
+    add(text_of(p, n, *system(p, n, 4 * n), s=[(j, dice.randrange(1, p)) for j in range(1, n)] + [(n, 2)]))
+wide = [(j, high - j) for j in range(1, 129)]
+add(text_of(high, 128, *most, s=wide))
+add(text_of(high, 128, ring, [(1, high - 1)], s=wide))
+add(text_of(high, 128, ring, [(1, high - 1)], s=wide), letter='o')
+assert answers[-1].count(b'\nx\t') == 128
+# .. that are refused: out of place (2), of another number than n (5), out of range or order or all of value 1 (6), of value 0 or at least p (7)
+for number, s in ((5, [(1, 4)]), (5, [(2, 5)]), (5, [(1, 1)]), (5, [(1, 4), (2, 5), (3, 1)]), (5, [(0, 0)]), (6, [(1, 4), (3, 5)]), (6, [(0, 4), (1, 5)]), (6, [(2, 4), (1, 5)]),
+                  (6, [(1, 4), (1, 5)]), (6, [(1, 1), (2, 1)]), (6, [(1, 0), (1, 7)]), (7, [(1, 0), (2, 5)]), (7, [(1, 1), (2, 0)]), (7, [(1, 7), (2, 5)]), (7, [(1, 4), (2, 7)]),
+                  (7, [(1, 8), (2, 8)]), (7, [(1, 1), (2, 4294967295)]), (2, [(1,), (2,)]), (2, [(1, 4, 1), (2, 5, 1)]), (2, [(1, '04'), (2, 5)]), (2, [(1, 4294967296), (2, 5)])):
+    text = text_of(7, 2, diag, [(1, 1), (2, 1)], s=s)
+    add(text)
+    assert answers[-1].startswith(b' %d ' % number)
+    add(text, 7167)
+    add(text, letter='o')
+    assert answers[-1].endswith(b'refused\t%d\n' % number)
+lines = text_of(7, 2, diag, [(1, 1), (2, 1)], s=[(1, 4), (2, 5)]).split(b'\n')[:-1]
+for i in range(len(lines)):
+    add(b'\n'.join(lines[:i] + lines[i + 1:]) + b'\n')
+    add(b'\n'.join(lines[:i] + lines[i:i + 1] + lines[i:]) + b'\n')
+    for j in range(i):
+        add(b'\n'.join(lines[:j] + [lines[i]] + lines[j + 1:i] + [lines[j]] + lines[i + 1:]) + b'\n')
+add(text_of(2, 1, [], [], s=[(1, 1)]))
+add(text_of(2, 1, [], [], s=[(1, 2)]))
+for n, s in ((0, [(1, 2)]), (129, [(1, 2)]), (129, [(j, 2) for j in range(1, 130)]), (129, [(j, 1) for j in range(1, 130)]), (4097, [(1, 2)])):
+    add(text_of(7, n, [], [], s=s))
+    add(text_of(7, n, [], [], s=s), letter='o')
+
+# 26,624 bytes are read, 26,625 get 1, whatever they hold; the longest text that fits has 25,488
+places = sorted(((i, j) for i in range(1, 129) for j in range(1, 129)), key=lambda c: -len('%d%d' % c))[:1024]
+longest = text_of(high, 128, [(i, j, high - i * j) for i, j in sorted(places)], [(i, high - i) for i in range(1, 129)], s=wide)
+assert len(longest) == 25488
+for letter in 'co':
+    add(longest, letter=letter)
+for size in (26624, 26625):
+    a, b = system(high, 128, 1400, least=10 ** 9)
+    while len(text_of(high, 128, a, b)) > size + 20:
+        a.pop()
+    for k in range(3):
+        excess = min(9, len(text_of(high, 128, a, b)) - size)
+        a[k] = a[k][:2] + (a[k][2] // 10 ** excess,)
+    assert len(text_of(high, 128, a, b)) == size
+    add(text_of(high, 128, a, b))
+    assert answers[-1].startswith(b' 11 ' if size == 26624 else b' 1 ')
+    add(text_of(high, 128, a, b), letter='o')
+    assert answers[-1].endswith(b'refused\t11\n' if size == 26624 else b'refused\t1\n')
+beyond = first * 502 + first[:19]
+assert len(beyond) == BUFFER
+add(beyond[:-1])
+add(beyond)
+add(beyond, 0)
+add(beyond, letter='o')
+for buffer in (26624, 26625, 26626, 30000):
+    for text in (b'', first, beyond[:-1], beyond):
+        add(text, letter='o', buffer=buffer)
 
 assert set(numbers) == {0, 1, 2, 3, 4, 5, 6, 7, 11}, numbers
 

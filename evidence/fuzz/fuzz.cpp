@@ -67,7 +67,7 @@ bool is_prime(uint32_t p) {
 
 struct Text {
     std::vector<uint32_t> head;
-    std::vector<std::vector<uint32_t>> a, b;
+    std::vector<std::vector<uint32_t>> a, s, b;
 };
 
 // Nothing if check 2 turns the text down.
@@ -82,8 +82,10 @@ std::optional<Text> parse(std::string_view text) {
         return {};
     result.head = *head;
     for (size_t i = 1; i + 1 < lines.size(); i++) {
-        if (auto entry = numbers(lines[i], "a", 3); entry && result.b.empty())
+        if (auto entry = numbers(lines[i], "a", 3); entry && result.s.empty() && result.b.empty())
             result.a.push_back(*entry);
+        else if (auto scale = numbers(lines[i], "s", 2); scale && result.b.empty())
+            result.s.push_back(*scale);
         else if (auto element = numbers(lines[i], "b", 2))
             result.b.push_back(*element);
         else
@@ -112,13 +114,19 @@ bool outside(const std::vector<std::vector<uint32_t>> &lines, uint32_t p) {
                        [p](const auto &line) { return line.back() == 0 || line.back() >= p; });
 }
 
+// Are there lines, and all of value 1?
+bool all_ones(const std::vector<std::vector<uint32_t>> &lines) {
+    return !lines.empty() &&
+           std::all_of(lines.begin(), lines.end(), [](const auto &line) { return line.back() == 1; });
+}
+
 struct Expected {
     uint64_t number;
     std::string answer; // empty after a refusal
 };
 
 Expected oracle(std::string_view bytes, size_t answer_length) {
-    if (bytes.size() > 24576)
+    if (bytes.size() > 26624)
         return {1, ""};
     std::optional<Text> text = parse(bytes);
     if (!text)
@@ -130,9 +138,12 @@ Expected oracle(std::string_view bytes, size_t answer_length) {
         return {4, ""};
     if (text->head[2] != text->a.size() || text->a.size() > 65536)
         return {5, ""};
-    if (disordered(text->a, 2, n) || disordered(text->b, 1, n))
+    if (!text->s.empty() && text->s.size() != n)
+        return {5, ""};
+    if (disordered(text->a, 2, n) || disordered(text->s, 1, n) || disordered(text->b, 1, n) ||
+        all_ones(text->s))
         return {6, ""};
-    if (outside(text->a, p) || outside(text->b, p))
+    if (outside(text->a, p) || outside(text->s, p) || outside(text->b, p))
         return {7, ""};
     if (n > 128 || text->a.size() > 1024 || answer_length < answer_bytes)
         return {11, ""};
@@ -141,6 +152,8 @@ Expected oracle(std::string_view bytes, size_t answer_length) {
     system.rows.resize(n);
     for (const auto &entry : text->a)
         system.rows[entry[0] - 1].push_back({entry[1] - 1, entry[2]});
+    for (const auto &scale : text->s)
+        system.scales.push_back(scale[1]);
     for (const auto &element : text->b)
         system.b[element[0] - 1] = element[1];
     second::Answer solved = second::Run(system)({});

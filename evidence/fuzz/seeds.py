@@ -19,6 +19,19 @@ NO_ROWS = {  # with nothing left, and what is refused there
     '6-no-rows-a': 'system 7 0 1\na 1 1 1\nend\n',
     '6-no-rows-b': 'system 7 0 0\nb 1 1\nend\n',
 }
+S_LINES = {  # with scales, and what is refused there
+    'good-scales': ('s 1 4\ns 2 5\n', ''),
+    'good-scales-first-1': ('s 1 1\ns 2 5\n', ''),
+    '2-scales-after-b': ('', 's 1 4\ns 2 5\n'),
+    '2-scales-short': ('s 1\ns 2\n', ''),
+    '5-scales-few': ('s 1 4\n', ''),
+    '5-scales-many': ('s 1 4\ns 2 5\ns 3 6\n', ''),
+    '6-scales-range': ('s 1 4\ns 3 5\n', ''),
+    '6-scales-order': ('s 2 4\ns 1 5\n', ''),
+    '6-scales-ones': ('s 1 1\ns 2 1\n', ''),
+    '7-scales-zero': ('s 1 4\ns 2 0\n', ''),
+    '7-scales-not-below-p': ('s 1 7\ns 2 5\n', ''),
+}
 FAULTS = {  # the refusal's number, and how the example gets it
     '2-leading-zero': ('b\t2', 'b\t02'),
     '2-no-end': ('end\n', ''),
@@ -45,14 +58,19 @@ def main():
         texts[name] = text.replace(' ', '\t').encode()
     for name, (old, new) in FAULTS.items():
         texts[name] = EXAMPLE.replace(old, new, 1).encode()
+    for name, (before, after) in S_LINES.items():
+        texts[name] = EXAMPLE.replace('b\t1', before.replace(' ', '\t') + 'b\t1', 1).replace('end', after.replace(' ', '\t') + 'end').encode()
     source = random.Random(3)
     for shape in systems.SHAPES:
         for p, n in ((2, 5), (7, 3), (101, 9), (2147483647, 6)):
             matrix = systems.slices(shape(source, p, n))
             b = [source.randrange(p) for _ in range(n)]
-            texts['good-%s-%d' % (shape.__name__, p)] = reference.system_text(p, *matrix, b)
+            scales = [source.randrange(1, p) for _ in range(n)]
+            texts['good-%s-%d' % (shape.__name__, p)] = reference.system_text(p, *matrix, [], b)
+            texts['good-%s-%d-scales' % (shape.__name__, p)] = reference.system_text(p, *matrix, scales, b)
     diagonal = [{i: 1 + i % 6} for i in range(128)]
-    texts['good-largest'] = reference.system_text(7, *systems.slices(diagonal), [1] + [0] * 127)
+    texts['good-largest'] = reference.system_text(7, *systems.slices(diagonal), [], [1] + [0] * 127)
+    texts['good-largest-scales'] = reference.system_text(7, *systems.slices(diagonal), [1 + i % 5 for i in range(128)], [1] + [0] * 127)
     for name, text in texts.items():
         with open(os.path.join(folder, name), 'wb') as file:
             file.write(text)

@@ -1,5 +1,5 @@
-// Makes the calls of the solver that standard input lists, after their number. A call is six lists: its modulus, its window and the places of its vector,
-// polynomial, bill and work slices; starts, columns, values, b and words. A line of the output: the refusal's number; or 0, 1 where it solved and 0 where it found
+// Makes the calls of the solver that standard input lists, after their number. A call is seven lists: its modulus, its window and the places of its vector,
+// polynomial, bill and work slices; starts, columns, values, scales, b and words. A line of the output: the refusal's number; or 0, 1 where it solved and 0 where it found
 // the matrix singular, degree, passes, applications and entries multiplied; then the vector, polynomial and bill slices, each with two places behind
 // it; and of the work slice what a call may not change, two places behind it and, where it refuses, all. vectors.py makes calls and output.
 use solver::Counts;
@@ -55,6 +55,7 @@ fn call(memory: &[u32], from: usize) {
         list(memory, from, 3),
         list(memory, from, 4),
         list(memory, from, 5),
+        list(memory, from, 6),
         at(head, 1),
         front(&mut vector, places),
         front(&mut polynomial, coefficients),
@@ -78,7 +79,7 @@ fn main() {
     let mut k = 0;
     while k < calls {
         call(memory, from);
-        from = test_io::after(memory, from, 6);
+        from = test_io::after(memory, from, 7);
         k += 1;
     }
 }

@@ -1,10 +1,10 @@
-// Makes the calls that standard input lists, after their number. A call is six lists. The first says what it is:
-//     0, where a text begins and ends in the input, and the places of starts, columns, values and b: the text is read
-//     1, p: the system of the next four lists is written
+// Makes the calls that standard input lists, after their number. A call is seven lists. The first says what it is:
+//     0, where a text begins and ends in the input, and the places of starts, columns, values, scales and b: the text is read
+//     1, p: the system of the next five lists is written
 //     2, as 0, then `first`, `unit`, `end` and `skip`: a long text is read. Up to `end` the `unit` bytes from `first` on are repeated
-// The next four are a system, and the last the places of the text slices into which it, or what was read, is written. The texts stand behind the lists.
+// The next five are a system, and the last the places of the text slices into which it, or what was read, is written. The texts stand behind the lists.
 // A line of the output: the refusal's number, or 0 and p, n and the number of entries; for each text slice the refusal's number, or 0 and
-// the text's length, and the hash of the slice; and the four slices that the reader filled. Each slice is shown with two places behind it.
+// the text's length, and the hash of the slice; and the five slices that the reader filled. Each slice is shown with two places behind it.
 // vectors.py makes calls and output.
 ghost use Prim.Native.Nat.{_≤_};
 use libc::STDIN_FILENO;
@@ -27,6 +27,7 @@ fn write(
     starts: &[u32],
     columns: &[u32],
     values: &[u32],
+    scales: &[u32],
     b: &[u32],
     sizes: &[u32],
     i: usize,
@@ -34,7 +35,7 @@ fn write(
     let size = place(sizes, i);
     let mut out = test_io::lent_text();
     let text = test_io::text_front(&mut out, size);
-    match system_writer::write(p, starts, columns, values, b, text) {
+    match system_writer::write(p, starts, columns, values, scales, b, text) {
         Written::Length(length) => {
             print(0);
             print(length as u64);
@@ -44,10 +45,18 @@ fn write(
     test_io::show_text(&out, 0, size);
 }
 
-fn write_all(p: u32, starts: &[u32], columns: &[u32], values: &[u32], b: &[u32], sizes: &[u32]) {
+fn write_all(
+    p: u32,
+    starts: &[u32],
+    columns: &[u32],
+    values: &[u32],
+    scales: &[u32],
+    b: &[u32],
+    sizes: &[u32],
+) {
     let mut i = 0;
     while i < sizes.len() {
-        write(p, starts, columns, values, b, sizes, i);
+        write(p, starts, columns, values, scales, b, sizes, i);
         i += 1;
     }
 }
@@ -60,6 +69,7 @@ fn print_reading(
     starts: &[u32],
     columns: &[u32],
     values: &[u32],
+    scales: &[u32],
     b: &[u32],
     sizes: &[u32],
 ) {
@@ -76,6 +86,7 @@ fn print_reading(
                 part(starts, 0, size + 1),
                 part(columns, 0, count),
                 part(values, 0, count),
+                part(scales, 0, size),
                 part(b, 0, size),
                 sizes,
             );
@@ -89,22 +100,26 @@ fn read(text: &[u8], head: &[u32], sizes: &[u32]) {
     let l1 = place(head, 4);
     let l2 = place(head, 5);
     let l3 = place(head, 6);
+    let l4 = place(head, 7);
     let mut starts = test_io::lent();
     let mut columns = test_io::lent();
     let mut values = test_io::lent();
+    let mut scales = test_io::lent();
     let mut b = test_io::lent();
     let reading = system_reader::read(
         text,
         front(&mut starts, l0),
         front(&mut columns, l1),
         front(&mut values, l2),
-        front(&mut b, l3),
+        front(&mut scales, l3),
+        front(&mut b, l4),
     );
-    print_reading(reading, &starts, &columns, &values, &b, sizes);
+    print_reading(reading, &starts, &columns, &values, &scales, &b, sizes);
     show(&starts, 0, l0);
     show(&columns, 0, l1);
     show(&values, 0, l2);
-    show(&b, 0, l3);
+    show(&scales, 0, l3);
+    show(&b, 0, l4);
 }
 
 // ---- long texts
@@ -118,11 +133,11 @@ fn below(x: usize, m: usize) -> usize
 
 // Byte i of a long text.
 fn long_byte(text: &[u8], head: &[u32], i: usize) -> u8 {
-    let first = place(head, 7);
-    let skip = place(head, 10);
+    let first = place(head, 8);
+    let skip = place(head, 11);
     let mut from = i;
-    if first <= i && i < place(head, 9) {
-        from = first + below(i - first, place(head, 8));
+    if first <= i && i < place(head, 10) {
+        from = first + below(i - first, place(head, 9));
     } else if first <= i && skip <= i {
         from = i - skip;
     }
@@ -140,12 +155,12 @@ fn lengthen(text: &[u8], head: &[u32], long: &mut [u8]) {
 fn read_long(text: &[u8], head: &[u32], sizes: &[u32]) {
     let mut long = test_io::text_memory();
     lengthen(text, head, &mut long);
-    read(text_part(&long, 0, place(head, 9) + 4), head, sizes);
+    read(text_part(&long, 0, place(head, 10) + 4), head, sizes);
 }
 
 fn call(memory: &[u8], lists: &[u32], from: usize) {
     let head = list(lists, from, 0);
-    let sizes = list(lists, from, 5);
+    let sizes = list(lists, from, 6);
     let text = text_part(memory, place(head, 1), place(head, 2));
     match at(head, 0) {
         0 => read(text, head, sizes),
@@ -155,6 +170,7 @@ fn call(memory: &[u8], lists: &[u32], from: usize) {
             list(lists, from, 2),
             list(lists, from, 3),
             list(lists, from, 4),
+            list(lists, from, 5),
             sizes,
         ),
         _ => read_long(text, head, sizes),
@@ -174,7 +190,7 @@ fn main() {
     let mut k = 0;
     while k < calls {
         call(memory, lists, from);
-        from = test_io::after(lists, from, 6);
+        from = test_io::after(lists, from, 7);
         k += 1;
     }
 }

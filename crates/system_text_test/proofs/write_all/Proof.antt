@@ -6,10 +6,10 @@ use Rattle.system_text_test.proofs.write_all.Statement.{statement}
 use Rattle.system_text_test.proofs.write_all.Tie as tie
 
 abbrev Inv-loop : tie.InvT-loop
-Inv-loop p starts columns values b sizes i₀ i = i ≤ length sizes
+Inv-loop p starts columns values scales b sizes i₀ i = i ≤ length sizes
 
 abbrev μ-loop : tie.MeasureT-loop
-μ-loop p starts columns values b sizes i₀ i = length sizes - i
+μ-loop p starts columns values scales b sizes i₀ i = length sizes - i
 
 loop-holds : tie.Need-loop-holds Inv-loop μ-loop
 loop-holds c = search needs
