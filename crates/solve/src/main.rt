@@ -4,7 +4,7 @@ use libc::STDIN_FILENO;
 use libc::STDOUT_FILENO;
 
 fn main() {
-    let mut text = [0u8; 24577];
+    let mut text = [0u8; 26625];
     let mut out = [0u8; 7168];
     let read = io::read_full(STDIN_FILENO, &mut text);
     let length = text_call::output(&text, read, &mut out);

@@ -4,7 +4,7 @@
 --     run-small            the outcome of every run without words on a system of at most 128 rows
 --     answer-fits          its text has at most 7,168 bytes
 --     answer-long          every answer's text has more than 18
-use mathlib.Core.Path.{_≡_, refl, sym, ap, subst}
+use mathlib.Core.Path.{_≡_, refl, sym, subst, _∙_}
 use mathlib.Core.Bool.{Bool, true, false, cond}
 use mathlib.Core.List.{List, [], _∷_, _++_, map}
 use Prim.Native.Nat.{ℕ, _+_, _-_, _*_, _≤_, _<_}
@@ -12,26 +12,22 @@ use Rattle.laws.specs.Accepted.{run-accepted}
 use Rattle.laws.specs.Products.{every-run-by-entry}
 use Rattle.laws.specs.Solver.{vectorCount-nil, AllWithin, run-within}
 use native.Mathlib.Nat.{mul-le-mul}
-use native.Mathlib.Decide.{ℕ-discrete}
 use native.Mathlib.Omega.{arith}
-use lib.ListN.{length, drop, length-append}
+use lib.ListN.{length, length-append}
 use Rattle.meaning.specs.List.{at, table, isZero, flat, bytes}
-use Rattle.meaning.specs.Field.{times, minus, inverse}
-use Rattle.meaning.specs.Matrix.{Matrix, size, apply}
-use Rattle.meaning.specs.Solver.{Pass, Kind, solved, singular, Outcome, passCount, applications, closeCost, charge, projections, begin, run, verdict, close, solve}
+use Rattle.meaning.specs.Matrix.{Matrix, size, scaled}
+use Rattle.meaning.specs.Solver.{Pass, Kind, solved, singular, Outcome, passCount, applications, closeCost, charge, projections, begin, run, verdict, close, outcome, answered, solve}
 use Rattle.meaning.specs.ThirdCondition.{termCost, ThirdCondition}
 use Rattle.meaning.specs.Text.{decimal, line}
 use Rattle.meaning.specs.Answer.{kindWord, vectorWord, passLines, answerText}
 use Rattle.meaning.specs.Refusal.{first}
 use Rattle.meaning.specs.Calls.{runChecks}
 use Rattle.laws.specs.Recurrence.{monic-length, monic-elements}
-use Rattle.laws.specs.List.{length-table}
-use Rattle.residue.specs.Prime.{Prime}
-use Rattle.residue.specs.Lists.{Reduced, reduced-table}
-use Rattle.bridge.specs.Lists.{every-reduced, reduced-table-mod}
-use Rattle.bridge.specs.Operator.{length-apply, reduced-apply}
+use Rattle.residue.specs.Lists.{Reduced}
+use Rattle.bridge.specs.Lists.{every-reduced}
 use Rattle.bridge.specs.Run.{termCost-nil, termCost-cons, run-found}
-use Rattle.bridge.specs.ThirdCondition.{accepted, everyRun, verdict-zero, verdict-singular, verdict-solved}
+use Rattle.bridge.specs.Scaled.{length-diagonal, reduced-diagonal}
+use Rattle.bridge.specs.ThirdCondition.{accepted, everyRun, verdict-vector}
 use Rattle.text_laws.specs.Numeral.{decimal-short, decimal-bounded, decimal-positive}
 use Rattle.text_laws.specs.Line.{length-line-last, length-line-more}
 use Rattle.text_laws.specs.Length.{length-line-three, length-line-four, length-flat-rows}
@@ -52,33 +48,11 @@ pub record Small (p n : ℕ) (o : Outcome) : Type 0 where
   pub polynomial-length : length (o .polynomial) ≡ o .degree + 1
   pub polynomial-below : Reduced p (o .polynomial)
 
--- n elements, all below p
-abbrev Vector : ℕ → ℕ → List ℕ → Type 0
-Vector p n x = (length x ≡ n) × Reduced p x
-
-module _ (p : ℕ) (h : Prime p) (A : Matrix) (b F : List ℕ) (D : ℕ) where
-  verdict-vector : Vector p (size A) (verdict p A b F D .1)
-  unfolding times
-  verdict-vector = go (ℕ-discrete D 0) (ℕ-discrete (at F 0) 0)
-    where
-      go : Dec (D ≡ 0) → Dec (at F 0 ≡ 0) → Vector p (size A) (verdict p A b F D .1)
-      go (yes e) z =
-          subst (Vector p (size A)) (sym (ap (λ v. v .1) (verdict-zero p A b F D e)))
-          (length-table (size A) (λ i. 0), reduced-table p (size A) (λ i. 0) (λ i l. omega (arith, h .two-le)))
-      go (no e) (yes z) =
-          subst (Vector p (size A)) (sym (ap (λ v. v .1) (verdict-singular p A b F D e z)))
-          (length-apply p h A (drop 1 F) b, reduced-apply p h A (drop 1 F) b)
-      go (no e) (no z) =
-          subst (Vector p (size A)) (sym (ap (λ v. v .1) (verdict-solved p A b F D e z))) (
-            length-table (size A) (λ i. times p (minus p 0 (at (apply p A (drop 1 F) b) i)) (inverse p (at F 0))),
-            reduced-table-mod p (size A) (λ i. minus p 0 (at (apply p A (drop 1 F) b) i) * inverse p (at F 0)) (omega (arith, h .two-le)),
-          )
-
-module _ (p : ℕ) (A : Matrix) (b : List ℕ) (e : first (runChecks p A b [] 0) ≡ 0) (h : size A ≤ 128) where
+module _ (p : ℕ) (A : Matrix) (X b : List ℕ) (e : first (runChecks p A X b [] 0) ≡ 0) (h : size A ≤ 128) where
   abbrev o : Outcome
-  o = solve p A b [] 0
+  o = solve p A X b [] 0
 
-  cost : ThirdCondition p A b [] 0 o → passCount o ≤ size A → o .degree ≤ size A → applications o ≤ 33023
+  cost : ThirdCondition p A X b [] 0 o → passCount o ≤ size A → o .degree ≤ size A → applications o ≤ 33023
   cost third few D = subst (λ k. k ≤ 33023) (sym (third .counted refl)) (go (isZero b))
     where
       go : (z : Bool) → cond z 0 (termCost (size A) (o .passes) + (2 * o .degree - 1)) ≤ 33023
@@ -86,13 +60,15 @@ module _ (p : ℕ) (A : Matrix) (b : List ℕ) (e : first (runChecks p A b [] 0)
       go false = omega (arith, termCost-bounded (size A) (o .passes) h)
 
   pub run-small : Small p (size A) o
-  unfolding solve close begin
+  unfolding solve answered outcome close begin
   run-small =
-      let a = accepted p A b [] 0 e in
-      let third = everyRun p A b [] 0 e in
-      let c = run p A 0 (projections p (size A) []) (begin b) in
-      let v = verdict-vector p (a .prime) A b (c .factor) (c .found) in
-      let D : o .degree ≤ size A = run-found p (a .prime) A b (a .size-b) (a .reduced-b) 0 (projections p (size A) []) in
+      let a = accepted p A X b [] 0 e in
+      let third = everyRun p A X b [] 0 e in
+      let AX = scaled p A X in
+      let us = projections p (size A) [] in
+      let c = run p AX 0 us (begin b) in
+      let y = verdict p AX b (c .factor) (c .found) .1 in
+      let D : o .degree ≤ size A = run-found p (a .prime) AX b (a .size-b) (a .reduced-b) 0 us in
       let few : passCount o ≤ size A = omega (arith, third .few, vectorCount-nil (size A)) in
       let applied = cost third few D in
       record {
@@ -100,10 +76,10 @@ module _ (p : ℕ) (A : Matrix) (b : List ℕ) (e : first (runChecks p A b [] 0)
         passes-few = few;
         applications-few = applied;
         multiplied-few =
-            omega (arith, every-run-by-entry p A b [] 0 e, mul-le-mul applied (run-accepted p A b [] 0 e .system .few));
-        passes-within = run-within p A (a .prime .two-le) 0 (projections p (size A) []) (begin b) tt;
-        vector-length = v .0;
-        vector-below = v .1;
+            omega (arith, every-run-by-entry p A X b [] 0 e, mul-le-mul applied (run-accepted p A X b [] 0 e .system .few));
+        passes-within = run-within p AX (a .prime .two-le) 0 us (begin b) tt;
+        vector-length = length-diagonal p X y ∙ verdict-vector p (a .prime) AX b (c .factor) (c .found) .0;
+        vector-below = reduced-diagonal p X y (omega (arith, a .prime .two-le));
         polynomial-length = monic-length p (o .degree) (o .polynomial) (third .monic);
         polynomial-below = every-reduced p (o .polynomial) (monic-elements p (o .degree) (o .polynomial) (third .monic));
       }

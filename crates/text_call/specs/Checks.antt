@@ -1,7 +1,6 @@
 -- The text call's checks, by the reader's: arrays for 128 rows and 1,024 entries make the reader's 11 the text call's.
 --     byReader text room r     the text call's refusal, r being the reader's: 1 first, then the reader's, then the answer's room
---     numbered-text, run-numbered      the numbers of a text's and a run's checks are from 1
---     text-by-reader           textRefusal text room ≡ byReader text room (readerRefusal ..) for slices of 129, 1,024, 1,024 and 128 places
+--     text-by-reader           textRefusal text room ≡ byReader text room (readerRefusal ..) for slices of 129, 1,024, 1,024, 128 and 128 places
 --     byReader-long, byReader-refused, byReader-short, byReader-taken      its four cases
 --     text-refused, text-given what the call answers and leaves in either case
 --     TextTaken text, text-taken      what textRefusal text room ≡ 0 says
@@ -39,7 +38,7 @@ use Rattle.text_laws.specs.Bill.{answer-adds-up}
 use Rattle.text_call.specs.Bounds.{Small, run-small, answer-fits, answer-long}
 
 unfoldable pub byReader : List ℕ → ℕ → ℕ → ℕ
-byReader text room r = cond (leb (length text) 24576) (cond (eqb r 0) (cond (leb 7168 room) 0 11) r) 1
+byReader text room r = cond (leb (length text) 26624) (cond (eqb r 0) (cond (leb 7168 room) 0 11) r) 1
 
 -- a check 11 after others, cut in two
 eleven : (k : ℕ) (m r : Bool)
@@ -67,45 +66,54 @@ module _ (text : List ℕ) where
       ∙ ap (λ k. cond (eqb (first (textChecks text)) 0) k (first (textChecks text)))
       (first-cons (check 11 (not t)) [] ∙ ap (cond (not t) 11) first-nil)
 
-  module _ (starts columns values right : List ℕ) (es : length starts ≡ 129) (ec : length columns ≡ 1024) (ev : length values ≡ 1024) (er : length right ≡ 128) where
+  module _ (starts columns values scales right : List ℕ) (es : length starts ≡ 129) (ec : length columns ≡ 1024) (ev : length values ≡ 1024) (ex : length scales ≡ 128) (er : length right ≡ 128) where
     abbrev small : Bool
     small = leb (d .size) 128 && leb (d .count) 1024
 
-    room-small : (leb (d .size + 1) (length starts) && leb (d .count) (length columns) && leb (d .count) (length values) && leb (d .size) (length right)) ≡ small
+    -- the reader's room
+    abbrev enough : Bool
+    enough = leb (d .size + 1) (length starts) && leb (d .count) (length columns) && leb (d .count) (length values) && leb (d .size) (length scales) && leb (d .size) (length right)
+
+    room-small : enough ≡ small
     room-small =
         let n = d .size in
         let k = d .count in
-        same-test (leb (n + 1) (length starts) && leb k (length columns) && leb k (length values) && leb n (length right)) small
+        let ts = leb (n + 1) (length starts) in
+        let tc = leb k (length columns) in
+        let tv = leb k (length values) in
+        let tx = leb n (length scales) in
+        let tr = leb n (length right) in
+        same-test enough small
         (λ t.
-        let three = and-left (leb (n + 1) (length starts) && leb k (length columns) && leb k (length values)) (leb n (length right)) t in
-        let two = and-left (leb (n + 1) (length starts) && leb k (length columns)) (leb k (length values)) three in
+        let two = and-left (ts && tc) tv (and-left (ts && tc && tv) tx (and-left (ts && tc && tv && tx) tr t)) in
         and-both
-        (le-leb n 128 (omega (arith, leb-true n (length right) (and-right (leb (n + 1) (length starts) && leb k (length columns) && leb k (length values)) (leb n (length right)) t))))
-        (le-leb k 1024 (omega (arith, leb-true k (length columns) (and-right (leb (n + 1) (length starts)) (leb k (length columns)) two)))))
+        (le-leb n 128 (omega (arith, leb-true n (length right) (and-right (ts && tc && tv && tx) tr t))))
+        (le-leb k 1024 (omega (arith, leb-true k (length columns) (and-right ts tc two)))))
         (λ t.
         let hn = leb-true n 128 (and-left (leb n 128) (leb k 1024) t) in
         let hk = leb-true k 1024 (and-right (leb n 128) (leb k 1024) t) in
         and-both
         (and-both
+        (and-both
         (and-both (le-leb (n + 1) (length starts) (omega arith)) (le-leb k (length columns) (omega arith)))
         (le-leb k (length values) (omega arith)))
+        (le-leb n (length scales) (omega arith)))
         (le-leb n (length right) (omega arith)))
 
-    pub text-by-reader : (room : ℕ) → textRefusal text room ≡ byReader text room (readerRefusal text starts columns values right)
+    pub text-by-reader : (room : ℕ) → textRefusal text room ≡ byReader text room (readerRefusal text starts columns values scales right)
     unfolding textRefusal readerRefusal byReader
     text-by-reader room =
         let k = first (textChecks text) in
         let rest = first (textChecks text ++ (check 11 (not (small && leb 7168 room)) ∷ [])) in
-        let reader = readerRefusal text starts columns values right in
+        let reader = readerRefusal text starts columns values scales right in
         let by-reader : reader ≡ cond (eqb k 0) (cond (not small) 11 0) k =
-        then-eleven (leb (d .size + 1) (length starts) && leb (d .count) (length columns) && leb (d .count) (length values) && leb (d .size) (length right))
-        ∙ ap (λ t. cond (eqb k 0) (cond (not t) 11 0) k) room-small in
+        then-eleven enough ∙ ap (λ t. cond (eqb k 0) (cond (not t) 11 0) k) room-small in
         let later : rest ≡ cond (eqb reader 0) (cond (leb 7168 room) 0 11) reader =
         then-eleven (small && leb 7168 room) ∙ eleven k small (leb 7168 room)
         ∙ ap (λ r. cond (eqb r 0) (cond (leb 7168 room) 0 11) r) (sym by-reader) in
-        first-cons (check 1 (not (leb (length text) 24576))) (textChecks text ++ (check 11 (not (small && leb 7168 room)) ∷ []))
-        ∙ one (leb (length text) 24576) rest
-        ∙ ap (λ x. cond (leb (length text) 24576) x 1) later
+        first-cons (check 1 (not (leb (length text) 26624))) (textChecks text ++ (check 11 (not (small && leb 7168 room)) ∷ []))
+        ∙ one (leb (length text) 26624) rest
+        ∙ ap (λ x. cond (leb (length text) 26624) x 1) later
 
 -- ---- what the call answers and leaves
 
@@ -128,14 +136,14 @@ text-given text answer e =
     )
 
 module _ (text : List ℕ) (room r : ℕ) where
-  pub byReader-long : 24576 < length text → byReader text room r ≡ 1
+  pub byReader-long : 26624 < length text → byReader text room r ≡ 1
   unfolding byReader
-  byReader-long h = ap (λ t. cond t (cond (eqb r 0) (cond (leb 7168 room) 0 11) r) 1) (lt-leb (length text) 24576 h)
+  byReader-long h = ap (λ t. cond t (cond (eqb r 0) (cond (leb 7168 room) 0 11) r) 1) (lt-leb (length text) 26624 h)
 
-  module _ (h : length text ≤ 24576) where
+  module _ (h : length text ≤ 26624) where
     within-limit : byReader text room r ≡ cond (eqb r 0) (cond (leb 7168 room) 0 11) r
     unfolding byReader
-    within-limit = ap (λ t. cond t (cond (eqb r 0) (cond (leb 7168 room) 0 11) r) 1) (le-leb (length text) 24576 h)
+    within-limit = ap (λ t. cond t (cond (eqb r 0) (cond (leb 7168 room) 0 11) r) 1) (le-leb (length text) 26624 h)
 
     pub byReader-refused : 1 ≤ r → byReader text room r ≡ r
     byReader-refused p = within-limit ∙ ap (λ t. cond t (cond (leb 7168 room) 0 11) r) (ne-eqb r 0 (λ z. omega arith))
@@ -150,14 +158,14 @@ module _ (text : List ℕ) (room r : ℕ) where
 
 -- ---- what is taken
 
-pub run-checked : (p : ℕ) (A : Matrix) (b : List ℕ) → first (systemChecks p A b) ≡ 0 → first (runChecks p A b [] 0) ≡ 0
+pub run-checked : (p : ℕ) (A : Matrix) (X b : List ℕ) → first (systemChecks p A X b) ≡ 0 → first (runChecks p A X b [] 0) ≡ 0
 unfolding runChecks
-run-checked p A b e =
-    first-append-none (systemChecks p A b) (check 10 (not (wordsTaken (size A) [])) ∷ check 13 (not (windowTaken 0)) ∷ []) (numbered-system p A b) e
+run-checked p A X b e =
+    first-append-none (systemChecks p A X b) (check 10 (not (wordsTaken (size A) [])) ∷ check 13 (not (windowTaken 0)) ∷ []) (numbered-system p A X b) e
     ∙ first-pass 10 (wordsTaken (size A) []) _ (no-words (size A)) (first-pass 13 (windowTaken 0) [] refl first-nil)
 
 pub record TextTaken (text : List ℕ) : Type 0 where
-  pub fits : length text ≤ 24576
+  pub fits : length text ≤ 26624
   pub read : first (textChecks text) ≡ 0
   pub rows : document text .size ≤ 128
   pub entries : document text .count ≤ 1024
@@ -168,12 +176,12 @@ text-taken text room e =
     let n = document text .size in
     let k = document text .count in
     let last = check 11 (not (leb n 128 && leb k 1024 && leb 7168 room)) ∷ [] in
-    let one = first-passed 1 (leb (length text) 24576) (textChecks text ++ last) (omega arith) e in
+    let one = first-passed 1 (leb (length text) 26624) (textChecks text ++ last) (omega arith) e in
     let both = first-append-zero (textChecks text) last (numbered-text text) (one .1) in
     let small = first-passed 11 (leb n 128 && leb k 1024 && leb 7168 room) [] (omega arith) (both .1) .0 in
     let two = and-left (leb n 128 && leb k 1024) (leb 7168 room) small in (
       record {
-        fits = leb-true (length text) 24576 (one .0);
+        fits = leb-true (length text) 26624 (one .0);
         read = both .0;
         rows = leb-true n 128 (and-left (leb n 128) (leb k 1024) two);
         entries = leb-true k 1024 (and-right (leb n 128) (leb k 1024) two);
@@ -189,24 +197,24 @@ module _ (text : List ℕ) (t : TextTaken text) where
   abbrev s : System
   s = systemOf text
 
-  pub system-checked : first (systemChecks (s .modulus) (s .matrix) (s .right)) ≡ 0
+  pub system-checked : first (systemChecks (s .modulus) (s .matrix) (s .scales) (s .right)) ≡ 0
   system-checked = read-and-written text (t .read) .accepted
 
-  pub solved-small : Small (s .modulus) (size (s .matrix)) (solve (s .modulus) (s .matrix) (s .right) [] 0)
+  pub solved-small : Small (s .modulus) (size (s .matrix)) (solve (s .modulus) (s .matrix) (s .scales) (s .right) [] 0)
   solved-small =
-      run-small (s .modulus) (s .matrix) (s .right) (run-checked (s .modulus) (s .matrix) (s .right) system-checked)
+      run-small (s .modulus) (s .matrix) (s .scales) (s .right) (run-checked (s .modulus) (s .matrix) (s .scales) (s .right) system-checked)
       (omega (arith, size-system (document text), t .rows))
 
   pub solved-fits : length (solvedText text) ≤ 7168
   unfolding solvedText
   solved-fits =
-      answer-fits (solve (s .modulus) (s .matrix) (s .right) [] 0) (s .modulus) (size (s .matrix)) solved-small
-      (modulus-high (s .modulus) (system-accepted (s .modulus) (s .matrix) (s .right) system-checked .prime))
+      answer-fits (solve (s .modulus) (s .matrix) (s .scales) (s .right) [] 0) (s .modulus) (size (s .matrix)) solved-small
+      (modulus-high (s .modulus) (system-accepted (s .modulus) (s .matrix) (s .scales) (s .right) system-checked .prime))
       (omega (arith, size-system (document text), t .rows))
 
 pub solved-long : (text : List ℕ) → 18 < length (solvedText text)
 unfolding solvedText
-solved-long text = answer-long (solve (systemOf text .modulus) (systemOf text .matrix) (systemOf text .right) [] 0)
+solved-long text = answer-long (solve (systemOf text .modulus) (systemOf text .matrix) (systemOf text .scales) (systemOf text .right) [] 0)
 
 -- ---- the number returned says which it is
 
@@ -225,7 +233,7 @@ unfolding textRefusal textChecks documentChecks every
 text-high text room =
     let d = document text in
     first-high 11
-    (check 1 (not (leb (length text) 24576)) ∷ textChecks text ++ (check 11 (not (leb (d .size) 128 && leb (d .count) 1024 && leb 7168 room)) ∷ []))
+    (check 1 (not (leb (length text) 26624)) ∷ textChecks text ++ (check 11 (not (leb (d .size) 128 && leb (d .count) 1024 && leb 7168 room)) ∷ []))
     refl
 
 abbrev pub LengthOrNumber : List ℕ → ℕ → ℕ → Type 0
@@ -251,7 +259,7 @@ pub record Called (text answer : List ℕ) (r : ℕ) (after : List ℕ) : Type 0
 
 solved-adds-up : (text : List ℕ) → AddsUp (solvedText text)
 unfolding solvedText
-solved-adds-up text = answer-adds-up (solve (systemOf text .modulus) (systemOf text .matrix) (systemOf text .right) [] 0)
+solved-adds-up text = answer-adds-up (solve (systemOf text .modulus) (systemOf text .matrix) (systemOf text .scales) (systemOf text .right) [] 0)
 
 pub called : (text answer : List ℕ) (r : ℕ) (after : List ℕ) → (r ≡ textAnswer text (length answer)) × (after ≡ textAfter text answer) → Called text answer r after
 called text answer r after e =

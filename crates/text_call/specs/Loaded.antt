@@ -1,5 +1,5 @@
 -- A system in the leading parts of the arrays.
---     loadedMatrix, loadedRight      the matrix of n rows and `count` entries, and b
+--     loadedMatrix                   the matrix of n rows and `count` entries
 --     outcomeOf, loadedText          the outcome of its run without words, and the answer's text
 --     Loaded                         the arrays hold a system that is taken
 --     read-modulus, read-rows        the modulus and the size that the reader answers
@@ -24,7 +24,7 @@ use lib.Seq.{take-at, length-take-le}
 use borrow.Author.Tests.{leb-true, le-leb, eq-eqb}
 use Rattle.meaning.specs.List.{at, padded, overwrite, bytes, select}
 use Rattle.meaning.specs.Matrix.{Matrix, matrix, size}
-use Rattle.meaning.specs.Text.{Document, document, system, row, decimal, line}
+use Rattle.meaning.specs.Text.{Document, document, system, row, placed, decimal, line}
 use Rattle.meaning.specs.Solver.{Outcome, passCount, applications, billed, solve}
 use Rattle.meaning.specs.Refusal.{check, first, unlessRefused}
 use Rattle.meaning.specs.Answer.{passLines, answerText}
@@ -46,20 +46,21 @@ use Rattle.text_call.specs.AnswerText.{elementLines, elementLines-ext, b
 abbrev pub loadedMatrix : ℕ → ℕ → List ℕ → List ℕ → List ℕ → Matrix
 loadedMatrix n count starts columns values = matrix (take (n + 1) starts) (take count columns) (take count values)
 
-abbrev pub outcomeOf : ℕ → ℕ → ℕ → List ℕ → List ℕ → List ℕ → List ℕ → Outcome
-outcomeOf p n count starts columns values right = solve p (loadedMatrix n count starts columns values) (take n right) [] 0
+abbrev pub outcomeOf : ℕ → ℕ → ℕ → List ℕ → List ℕ → List ℕ → List ℕ → List ℕ → Outcome
+outcomeOf p n count starts columns values scales right = solve p (loadedMatrix n count starts columns values) (take n scales) (take n right) [] 0
 
 -- the answer's text of its run
-abbrev pub loadedText : ℕ → ℕ → ℕ → List ℕ → List ℕ → List ℕ → List ℕ → List ℕ
-loadedText p n count starts columns values right = answerText (outcomeOf p n count starts columns values right)
+abbrev pub loadedText : ℕ → ℕ → ℕ → List ℕ → List ℕ → List ℕ → List ℕ → List ℕ → List ℕ
+loadedText p n count starts columns values scales right = answerText (outcomeOf p n count starts columns values scales right)
 
-pub record Loaded (p n count : ℕ) (starts columns values right : List ℕ) : Type 0 where
+pub record Loaded (p n count : ℕ) (starts columns values scales right : List ℕ) : Type 0 where
   pub rows : n ≤ 128
   pub in-starts : n + 1 ≤ length starts
   pub in-columns : count ≤ length columns
   pub in-values : count ≤ length values
+  pub in-scales : n ≤ length scales
   pub in-right : n ≤ length right
-  pub checked : first (systemChecks p (loadedMatrix n count starts columns values) (take n right)) ≡ 0
+  pub checked : first (systemChecks p (loadedMatrix n count starts columns values) (take n scales) (take n right)) ≡ 0
 
 -- a part of so many elements is within its list
 long : (k : ℕ) (l m : List ℕ) → take k l ≡ m → length m ≤ length l
@@ -80,11 +81,15 @@ module _ (d : Document) where
   unfolding system
   length-values = length-map (d .entries) (λ e. at e 2)
 
+  length-scales : length (system d .scales) ≡ d .size
+  unfolding system placed
+  length-scales = length-table (d .size) _
+
   length-right : length (system d .right) ≡ d .size
-  unfolding system
+  unfolding system placed
   length-right = length-table (d .size) _
 
-module _ (text starts columns values right : List ℕ) (e : readerRefusal text starts columns values right ≡ 0) where
+module _ (text starts columns values scales right : List ℕ) (e : readerRefusal text starts columns values scales right ≡ 0) where
   abbrev d : Document
   d = document text
 
@@ -92,7 +97,7 @@ module _ (text starts columns values right : List ℕ) (e : readerRefusal text s
   A = systemOf text .matrix
 
   abbrev enough : Bool
-  enough = leb (d .size + 1) (length starts) && leb (d .count) (length columns) && leb (d .count) (length values) && leb (d .size) (length right)
+  enough = leb (d .size + 1) (length starts) && leb (d .count) (length columns) && leb (d .count) (length values) && leb (d .size) (length scales) && leb (d .size) (length right)
 
   reads : first (textChecks text) ≡ 0
   unfolding readerRefusal
@@ -103,39 +108,40 @@ module _ (text starts columns values right : List ℕ) (e : readerRefusal text s
   has-room = first-passed 11 enough [] (omega arith) (first-append-zero (textChecks text) (check 11 (not enough) ∷ []) (numbered-text text) e .1) .0
 
   -- a leading part that was filled
-  filled : (l old : List ℕ) (n : ℕ) → length l ≡ n → take n (unlessRefused (readerRefusal text starts columns values right) (overwrite l old) old) ≡ l
+  filled : (l old : List ℕ) (n : ℕ) → length l ≡ n → take n (unlessRefused (readerRefusal text starts columns values scales right) (overwrite l old) old) ≡ l
   filled l old n h =
-      ap (take n) (unlessRefused-none (readerRefusal text starts columns values right) (overwrite l old) old e) ∙ take-at l (drop (length l) old) n h
+      ap (take n) (unlessRefused-none (readerRefusal text starts columns values scales right) (overwrite l old) old e) ∙ take-at l (drop (length l) old) n h
 
   -- p is not 0
-  pub read-modulus : 1 ≤ readerAnswer (λ d. d .modulus) text starts columns values right
+  pub read-modulus : 1 ≤ readerAnswer (λ d. d .modulus) text starts columns values scales right
   read-modulus =
       omega (
         arith,
-        unlessRefused-none (readerRefusal text starts columns values right) (d .modulus) 0 e,
+        unlessRefused-none (readerRefusal text starts columns values scales right) (d .modulus) 0 e,
         modulus-low (d .modulus) (document-accepted d (text-accepted text reads .2) .prime),
       )
 
   counted : d .count ≡ length (d .entries)
   counted = document-accepted d (text-accepted text reads .2) .counted
 
-  module _ (p n count : ℕ) (starts′ columns′ values′ right′ : List ℕ)
-      (ep : p ≡ readerAnswer (λ d. d .modulus) text starts columns values right)
-      (en : n ≡ readerAnswer (λ d. d .size) text starts columns values right)
-      (ek : count ≡ readerAnswer (λ d. d .count) text starts columns values right)
-      (es : starts′ ≡ readerAfter (λ s. s .matrix .starts) starts text starts columns values right)
-      (ec : columns′ ≡ readerAfter (λ s. s .matrix .columns) columns text starts columns values right)
-      (ev : values′ ≡ readerAfter (λ s. s .matrix .values) values text starts columns values right)
-      (er : right′ ≡ readerAfter (λ s. s .right) right text starts columns values right)
+  module _ (p n count : ℕ) (starts′ columns′ values′ scales′ right′ : List ℕ)
+      (ep : p ≡ readerAnswer (λ d. d .modulus) text starts columns values scales right)
+      (en : n ≡ readerAnswer (λ d. d .size) text starts columns values scales right)
+      (ek : count ≡ readerAnswer (λ d. d .count) text starts columns values scales right)
+      (es : starts′ ≡ readerAfter (λ s. s .matrix .starts) starts text starts columns values scales right)
+      (ec : columns′ ≡ readerAfter (λ s. s .matrix .columns) columns text starts columns values scales right)
+      (ev : values′ ≡ readerAfter (λ s. s .matrix .values) values text starts columns values scales right)
+      (ex : scales′ ≡ readerAfter (λ s. s .scales) scales text starts columns values scales right)
+      (er : right′ ≡ readerAfter (λ s. s .right) right text starts columns values scales right)
     where
       modulus : p ≡ d .modulus
-      modulus = ep ∙ unlessRefused-none (readerRefusal text starts columns values right) (d .modulus) 0 e
+      modulus = ep ∙ unlessRefused-none (readerRefusal text starts columns values scales right) (d .modulus) 0 e
 
       order : n ≡ d .size
-      order = en ∙ unlessRefused-none (readerRefusal text starts columns values right) (d .size) 0 e
+      order = en ∙ unlessRefused-none (readerRefusal text starts columns values scales right) (d .size) 0 e
 
       entries : count ≡ d .count
-      entries = ek ∙ unlessRefused-none (readerRefusal text starts columns values right) (d .count) 0 e
+      entries = ek ∙ unlessRefused-none (readerRefusal text starts columns values scales right) (d .count) 0 e
 
       same-starts : take (n + 1) starts′ ≡ A .starts
       same-starts = ap (take (n + 1)) es ∙ filled (A .starts) starts (n + 1) (omega (arith, length-starts d, order))
@@ -146,11 +152,14 @@ module _ (text starts columns values right : List ℕ) (e : readerRefusal text s
       same-values : take count values′ ≡ A .values
       same-values = ap (take count) ev ∙ filled (A .values) values count (omega (arith, length-values d, entries, counted))
 
+      same-scales : take n scales′ ≡ systemOf text .scales
+      same-scales = ap (take n) ex ∙ filled (systemOf text .scales) scales n (omega (arith, length-scales d, order))
+
       same-right : take n right′ ≡ systemOf text .right
       same-right = ap (take n) er ∙ filled (systemOf text .right) right n (omega (arith, length-right d, order))
 
       pub read-rows : length right ≡ 128 → n ≤ 128
-      read-rows er = omega (arith, order, leb-true (d .size) (length right) (and-right (leb (d .size + 1) (length starts) && leb (d .count) (length columns) && leb (d .count) (length values)) (leb (d .size) (length right)) has-room))
+      read-rows er = omega (arith, order, leb-true (d .size) (length right) (and-right (leb (d .size + 1) (length starts) && leb (d .count) (length columns) && leb (d .count) (length values) && leb (d .size) (length scales)) (leb (d .size) (length right)) has-room))
 
       same-matrix : loadedMatrix n count starts′ columns′ values′ ≡ A
       same-matrix =
@@ -161,31 +170,32 @@ module _ (text starts columns values right : List ℕ) (e : readerRefusal text s
       unfolding system
       same-modulus = modulus
 
-      pub read-loaded : n ≤ 128 → Loaded p n count starts′ columns′ values′ right′
+      pub read-loaded : n ≤ 128 → Loaded p n count starts′ columns′ values′ scales′ right′
       read-loaded small =
           record {
             rows = small;
             in-starts = omega (arith, long (n + 1) starts′ (A .starts) same-starts, length-starts d, order);
             in-columns = omega (arith, long count columns′ (A .columns) same-columns, length-columns d, counted, entries);
             in-values = omega (arith, long count values′ (A .values) same-values, length-values d, counted, entries);
+            in-scales = omega (arith, long n scales′ (systemOf text .scales) same-scales, length-scales d, order);
             in-right = omega (arith, long n right′ (systemOf text .right) same-right, length-right d, order);
             checked =
-                ap₂ (λ q M. first (systemChecks q M (take n right′))) same-modulus same-matrix
-                ∙ ap (λ b. first (systemChecks (systemOf text .modulus) A b)) same-right
+                ap₂ (λ q M. first (systemChecks q M (take n scales′) (take n right′))) same-modulus same-matrix
+                ∙ ap₂ (λ X b. first (systemChecks (systemOf text .modulus) A X b)) same-scales same-right
                 ∙ read-and-written text reads .accepted;
           }
 
-      pub read-outcome : answerText (outcomeOf p n count starts′ columns′ values′ right′) ≡ solvedText text
+      pub read-outcome : answerText (outcomeOf p n count starts′ columns′ values′ scales′ right′) ≡ solvedText text
       unfolding solvedText
       read-outcome =
-          ap₂ (λ q M. answerText (solve q M (take n right′) [] 0)) same-modulus same-matrix
-          ∙ ap (λ b. answerText (solve (systemOf text .modulus) A b [] 0)) same-right
+          ap₂ (λ q M. answerText (solve q M (take n scales′) (take n right′) [] 0)) same-modulus same-matrix
+          ∙ ap₂ (λ X b. answerText (solve (systemOf text .modulus) A X b [] 0)) same-scales same-right
 
 -- where the reader answers no modulus, its number is a refusal's
-pub refused-number : (text starts columns values right : List ℕ) (number : ℕ) → number ≡ readerRefusal text starts columns values right
-    → 0 ≡ readerAnswer (λ d. d .modulus) text starts columns values right → 1 ≤ number
-refused-number text starts columns values right zero e z = absurd (omega (arith, read-modulus text starts columns values right (sym e)))
-refused-number text starts columns values right (suc k) e z = omega arith
+pub refused-number : (text starts columns values scales right : List ℕ) (number : ℕ) → number ≡ readerRefusal text starts columns values scales right
+    → 0 ≡ readerAnswer (λ d. d .modulus) text starts columns values scales right → 1 ≤ number
+refused-number text starts columns values scales right zero e z = absurd (omega (arith, read-modulus text starts columns values scales right (sym e)))
+refused-number text starts columns values scales right (suc k) e z = omega arith
 
 -- ---- the answer, of what the solver says
 
@@ -249,15 +259,15 @@ module _ (p n : ℕ) (o : Outcome) (s : Small p n o) where
   said-low (Refused k) t = (omega arith, omega arith)
 
 -- what a run leaves in the arrays
-pub record Ran (p n count : ℕ) (starts columns values right : List ℕ) (r : Verdict) (vector polynomial B : List ℕ) : Type 0 where
-  pub says : Says r 0 (outcomeOf p n count starts columns values right)
-  pub vector-of : take n vector ≡ outcomeOf p n count starts columns values right .vector
-  pub polynomial-of : take (n + 1) polynomial ≡ padded (n + 1) (outcomeOf p n count starts columns values right .polynomial)
-  pub bill-of : billLines B (passCount (outcomeOf p n count starts columns values right)) ≡ passLines 1 (outcomeOf p n count starts columns values right .passes)
+pub record Ran (p n count : ℕ) (starts columns values scales right : List ℕ) (r : Verdict) (vector polynomial B : List ℕ) : Type 0 where
+  pub says : Says r 0 (outcomeOf p n count starts columns values scales right)
+  pub vector-of : take n vector ≡ outcomeOf p n count starts columns values scales right .vector
+  pub polynomial-of : take (n + 1) polynomial ≡ padded (n + 1) (outcomeOf p n count starts columns values scales right .polynomial)
+  pub bill-of : billLines B (passCount (outcomeOf p n count starts columns values scales right)) ≡ passLines 1 (outcomeOf p n count starts columns values scales right .passes)
 
-module _ (p n count : ℕ) (starts columns values right : List ℕ) (l : Loaded p n count starts columns values right) where
+module _ (p n count : ℕ) (starts columns values scales right : List ℕ) (l : Loaded p n count starts columns values scales right) where
   abbrev o : Outcome
-  o = outcomeOf p n count starts columns values right
+  o = outcomeOf p n count starts columns values scales right
 
   pub loaded-rows : size (loadedMatrix n count starts columns values) ≡ n
   loaded-rows = omega (arith, length-take-le (n + 1) starts (l .in-starts))
@@ -265,11 +275,11 @@ module _ (p n count : ℕ) (starts columns values right : List ℕ) (l : Loaded 
   pub loaded-small : Small p n o
   loaded-small =
       subst (λ k. Small p k o) loaded-rows
-      (run-small p (loadedMatrix n count starts columns values) (take n right)
-      (run-checked p (loadedMatrix n count starts columns values) (take n right) (l .checked))
+      (run-small p (loadedMatrix n count starts columns values) (take n scales) (take n right)
+      (run-checked p (loadedMatrix n count starts columns values) (take n scales) (take n right) (l .checked))
       (omega (arith, loaded-rows, l .rows)))
 
-  module _ (r : Verdict) (vector polynomial B : List ℕ) (s : Ran p n count starts columns values right r vector polynomial B) where
+  module _ (r : Verdict) (vector polynomial B : List ℕ) (s : Ran p n count starts columns values scales right r vector polynomial B) where
     pub ran-answer : (f x : List ℕ) → f ≡ take (n + 1) polynomial → x ≡ take n vector → length B ≡ 384
         → (degreeOf r < length f) × (3 * passesOf r ≤ length B) × (verdictText r B f x ≡ answerText o)
     ran-answer f x ef ex eb =
@@ -281,14 +291,14 @@ module _ (p n count : ℕ) (starts columns values right : List ℕ) (l : Loaded 
 
   -- nothing is refused where the vector, the polynomial and the work slice are as long as stated
   pub loaded-taken : (vector polynomial work : List ℕ) → length vector ≡ n → length polynomial ≡ n + 1 → 16 * n + 16 ≤ length work
-      → solverRefusal p (loadedMatrix n count starts columns values) (take n right) [] 0 vector polynomial work ≡ 0
+      → solverRefusal p (loadedMatrix n count starts columns values) (take n scales) (take n right) [] 0 vector polynomial work ≡ 0
   unfolding solverRefusal
   loaded-taken vector polynomial work ev ef ew =
       let A = loadedMatrix n count starts columns values in
-      first-append-none (runChecks p A (take n right) [] 0)
+      first-append-none (runChecks p A (take n scales) (take n right) [] 0)
       (check 11 (not (eqb (length vector) (size A) && eqb (length polynomial) (size A + 1) && leb (16 * size A + 16) (length work))) ∷ [])
-      (numbered-run p A (take n right) [] 0)
-      (run-checked p A (take n right) (l .checked))
+      (numbered-run p A (take n scales) (take n right) [] 0)
+      (run-checked p A (take n scales) (take n right) (l .checked))
       ∙ first-pass 11 (eqb (length vector) (size A) && eqb (length polynomial) (size A + 1) && leb (16 * size A + 16) (length work)) []
       (and-both
       (and-both (eq-eqb (length vector) (size A) (omega (arith, loaded-rows))) (eq-eqb (length polynomial) (size A + 1) (omega (arith, loaded-rows))))
@@ -296,24 +306,25 @@ module _ (p n count : ℕ) (starts columns values right : List ℕ) (l : Loaded 
       first-nil
 
   -- so a call of the solver on the arrays' leading parts gives the outcome
-  pub loaded-solved : {t k u b words v f B w v′ f′ B′ w′ : List ℕ} {r : Verdict} → Solves p (matrix t k u) b words 0 v f B w r v′ f′ B′ w′
-      → t ≡ take (n + 1) starts → k ≡ take count columns → u ≡ take count values → b ≡ take n right → words ≡ []
+  pub loaded-solved : {t k u X b words v f B w v′ f′ B′ w′ : List ℕ} {r : Verdict} → Solves p (matrix t k u) X b words 0 v f B w r v′ f′ B′ w′
+      → t ≡ take (n + 1) starts → k ≡ take count columns → u ≡ take count values → X ≡ take n scales → b ≡ take n right → words ≡ []
       → length v ≡ n → length f ≡ n + 1 → length B ≡ 384 → 16 * n + 16 ≤ length w
       → Says r 0 o × (v′ ≡ o .vector) × (f′ ≡ padded (n + 1) (o .polynomial)) × (billLines B′ (passCount o) ≡ passLines 1 (o .passes))
-  loaded-solved {t} {k} {u} {b} {words} {v} {f} {B} {w} {v′} {f′} {B′} {w′} {r} h et ek eu eb ew lv lf lb lw =
+  loaded-solved {t} {k} {u} {X} {b} {words} {v} {f} {B} {w} {v′} {f′} {B′} {w′} {r} h et ek eu ex eb ew lv lf lb lw =
       let A = loadedMatrix n count starts columns values in
-      let on-starts = subst (λ x. Solves p (matrix x k u) b words 0 v f B w r v′ f′ B′ w′) et h in
-      let on-columns = subst (λ x. Solves p (matrix (take (n + 1) starts) x u) b words 0 v f B w r v′ f′ B′ w′) ek on-starts in
-      let on-values = subst (λ x. Solves p (matrix (take (n + 1) starts) (take count columns) x) b words 0 v f B w r v′ f′ B′ w′) eu on-columns in
-      let on-right = subst (λ x. Solves p A x words 0 v f B w r v′ f′ B′ w′) eb on-values in
-      let call = subst (λ x. Solves p A (take n right) x 0 v f B w r v′ f′ B′ w′) ew on-right in
+      let on-starts = subst (λ x. Solves p (matrix x k u) X b words 0 v f B w r v′ f′ B′ w′) et h in
+      let on-columns = subst (λ x. Solves p (matrix (take (n + 1) starts) x u) X b words 0 v f B w r v′ f′ B′ w′) ek on-starts in
+      let on-values = subst (λ x. Solves p (matrix (take (n + 1) starts) (take count columns) x) X b words 0 v f B w r v′ f′ B′ w′) eu on-columns in
+      let on-scales = subst (λ x. Solves p A x b words 0 v f B w r v′ f′ B′ w′) ex on-values in
+      let on-right = subst (λ x. Solves p A (take n scales) x words 0 v f B w r v′ f′ B′ w′) eb on-scales in
+      let call = subst (λ x. Solves p A (take n scales) (take n right) x 0 v f B w r v′ f′ B′ w′) ew on-right in
       let none = loaded-taken v f w lv lf lw in
       let room : 3 * passCount o ≤ length B = omega (arith, loaded-small .passes-few, l .rows, lb) in (
         subst (λ z. Says r z o) none (call .says),
-        call .leaves .vector-after ∙ unlessRefused-none (solverRefusal p A (take n right) [] 0 v f w) (o .vector) v none,
-        call .leaves .polynomial-after ∙ unlessRefused-none (solverRefusal p A (take n right) [] 0 v f w) (padded (size A + 1) (o .polynomial)) f none
+        call .leaves .vector-after ∙ unlessRefused-none (solverRefusal p A (take n scales) (take n right) [] 0 v f w) (o .vector) v none,
+        call .leaves .polynomial-after ∙ unlessRefused-none (solverRefusal p A (take n scales) (take n right) [] 0 v f w) (padded (size A + 1) (o .polynomial)) f none
             ∙ ap (λ z. padded (z + 1) (o .polynomial)) loaded-rows,
         ap (λ x. billLines x (passCount o))
-            (call .leaves .bill-after ∙ unlessRefused-none (solverRefusal p A (take n right) [] 0 v f w) (billed B (o .passes)) B none ∙ billed-all B (o .passes) room)
+            (call .leaves .bill-after ∙ unlessRefused-none (solverRefusal p A (take n scales) (take n right) [] 0 v f w) (billed B (o .passes)) B none ∙ billed-all B (o .passes) room)
             ∙ bill-lines (o .passes) (drop (3 * passCount o) B),
       )

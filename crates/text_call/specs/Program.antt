@@ -3,7 +3,7 @@
 --     enough               such a buffer, no more read than it holds, and room for the longest output
 --     Printed              with enough, a slice gets at its front what the program prints for what was read, which is what it prints for the whole
 --                          input; otherwise the slice stays
---     long-refused         a text of more than 24,576 bytes is refused by 1, whatever it holds
+--     long-refused         a text of more than 26,624 bytes is refused by 1, whatever it holds
 --     cut-input            what is printed for an input that was cut at the buffer's end is what is printed for the input
 --     Shown                a slice gets the program's output at its front
 --     shown-as             what is shown, by another name
@@ -32,7 +32,7 @@ use Rattle.line_writer.specs.Written.{Wrote, wrote-start}
 use Rattle.text_call.specs.Checks.{text-taken, solved-fits, LengthOrNumber, answer-or-number, text-refused, text-given}
 
 abbrev pub inputRoom : ℕ
-inputRoom = 24577
+inputRoom = 26625
 
 abbrev pub enough : List ℕ → ℕ → List ℕ → Bool
 enough buffer read out = leb inputRoom (length buffer) && leb read (length buffer) && leb 7168 (length out)
@@ -47,14 +47,14 @@ pub record Printed (buffer : List ℕ) (read : ℕ) (out : List ℕ) (r : ℕ) (
 
 -- ---- an input that was cut
 
-pub long-refused : (text : List ℕ) (room : ℕ) → 24576 < length text → textRefusal text room ≡ 1
+pub long-refused : (text : List ℕ) (room : ℕ) → 26624 < length text → textRefusal text room ≡ 1
 unfolding textRefusal
 long-refused text room h =
     let d = document text in
     let later = textChecks text ++ (check 11 (not (leb (d .size) 128 && leb (d .count) 1024 && leb 7168 room)) ∷ []) in
-    first-cons (check 1 (not (leb (length text) 24576))) later ∙ ap (λ t. cond (not t) 1 (first later)) (lt-leb (length text) 24576 h)
+    first-cons (check 1 (not (leb (length text) 26624))) later ∙ ap (λ t. cond (not t) 1 (first later)) (lt-leb (length text) 26624 h)
 
-long-output : (text : List ℕ) → 24576 < length text → programOutput text ≡ refusedText 1
+long-output : (text : List ℕ) → 26624 < length text → programOutput text ≡ refusedText 1
 unfolding programOutput
 long-output text h =
     let one = long-refused text 7168 h in
@@ -93,7 +93,7 @@ module _ (text out : List ℕ) (h : 7168 ≤ length out) where
   unfolding textRefusal
   room-enough =
       let d = document text in
-      ap (λ t. first (check 1 (not (leb (length text) 24576)) ∷ textChecks text ++ (check 11 (not (leb (d .size) 128 && leb (d .count) 1024 && t)) ∷ [])))
+      ap (λ t. first (check 1 (not (leb (length text) 26624)) ∷ textChecks text ++ (check 11 (not (leb (d .size) 128 && leb (d .count) 1024 && t)) ∷ [])))
       (le-leb 7168 (length out) h ∙ sym (le-leb 7168 7168 (omega arith)))
 
   -- w was put at the front

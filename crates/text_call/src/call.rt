@@ -21,15 +21,16 @@ fn run(
     starts: &[u32],
     columns: &[u32],
     values: &[u32],
+    scales: &[u32],
     right: &[u32],
     vector: &mut [u32],
     polynomial: &mut [u32],
     bill: &mut [u32],
     work: &mut [u32],
 ) -> Verdict
-    requires { ⌜ Loaded p n count (now starts) (now columns) (now values) (now right) ⌝ }
+    requires { ⌜ Loaded p n count (now starts) (now columns) (now values) (now scales) (now right) ⌝ }
     requires { ⌜ (length (now vector) ≡ 128) × (length (now polynomial) ≡ 129) × (length (now bill) ≡ 384) × (length (now work) ≡ 2064) ⌝ }
-    ensures { λ r. ⌜ Ran p n count (now (starts .entry)) (now (columns .entry)) (now (values .entry)) (now (right .entry)) r (now (vector .exit)) (now (polynomial .exit)) (now (bill .exit)) ⌝ }
+    ensures { λ r. ⌜ Ran p n count (now (starts .entry)) (now (columns .entry)) (now (values .entry)) (now (scales .entry)) (now (right .entry)) r (now (vector .exit)) (now (polynomial .exit)) (now (bill .exit)) ⌝ }
 {
     let z: usize = 0;
     let m = n + 1;
@@ -38,6 +39,7 @@ fn run(
         &starts[z..m],
         &columns[z..count],
         &values[z..count],
+        &scales[z..n],
         &right[z..n],
         &[],
         0,
@@ -91,15 +93,16 @@ fn put_solved(
     starts: &[u32],
     columns: &[u32],
     values: &[u32],
+    scales: &[u32],
     right: &[u32],
     vector: &mut [u32],
     polynomial: &mut [u32],
     bill: &mut [u32],
     work: &mut [u32],
 ) -> usize
-    requires { ⌜ Loaded p n count (now starts) (now columns) (now values) (now right) ⌝ }
+    requires { ⌜ Loaded p n count (now starts) (now columns) (now values) (now scales) (now right) ⌝ }
     requires { ⌜ (length (now vector) ≡ 128) × (length (now polynomial) ≡ 129) × (length (now bill) ≡ 384) × (length (now work) ≡ 2064) ⌝ }
-    ensures { λ r. ⌜ Wrote (now (answer .entry)) 0 (loadedText p n count (now (starts .entry)) (now (columns .entry)) (now (values .entry)) (now (right .entry))) r (now (answer .exit)) ⌝ }
+    ensures { λ r. ⌜ Wrote (now (answer .entry)) 0 (loadedText p n count (now (starts .entry)) (now (columns .entry)) (now (values .entry)) (now (scales .entry)) (now (right .entry))) r (now (answer .exit)) ⌝ }
 {
     let verdict = run(
         p,
@@ -108,6 +111,7 @@ fn put_solved(
         starts,
         columns,
         values,
+        scales,
         right,
         vector,
         polynomial,
@@ -126,20 +130,21 @@ pub(crate) fn answer_text(
     starts: &mut [u32],
     columns: &mut [u32],
     values: &mut [u32],
+    scales: &mut [u32],
     right: &mut [u32],
     vector: &mut [u32],
     polynomial: &mut [u32],
     bill: &mut [u32],
     work: &mut [u32],
 ) -> u64
-    requires { ⌜ (length (now starts) ≡ 129) × (length (now columns) ≡ 1024) × (length (now values) ≡ 1024) × (length (now right) ≡ 128) ⌝ }
+    requires { ⌜ (length (now starts) ≡ 129) × (length (now columns) ≡ 1024) × (length (now values) ≡ 1024) × (length (now scales) ≡ 128) × (length (now right) ≡ 128) ⌝ }
     requires { ⌜ (length (now vector) ≡ 128) × (length (now polynomial) ≡ 129) × (length (now bill) ≡ 384) × (length (now work) ≡ 2064) ⌝ }
     ensures { λ r. ⌜ Called (now (text .entry)) (now (answer .entry)) r (now (answer .exit)) ⌝ }
 {
-    if text.len() > 24576 {
+    if text.len() > 26624 {
         return 1;
     }
-    let reading = read(text, starts, columns, values, right);
+    let reading = read(text, starts, columns, values, scales, right);
     match reading {
         Reading::Refused(number) => number as u64,
         Reading::Read(p, n, count) => {
@@ -154,6 +159,7 @@ pub(crate) fn answer_text(
                 starts,
                 columns,
                 values,
+                scales,
                 right,
                 vector,
                 polynomial,

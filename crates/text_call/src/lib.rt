@@ -21,6 +21,7 @@ pub extern "C" fn filzeur_text(text: &[u8], answer: &mut [u8]) -> u64
     let mut starts = [0u32; 129];
     let mut columns = [0u32; 1024];
     let mut values = [0u32; 1024];
+    let mut scales = [0u32; 128];
     let mut right = [0u32; 128];
     let mut vector = [0u32; 128];
     let mut polynomial = [0u32; 129];
@@ -32,6 +33,7 @@ pub extern "C" fn filzeur_text(text: &[u8], answer: &mut [u8]) -> u64
         &mut starts,
         &mut columns,
         &mut values,
+        &mut scales,
         &mut right,
         &mut vector,
         &mut polynomial,
@@ -54,12 +56,12 @@ fn show(text: &[u8], out: &mut [u8]) -> usize
 }
 
 // What the program prints where the first `read` bytes of the buffer were read, at the front of a slice of at least 7,168 bytes. The buffer
-// has at least 24,577, one more than a text may have, so that a text that was cut is refused as the whole would be. Where one of these
+// has at least 26,625, one more than a text may have, so that a text that was cut is refused as the whole would be. Where one of these
 // is shorter, or more was read than the buffer has, the slice stays as it is, and the answer is 0.
 pub fn output(buffer: &[u8], read: usize, out: &mut [u8]) -> usize
     ensures { λ r. ⌜ Printed (now (buffer .entry)) read (now (out .entry)) r (now (out .exit)) ⌝ }
 {
-    if buffer.len() < 24577 {
+    if buffer.len() < 26625 {
         return 0;
     }
     if buffer.len() < read {
