@@ -18,7 +18,7 @@ use Rattle.meaning.specs.Calls.{recurrenceRefusal, recurrenceAnswer, systemChec
 use Rattle.laws.specs.Refusal.{first-passed, numbered-system, first-append-zero}
 use Rattle.residue.specs.Prime.{isModulus-Prime}
 use Rattle.laws.specs.Recurrence.{degree-within}
-use Rattle.text_laws.specs.Accepted.{system-accepted}
+use Rattle.text_laws.specs.Accepted.{system-accepted, system-scales}
 use Rattle.text_laws.specs.Length.{write-within}
 
 module _ (p : ℕ) (s polynomial work : List ℕ) where
@@ -38,14 +38,16 @@ module _ (p : ℕ) (s polynomial work : List ℕ) where
         leb-true (length s) 8192 (taken e .1),
       )
 
-module _ (p : ℕ) (A : Matrix) (b out : List ℕ) where
-  system-taken : writerRefusal p A b out ≡ 0 → first (systemChecks p A b) ≡ 0
+module _ (p : ℕ) (A : Matrix) (X b out : List ℕ) where
+  system-taken : writerRefusal p A X b out ≡ 0 → first (systemChecks p A X b) ≡ 0
   unfolding writerRefusal
-  system-taken e = first-append-zero (systemChecks p A b) _ (numbered-system p A b) e .0
+  system-taken e = first-append-zero (systemChecks p A X b) _ (numbered-system p A X b) e .0
 
-  pub length-small : writerAnswer p A b out ≤ 2097152
-  length-small = go (eqb (writerRefusal p A b out) 0) refl
+  pub length-small : writerAnswer p A X b out ≤ 2097152
+  length-small = go (eqb (writerRefusal p A X b out) 0) refl
     where
-      go : (t : Bool) → eqb (writerRefusal p A b out) 0 ≡ t → cond t (length (write p A b)) 0 ≤ 2097152
-      go true e = write-within p A b (system-accepted p A b (system-taken (eqb-true (writerRefusal p A b out) 0 e)))
+      go : (t : Bool) → eqb (writerRefusal p A X b out) 0 ≡ t → cond t (length (write p A X b)) 0 ≤ 2097152
+      go true e =
+          let taken = system-taken (eqb-true (writerRefusal p A X b out) 0 e) in
+          write-within p A X b (system-accepted p A X b taken) (system-scales p A X b taken)
       go false e = omega arith

@@ -59,6 +59,7 @@ pub extern "C" fn filzeur_solve(
     starts: &[u32],
     columns: &[u32],
     values: &[u32],
+    scales: &[u32],
     b: &[u32],
     words: &[u32],
     window: u32,
@@ -67,8 +68,8 @@ pub extern "C" fn filzeur_solve(
     bill: &mut [u32],
     work: &mut [u32],
 ) -> Verdict
-    ensures { λ r. ⌜ Answered p (matrix (now (starts .entry)) (now (columns .entry)) (now (values .entry))) (now (b .entry))
-        (now (words .entry)) window (now (vector .entry)) (now (polynomial .entry)) (now (bill .entry)) (now (work .entry)) r
+    ensures { λ r. ⌜ Answered p (matrix (now (starts .entry)) (now (columns .entry)) (now (values .entry))) (now (scales .entry))
+        (now (b .entry)) (now (words .entry)) window (now (vector .entry)) (now (polynomial .entry)) (now (bill .entry)) (now (work .entry)) r
         (now (vector .exit)) (now (polynomial .exit)) (now (bill .exit)) (now (work .exit)) ⌝ }
 {
     numbers_of(solve(
@@ -76,6 +77,7 @@ pub extern "C" fn filzeur_solve(
         starts,
         columns,
         values,
+        scales,
         b,
         words,
         window,

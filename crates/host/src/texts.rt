@@ -8,7 +8,7 @@ ghost use Prim.Native.Nat.{_≤_};
 ghost use Rattle.meaning.specs.Matrix.{matrix};
 ghost use Rattle.meaning.specs.Calls.{readerRefusal, readerAnswer, readerAfter, writerRefusal, writerAnswer, writerAfter};
 ghost use Rattle.system_reader.specs.Answers.{refusalOfRead, modulusOfRead, sizeOfRead, countOfRead, startsOfSystem, columnsOfSystem};
-ghost use Rattle.system_reader.specs.Answers.{valuesOfSystem, rightOfSystem, modulusOfDocument, sizeOfDocument, countOfDocument};
+ghost use Rattle.system_reader.specs.Answers.{valuesOfSystem, scalesOfSystem, rightOfSystem, modulusOfDocument, sizeOfDocument, countOfDocument};
 ghost use Rattle.system_writer.specs.Answers.{refusalOfWritten, lengthOfWritten};
 ghost use Rattle.text_call.specs.Checks.{Called};
 ghost use Rattle.host.specs.Answers.{systemOf, lengthOf};
@@ -66,23 +66,26 @@ pub extern "C" fn filzeur_read(
     starts: &mut [u32],
     columns: &mut [u32],
     values: &mut [u32],
+    scales: &mut [u32],
     right: &mut [u32],
 ) -> System
-    ensures { λ r. ⌜ r ≡ systemOf (readerRefusal (now (text .entry)) (now (starts .entry)) (now (columns .entry)) (now (values .entry))
-        (now (right .entry))) (readerAnswer modulusOfDocument (now (text .entry)) (now (starts .entry)) (now (columns .entry)) (now (values .entry))
-        (now (right .entry))) (readerAnswer sizeOfDocument (now (text .entry)) (now (starts .entry)) (now (columns .entry)) (now (values .entry))
-        (now (right .entry))) (readerAnswer countOfDocument (now (text .entry)) (now (starts .entry)) (now (columns .entry)) (now (values .entry))
-        (now (right .entry))) ⌝ }
+    ensures { λ r. ⌜ r ≡ systemOf
+        (readerRefusal (now (text .entry)) (now (starts .entry)) (now (columns .entry)) (now (values .entry)) (now (scales .entry)) (now (right .entry)))
+        (readerAnswer modulusOfDocument (now (text .entry)) (now (starts .entry)) (now (columns .entry)) (now (values .entry)) (now (scales .entry)) (now (right .entry)))
+        (readerAnswer sizeOfDocument (now (text .entry)) (now (starts .entry)) (now (columns .entry)) (now (values .entry)) (now (scales .entry)) (now (right .entry)))
+        (readerAnswer countOfDocument (now (text .entry)) (now (starts .entry)) (now (columns .entry)) (now (values .entry)) (now (scales .entry)) (now (right .entry))) ⌝ }
     ensures { λ _. ⌜ now (starts .exit) ≡ readerAfter startsOfSystem (now (starts .entry)) (now (text .entry)) (now (starts .entry)) (now (columns .entry))
-        (now (values .entry)) (now (right .entry)) ⌝ }
+        (now (values .entry)) (now (scales .entry)) (now (right .entry)) ⌝ }
     ensures { λ _. ⌜ now (columns .exit) ≡ readerAfter columnsOfSystem (now (columns .entry)) (now (text .entry)) (now (starts .entry)) (now (columns .entry))
-        (now (values .entry)) (now (right .entry)) ⌝ }
+        (now (values .entry)) (now (scales .entry)) (now (right .entry)) ⌝ }
     ensures { λ _. ⌜ now (values .exit) ≡ readerAfter valuesOfSystem (now (values .entry)) (now (text .entry)) (now (starts .entry)) (now (columns .entry))
-        (now (values .entry)) (now (right .entry)) ⌝ }
+        (now (values .entry)) (now (scales .entry)) (now (right .entry)) ⌝ }
+    ensures { λ _. ⌜ now (scales .exit) ≡ readerAfter scalesOfSystem (now (scales .entry)) (now (text .entry)) (now (starts .entry)) (now (columns .entry))
+        (now (values .entry)) (now (scales .entry)) (now (right .entry)) ⌝ }
     ensures { λ _. ⌜ now (right .exit) ≡ readerAfter rightOfSystem (now (right .entry)) (now (text .entry)) (now (starts .entry)) (now (columns .entry))
-        (now (values .entry)) (now (right .entry)) ⌝ }
+        (now (values .entry)) (now (scales .entry)) (now (right .entry)) ⌝ }
 {
-    numbers_of_system(read(text, starts, columns, values, right))
+    numbers_of_system(read(text, starts, columns, values, scales, right))
 }
 
 #[no_mangle]
@@ -91,14 +94,17 @@ pub extern "C" fn filzeur_write(
     starts: &[u32],
     columns: &[u32],
     values: &[u32],
+    scales: &[u32],
     b: &[u32],
     text: &mut [u8],
 ) -> Length
-    ensures { λ r. ⌜ r ≡ lengthOf (writerRefusal p (matrix (now (starts .entry)) (now (columns .entry)) (now (values .entry))) (now (b .entry))
-        (now (text .entry))) (writerAnswer p (matrix (now (starts .entry)) (now (columns .entry)) (now (values .entry))) (now (b .entry)) (now (text .entry))) ⌝ }
-    ensures { λ _. ⌜ now (text .exit) ≡ writerAfter p (matrix (now (starts .entry)) (now (columns .entry)) (now (values .entry))) (now (b .entry)) (now (text .entry)) ⌝ }
+    ensures { λ r. ⌜ r ≡ lengthOf
+        (writerRefusal p (matrix (now (starts .entry)) (now (columns .entry)) (now (values .entry))) (now (scales .entry)) (now (b .entry)) (now (text .entry)))
+        (writerAnswer p (matrix (now (starts .entry)) (now (columns .entry)) (now (values .entry))) (now (scales .entry)) (now (b .entry)) (now (text .entry))) ⌝ }
+    ensures { λ _. ⌜ now (text .exit)
+        ≡ writerAfter p (matrix (now (starts .entry)) (now (columns .entry)) (now (values .entry))) (now (scales .entry)) (now (b .entry)) (now (text .entry)) ⌝ }
 {
-    numbers_of_length(write(p, starts, columns, values, b, text))
+    numbers_of_length(write(p, starts, columns, values, scales, b, text))
 }
 
 // The call of crate text_call: a static library exports its own functions only, so it is named here again.

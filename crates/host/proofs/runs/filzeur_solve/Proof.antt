@@ -26,11 +26,11 @@ same-length-4 c = search needs
 
 returns : tie.Need-returns
 returns c =
-    let at = c .before .before .before .before .before .before .before .before .before .before .before .before .before .before .before .before .before .before .before .before .before .before .before .args in
+    let at = c .before .before .before .before .before .before .before .before .before .before .before .before .before .before .before .before .before .before .before .before .before .before .before .before .args in
     let A = matrix (now (at .starts)) (now (at .columns)) (now (at .values)) in
-    let number = solverRefusal (at .p) A (now (at .b)) (now (at .words)) (at .window) (now (at .vector)) (now (at .polynomial)) (now (at .work)) in
+    let number = solverRefusal (at .p) A (now (at .scales)) (now (at .b)) (now (at .words)) (at .window) (now (at .vector)) (now (at .polynomial)) (now (at .work)) in
     let done = c .before .before .before .before .before .before .before .before .before .solve .ensures in
-    let e = c .numbers-of .ensures number (solve (at .p) A (now (at .b)) (now (at .words)) (at .window)) (done .says) in
+    let e = c .numbers-of .ensures number (solve (at .p) A (now (at .scales)) (now (at .b)) (now (at .words)) (at .window)) (done .says) in
     record { verdict = e; leaves = done .leaves }
 
 pub filzeur-solve-spec : {M : Type 1} → statement M

@@ -22,9 +22,12 @@ same-length-3 c = search needs
 same-length-4 : tie.Need-same-length-4
 same-length-4 c = search needs
 
+same-length-5 : tie.Need-same-length-5
+same-length-5 c = search needs
+
 returns : tie.Need-returns
 returns c =
-    let done = c .before .before .before .before .before .before .before .before .before .read .ensures in
+    let done = c .before .before .before .before .before .before .before .before .before .before .before .read .ensures in
     (c .numbers-of-system .ensures ∙ system-same (done .0) (done .1 .0) (done .1 .1 .0) (done .1 .1 .1 .0), done .1 .1 .1 .1)
 
 pub filzeur-read-spec : {M : Type 1} → statement M
@@ -37,4 +40,5 @@ filzeur-read-spec =
     same-length-2
     same-length-3
     same-length-4
+    same-length-5
     returns)

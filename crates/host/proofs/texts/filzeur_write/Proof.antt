@@ -13,9 +13,9 @@ write-requires c κs = search needs
 
 numbers-of-length-requires : tie.Need-numbers-of-length-requires
 numbers-of-length-requires c κs =
-    let at = c .before .before .before .before .before .before .before .before .before .args in
+    let at = c .before .before .before .before .before .before .before .before .before .before .args in
     subst (λ k. k ≤ 2097152) (sym (c .before .before .write .ensures .1 .0))
-    (length-small (at .p) (matrix (now (at .starts)) (now (at .columns)) (now (at .values))) (now (at .b)) (now (at .text)))
+    (length-small (at .p) (matrix (now (at .starts)) (now (at .columns)) (now (at .values))) (now (at .scales)) (now (at .b)) (now (at .text)))
 
 same-length : tie.Need-same-length
 same-length c = search needs
