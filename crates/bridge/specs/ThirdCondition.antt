@@ -22,6 +22,7 @@
 --     everyRun             the third condition of every run, whatever the words and the scales
 --     everyTwoRuns         every two runs on one system, its scales with it, give the same kind, vector and polynomial, whatever their words
 --     everyEmptyRun        every run on size 0 ends with the empty vector and f = 1, and makes no pass
+--     solve-same           runs whose columns have the same scales end alike
 --     everyPlainRun        every run with n ones as scales ends as the run without scales
 use mathlib.Core.Path.{_≡_, refl, sym, ap, ap₂, fun-ext, subst, _∙_}
 use mathlib.Core.Logic.{_≢_, _⊎_, inl, inr, _↔_}
@@ -447,7 +448,7 @@ everyEmptyRun p A X b words w e none =
     ∙ ap (λ c. answered p X (close p AX [] c)) (run-rest p (a .prime) AX [] w us (begin []) refl) ∙ empty-close p AX X none
 
 -- what counts of a list of scales is the scale of each column
-solve-same : (p : ℕ) (A : Matrix) (X Y : List ℕ) → ((j : ℕ) → scaleAt X j ≡ scaleAt Y j) → (b words : List ℕ) (w : ℕ) → solve p A X b words w ≡ solve p A Y b words w
+pub solve-same : (p : ℕ) (A : Matrix) (X Y : List ℕ) → ((j : ℕ) → scaleAt X j ≡ scaleAt Y j) → (b words : List ℕ) (w : ℕ) → solve p A X b words w ≡ solve p A Y b words w
 unfolding solve answered
 solve-same p A X Y same b words w =
     ap (λ M. answered p X (outcome p M b words w)) (scaled-same p X Y same A)

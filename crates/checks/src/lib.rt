@@ -8,7 +8,7 @@ ghost use mathlib.Core.Path.{_≡_};
 ghost use mathlib.Core.Bool.{_&&_};
 ghost use mathlib.Core.List.{[]};
 ghost use Prim.Native.Nat.{_+_, _-_, _≤_, _<_};
-ghost use lib.Dec.{leb};
+ghost use lib.Dec.{eqb, leb};
 ghost use lib.ListN.{length};
 ghost use Rattle.meaning.specs.List.{at, all, allFrom, every};
 ghost use Rattle.meaning.specs.Matrix.{matrix};
@@ -137,6 +137,19 @@ fn all_values_taken(p: u32, values: &[u32], scales: &[u32]) -> bool
     ensures { λ r. ⌜ r ≡ every (valueTaken p) (now (values .entry)) && every (valueTaken p) (now (scales .entry)) ⌝ }
 {
     values_taken(p, values) & values_taken(p, scales)
+}
+
+// Whether every scale is 1, or there is none: such scales change nothing.
+pub fn all_ones(scales: &[u32]) -> bool
+    ensures { λ r. ⌜ r ≡ every (λ a. eqb a 1) (now (scales .entry)) ⌝ }
+{
+    let mut ones = true;
+    let mut i = 0;
+    while i < scales.len() {
+        ones = ones & (scales[i] == 1);
+        i += 1;
+    }
+    ones
 }
 
 // 9: every element is below p.

@@ -7,7 +7,7 @@
 --     scales-none                    no scales do
 --     system-accepted, system-scales, accepted-system      first (systemChecks p A X b) ≡ 0 and these facts: each from the other
 --     AcceptedMatrix p A, matrix-accepted   p and A pass the checks of a matrix: so does the system with the right side 0
---     scaled-accepted, scaled-scales        the same of a matrix with its scales
+--     scaled-accepted, scaled-scales        the same of a matrix with its scales; scaled-plain: it passes the checks alone then
 --     starts-rise, start-within      starts that rise; none is above the number of entries
 --     column-within, value-below, right-at      every entry's column, every entry's value, every element of b
 --     AcceptedRun, run-accepted      a system and words pass the checks of a run
@@ -32,7 +32,7 @@ use Rattle.meaning.specs.Refusal.{check, first, elements, rowsTaken, sizeTaken,
 use Rattle.meaning.specs.Calls.{systemChecks, runChecks, solverRefusal}
 use Rattle.laws.specs.Bool.{and-left, and-right, and-both, and-five, or-right, test-cases}
 use Rattle.laws.specs.List.{all-at, all-of, every-nil, every-at, every-of, length-table, getD-table}
-use Rattle.laws.specs.Refusal.{first-nil, first-passed, first-pass, first-append-none, first-append-zero, numbered-scaled, numbered-system, numbered-run}
+use Rattle.laws.specs.Refusal.{first-nil, first-passed, first-pass, first-append-none, first-append-zero, numbered-scaled, numbered-matrix, numbered-system, numbered-run}
 
 pub modulus-low : (p : ℕ) → isModulus p ≡ true → 2 ≤ p
 unfolding isModulus isPrime
@@ -260,6 +260,13 @@ scaled-accepted p A X e =
 
 pub scaled-scales : (p : ℕ) (A : Matrix) (X : List ℕ) → first (scaledChecks p A X) ≡ 0 → AcceptedScales p (size A) X
 scaled-scales p A X e = scaled-passed p A X e .scales
+
+-- a matrix that passes the checks with its scales passes them alone
+pub scaled-plain : (p : ℕ) (A : Matrix) (X : List ℕ) → first (scaledChecks p A X) ≡ 0 → first (matrixChecks p A) ≡ 0
+unfolding systemChecks
+scaled-plain p A X e =
+    first-append-zero (matrixChecks p A) _ (numbered-matrix p A)
+    (accepted-system p A [] (zeros (size A)) (scaled-accepted p A X e) (scales-none p (size A))) .0
 
 pub matrix-accepted : (p : ℕ) (A : Matrix) → first (matrixChecks p A) ≡ 0 → AcceptedMatrix p A
 matrix-accepted p A e = scaled-accepted p A [] e

@@ -1,5 +1,6 @@
 -- The solver's run in its work slice, which is laid out as a pass has it (wiedemann's Pass).
 --     CheckedSystem, system-of  what the checks leave known of a system with its scales; the run is one on AX
+--     used, used-same, used-checked      the scales that a run multiplies by: none where all are 1
 --     none, counted      the counts before the first pass, and after one more
 --     Fits               what bounds the counts and the numbers of a pass that is added to them
 --     begun              r = b, F = 1, D = 0 in the slice
@@ -13,23 +14,26 @@
 --     Closable, closable       what the end asks: F is monic of degree D ≤ n
 use mathlib.Core.Path.{_≡_, refl, sym, ap, ap₂, _∙_, subst}
 use mathlib.Core.Logic.{_⊎_, inl, inr}
-use mathlib.Core.Bool.{true, false, not}
+use mathlib.Core.Bool.{true, false, not, cond}
 use mathlib.Core.List.{List, [], _∷_, _++_}
 use Prim.Native.Nat.{ℕ, _+_, _*_, _≤_, _<_}
 use native.Mathlib.Nat.{zero-add, eq-or-lt-of-le}
 use native.Mathlib.Decide.{decLt}
 use native.Mathlib.Numerals.{add-one}
 use native.Mathlib.Omega.{arith}
-use lib.ListN.{length, take, drop, getD, set, length-set, length-append, take-append-drop}
+use lib.ListN.{length, take, drop, getD, set, length-set, length-append, take-append-drop, List·getD-eq-default}
 use lib.Seq.{take-suc, take-all, getD-set-same, getD-set-other}
-use Rattle.meaning.specs.List.{at, isZero, padded}
-use Rattle.meaning.specs.Matrix.{Matrix, size, multiplied, scaled}
+use Rattle.meaning.specs.List.{at, every, isZero, padded}
+use Rattle.meaning.specs.Matrix.{Matrix, size, multiplied, scaleAt, scaled}
 use Rattle.meaning.specs.Refusal.{check, first, elements, scaledChecks, wordsTaken, windowTaken}
 use Rattle.meaning.specs.Calls.{systemChecks, runChecks}
 use Rattle.meaning.specs.Recurrence.{degree}
 use Rattle.meaning.specs.Solver.{Pass, Run, projections, begin, spent, billed, pass, run}
+use lib.Dec.{eqb}
+use borrow.Author.Tests.{eqb-true}
+use Rattle.laws.specs.Accepted.{scaled-plain}
 use Rattle.laws.specs.Bool.{and-both, test-cases, never}
-use Rattle.laws.specs.List.{length-table, table-of}
+use Rattle.laws.specs.List.{every-at, length-table, table-of}
 use Rattle.laws.specs.Products.{multiplied-none, multiplied-add, multiplied-most}
 use Rattle.laws.specs.Recurrence.{monic-leading}
 use Rattle.laws.specs.Refusal.{first-append-zero, numbered-scaled, numbered-system}
@@ -69,6 +73,41 @@ system-of p A X b words w e = record { checked = matrix; valid = scaled-valid p 
 
     matrix : first (scaledChecks p A X) ≡ 0
     matrix = first-append-zero (scaledChecks p A X) (vectorChecks p A b) (numbered-scaled p A X) system .0
+
+-- ---- the scales that a run multiplies by
+
+-- none where all of them are 1
+abbrev pub used : List ℕ → ℕ
+used X = cond (every (λ a. eqb a 1) X) 0 (length X)
+
+used-cases : (X : List ℕ) → ((used X ≡ 0) × (every (λ a. eqb a 1) X ≡ true)) ⊎ (used X ≡ length X)
+used-cases X = go (test-cases (every (λ a. eqb a 1) X))
+  where
+    go : (every (λ a. eqb a 1) X ≡ true) ⊎ (every (λ a. eqb a 1) X ≡ false) → ((used X ≡ 0) × (every (λ a. eqb a 1) X ≡ true)) ⊎ (used X ≡ length X)
+    go (inl e) = inl (ap (λ t. cond t 0 (length X)) e, e)
+    go (inr e) = inr (ap (λ t. cond t 0 (length X)) e)
+
+-- these are as all of them
+pub used-same : (X : List ℕ) (k : ℕ) → k ≡ used X → (j : ℕ) → scaleAt (part 0 k X) j ≡ scaleAt X j
+used-same X k e j = go (used-cases X)
+  where
+    one : every (λ a. eqb a 1) X ≡ true → Dec (j < length X) → scaleAt X j ≡ 1
+    one h (yes l) = eqb-true (scaleAt X j) 1 (every-at (λ a. eqb a 1) X 1 h j l)
+    one h (no l) = List·getD-eq-default X 1 {n = j} (omega (arith, l))
+
+    go : ((used X ≡ 0) × (every (λ a. eqb a 1) X ≡ true)) ⊎ (used X ≡ length X) → scaleAt (part 0 k X) j ≡ scaleAt X j
+    go (inl (z, h)) = ap (λ m. scaleAt (part 0 m X) j) (e ∙ z) ∙ sym (one h (decLt j (length X)))
+    go (inr f) = ap (λ l. scaleAt l j) (take-all k X (omega (arith, e, f)))
+
+-- .. and pass the checks that all of them pass
+pub used-checked : {p : ℕ} {A : Matrix} {X b : List ℕ} (k : ℕ) → k ≡ used X → CheckedSystem p A X b → CheckedSystem p A (part 0 k X) b
+used-checked {p} {A} {X} {b} k e s = go (used-cases X)
+  where
+    go : ((used X ≡ 0) × (every (λ a. eqb a 1) X ≡ true)) ⊎ (used X ≡ length X) → CheckedSystem p A (part 0 k X) b
+    go (inl (z, h)) =
+        subst (λ m. CheckedSystem p A (part 0 m X) b) (sym (e ∙ z))
+        (record { checked = scaled-plain p A X (s .checked); valid = scaled-valid p A [] (scaled-plain p A X (s .checked)); accepted = s .accepted })
+    go (inr f) = subst (λ Y. CheckedSystem p A Y b) (sym (take-all k X (omega (arith, e, f)))) s
 
 abbrev pub none : Counts
 none = record { degree = 0; passes = 0; applications = 0; multiplied = 0 }

@@ -10,7 +10,7 @@
 --     Ends, Closed       what is made of F when r is zero, on the matrix that the run is on
 --     Answered           .. and X times its vector; closed-vector: that has n elements
 --     constant, divisor, coefficients, taken-in      F[0], its inverse and G in the polynomial slice; G(A)b is not refused
---     closed             so it is the meaning's `solve`
+--     closed             so it is the meaning's `solve`; found-used: also where only the scales that count were used
 --     refused, taken     a call that was refused, and one that was not
 use mathlib.Core.Path.{_≡_, refl, sym, ap, ap₂, _∙_, subst}
 use mathlib.Core.Logic.{_≢_}
@@ -30,7 +30,7 @@ use Rattle.meaning.specs.ThirdCondition.{ThirdCondition, SameAnswer}
 use Rattle.meaning.specs.Refusal.{check, first, scaledChecks}
 use Rattle.meaning.specs.Calls.{runChecks, solverRefusal, vectorAfter, polynomialAfter, billAfter}
 use Rattle.residue.specs.Inverse.{inverse-lt}
-use Rattle.bridge.specs.ThirdCondition.{everyRun, everyTwoRuns, verdict-vector}
+use Rattle.bridge.specs.ThirdCondition.{everyRun, everyTwoRuns, solve-same, verdict-vector}
 use Rattle.solver.specs.declared.Counts.{Counts}
 use Rattle.solver.specs.declared.Verdict.{Verdict}
 use Rattle.solver.specs.declared.Verdict.the-variants.{Solved, Singular, Refused}
@@ -45,7 +45,7 @@ use Rattle.laws.specs.Bool.{and-both}
 use Rattle.laws.specs.List.{length-table, getD-table}
 use Rattle.laws.specs.Products.{multiplied-none, multiplied-add, multiplied-most, every-run-by-entry}
 use Rattle.laws.specs.Refusal.{first-nil, first-pass, first-append-none, first-append-zero, numbered-scaled, numbered-run, unlessRefused-none}
-use Rattle.solver.specs.Run.{CheckedSystem, Closable, Finished, closable}
+use Rattle.solver.specs.Run.{CheckedSystem, used, used-same, Closable, Finished, closable}
 
 pub record Counted (c : Counts) (o : Outcome) : Type 0 where
   pub degree : c .degree ≡ o .degree
@@ -300,6 +300,21 @@ closed {p} {A} {X} {b} {words} {window} {B} {B′} {W} {c} {r} {vector} {polynom
     go (Solved d) e = (refl, e .0, counted d (e .1))
     go (Singular d) e = (refl, e .0, counted d (e .1))
     go (Refused n) e = absurd e
+
+-- what was found with the scales that count was found with all of them
+pub found-used : {p : ℕ} {A : Matrix} {X b words : List ℕ} {window : ℕ} {B : List ℕ} {r : Verdict} {v f B′ : List ℕ} (k : ℕ) → k ≡ used X
+    → Found p A (part 0 k X) b words window B r v f B′ → Found p A X b words window B r v f B′
+found-used {p} {A} {X} {b} {words} {window} {B} {r} k e q =
+    record {
+      says = subst (λ o. Says r 0 o) same (q .says);
+      vector-is = q .vector-is ∙ ap (λ (o : Outcome). o .vector) same;
+      polynomial-is = q .polynomial-is ∙ ap (λ (o : Outcome). padded (size A + 1) (o .polynomial)) same;
+      bill-is = q .bill-is ∙ ap (λ (o : Outcome). billed B (o .passes)) same;
+      fits = subst (λ (o : Outcome). o .multiplied ≤ 13194407968768) same (q .fits);
+    }
+  where
+    same : solve p A (part 0 k X) b words window ≡ solve p A X b words window
+    same = solve-same p A (part 0 k X) X (used-same X k e) b words window
 
 -- ---- the call
 

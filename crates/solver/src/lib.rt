@@ -21,10 +21,11 @@ ghost use Rattle.laws.specs.Part.{part};
 ghost use Rattle.checks.specs.Pass.{residualAt};
 ghost use Rattle.wiedemann.specs.Pass.{held, passOf};
 ghost use Rattle.solver.specs.Bill.{entered};
-ghost use Rattle.solver.specs.Run.{CheckedSystem, none, counted, Fits, Finished, Bounded, Closable};
+ghost use Rattle.solver.specs.Run.{CheckedSystem, used, none, counted, Fits, Finished, Bounded, Closable};
 ghost use Rattle.solver.specs.Verdict.{closing, Closed, Answered, Solves};
 use checks::Products;
 use checks::Writing;
+use checks::all_ones;
 use checks::residual_at;
 use checks::solver_refusal;
 use field::Field;
@@ -304,6 +305,13 @@ fn answer(
     verdict
 }
 
+// How many scales a run is to multiply by: none where all of them are 1.
+fn needed(scales: &[u32]) -> usize
+    ensures { λ r. ⌜ (r ≡ used (now (scales .entry))) × (r ≤ length (now (scales .entry))) ⌝ }
+{
+    if all_ones(scales) { 0 } else { scales.len() }
+}
+
 // Solves Ax = b, or finds a vector that is not zero and that A takes to zero, by passes with the random words and then the unit vectors. The passes are on
 // AX, X being the diagonal of the scales; no scales stand for ones. A pass may end early after `window` discrepancies that were 0; 0 asks for none. Whatever
 // words and window are, kind, vector and polynomial are those of A, X and b. The bill gets three numbers for each pass, left, degree and applications, for as many passes as it has room for; it may be empty.
@@ -341,12 +349,15 @@ pub fn solve(
     if number != 0 {
         return Verdict::Refused(number);
     }
+    let front: usize = 0;
+    let end = needed(scales);
+    let x = &scales[front..end];
     let c = run(
         field,
         starts,
         columns,
         values,
-        scales,
+        x,
         b,
         words,
         window,
@@ -358,7 +369,7 @@ pub fn solve(
         starts,
         columns,
         values,
-        scales,
+        x,
         b,
         work,
         c,

@@ -9,9 +9,9 @@ ghost use Rattle.meaning.specs.List.{every};
 ghost use Rattle.meaning.specs.Matrix.{matrix};
 ghost use Rattle.meaning.specs.Text.{writeScales, write};
 ghost use Rattle.laws.specs.Accepted.{AcceptedScales};
-ghost use Rattle.text_laws.specs.Coordinates.{allOnes};
 ghost use Rattle.line_writer.specs.Written.{Wrote};
 ghost use Rattle.system_writer.specs.Writes.{Rows, headerText, rowText, rowsText, placeText, rightText};
+use checks::all_ones;
 use checks::wide;
 use line_writer::put_line;
 
@@ -83,19 +83,6 @@ pub(crate) fn place_lines(out: &mut [u8], at: usize, letter: &[u8], v: &[u32]) -
         next = put_line(out, next, letter, &[i as u64, long(value)]);
     }
     next
-}
-
-// Whether every scale is 1, or there is none.
-fn all_ones(scales: &[u32]) -> bool
-    ensures { λ r. ⌜ r ≡ allOnes (now (scales .entry)) ⌝ }
-{
-    let mut ones = true;
-    let mut i: usize = 0;
-    while i < scales.len() {
-        ones = ones & (scales[i] == 1);
-        i += 1;
-    }
-    ones
 }
 
 // The `s` lines, exactly if some scale isn't 1; no scale is 0.

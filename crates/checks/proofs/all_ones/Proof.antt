@@ -1,4 +1,3 @@
--- `lines::all_ones` meets its contract. The invariant: ones says whether the scales below i are 1.
 use mathlib.Core.Path.{_≡_, sym, ap, _∙_}
 use mathlib.Core.Bool.{_&&_}
 use Prim.Native.Nat.{_-_, _≤_}
@@ -8,10 +7,10 @@ use lib.ListN.{length, getD}
 use denote.Ref.{now}
 use Rattle.meaning.specs.List.{all}
 use Rattle.laws.specs.List.{all-zero, every-all}
 use Rattle.checks.specs.Matrix.{all-more}
 use borrow.Author.Needs.{needs}
-use Rattle.system_writer.proofs.lines.all_ones.Statement.{statement}
-use Rattle.system_writer.proofs.lines.all_ones.Tie as tie
+use Rattle.checks.proofs.all_ones.Statement.{statement}
+use Rattle.checks.proofs.all_ones.Tie as tie
 
 abbrev Inv-loop : tie.InvT-loop
 Inv-loop scales ones₀ i₀ ones i = (i ≤ length scales) × (ones ≡ all i (λ j. eqb (getD scales j 0) 1))
