@@ -60,7 +60,7 @@ part-solve-start-4 : tie.Need-part-solve-start-4
 part-solve-start-4 c = low _
 
 part-solve-end-4 : tie.Need-part-solve-end-4
-part-solve-end-4 c = c .before .before .before .before .before .before .before .before .before .before .before .before .pre .0 .in-scales
+part-solve-end-4 c = search needs
 
 mul-solve-5 : tie.Need-mul-solve-5
 mul-solve-5 c = none-fits
