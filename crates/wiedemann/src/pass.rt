@@ -10,11 +10,11 @@ ghost use Rattle.meaning.specs.Field.{isModulus};
 ghost use Rattle.meaning.specs.Matrix.{matrix, scaled, diagonal};
 ghost use Rattle.meaning.specs.Solver.{projections, dot};
 ghost use Rattle.modular.specs.Modulus.{Modular};
-ghost use Rattle.checks.specs.Valid.{ValidScaled, Scales, Vector};
+ghost use Rattle.checks.specs.Valid.{Valid, ValidScaled, Scales, Vector};
 ghost use Rattle.laws.specs.Part.{part};
 ghost use Rattle.laws.specs.Lent.{lent};
 ghost use Rattle.wiedemann.specs.Projection.{Words};
-ghost use Rattle.wiedemann.specs.Turns.{regionAt, Turning, Prepared, Advanced, Sequenced, Leading, Applied, Generated};
+ghost use Rattle.wiedemann.specs.Turns.{regionAt, Other, Turning, Prepared, Advanced, Sequenced, Leading, Applied, Generated};
 ghost use Rattle.wiedemann.specs.Pass.{generatorAt, Shortened, Makes, Passes};
 ghost use Rattle.checks.specs.Pass.{State};
 ghost use Rattle.checks.specs.Products.{Few, added, productsWith};
@@ -55,16 +55,13 @@ fn scale_part(m: Modulus, scales: &[u32], n: usize, area: &mut [u32], at: usize)
     scale(m, scales, &mut area[at..end]);
 }
 
-// The iterate after i products made ready for the next one: times X, in its place, or r, which stays, in the region that is idle then. Nothing is done
-// where there are no scales. The answer is where it stands.
+// The iterate after i products made ready for the next one: times X, in its place, or r, which stays, in the region that is idle then. The answer is
+// where it stands.
 fn prepare(m: Modulus, scales: &[u32], n: usize, area: &mut [u32], i: usize) -> usize
     requires { ⌜ Modular m × (n ≤ 4096) × Scales (m .p) n (now scales) × Turning (m .p) n (regionAt n i) (now area) ⌝ }
     ensures { λ at. ⌜ Prepared (m .p) n i (now (scales .entry)) (now (area .entry)) at (now (area .exit)) ⌝ }
 {
     let from = region(n, i);
-    if scales.len() == 0 {
-        return from;
-    }
     if i == 0 {
         let idle = 2 * n;
         copy_within(area, from, idle, n);
@@ -75,8 +72,45 @@ fn prepare(m: Modulus, scales: &[u32], n: usize, area: &mut [u32], i: usize) -> 
     from
 }
 
-// Horner's step after some products: c × r plus AX times the iterate, into the next region; for that the iterate is scaled first. r and the iterates
-// are lent to it. The answer is the products that there are then.
+// Horner's step after some products: c × r plus A times what stands at `from`, into the next region. r and the iterates are lent to it. The answer is the
+// products that there are then.
+fn advance_from(
+    m: Modulus,
+    c: u32,
+    starts: &[u32],
+    columns: &[u32],
+    values: &[u32],
+    area: &mut [u32],
+    done: Products,
+    from: usize,
+) -> Products
+    requires { ⌜ Valid (m .p) (matrix (now starts) (now columns) (now values)) ⌝ }
+    requires { ⌜ Modular m × Turning (m .p) (length (now starts) - 1) from (now area) × Few done
+        × Other (length (now starts) - 1) from (regionAt (length (now starts) - 1) (done .made + 1)) ⌝ }
+    ensures { λ r. ⌜ (r ≡ added done (productsWith 1 (matrix (now (starts .entry)) (now (columns .entry)) (now (values .entry)))))
+        × Advanced (m .p) (matrix (now (starts .entry)) (now (columns .entry)) (now (values .entry))) c (now (area .entry)) from
+        (now (area .exit)) (regionAt (length (now (starts .entry)) - 1) (r .made)) ⌝ }
+{
+    let n = starts.len() - 1;
+    let to = region(n, done.made + 1);
+    let r: usize = 0;
+    let end = 3 * n;
+    let more = step_within(
+        m,
+        c,
+        starts,
+        columns,
+        values,
+        &mut area[r..end],
+        r,
+        from,
+        to,
+    );
+    plus(done, more)
+}
+
+// The same with AX and the iterate, which is scaled first, or goes as it is where there are no scales. Two calls of `advance_from`, so that its loop over
+// the rows stays a function of its own: compiled together with the scaling it was slower.
 pub(crate) fn advance(
     m: Modulus,
     c: u32,
@@ -95,22 +129,12 @@ pub(crate) fn advance(
         (now (area .exit)) (regionAt (length (now (starts .entry)) - 1) (r .made)) ⌝ }
 {
     let n = starts.len() - 1;
+    if scales.len() == 0 {
+        let from = region(n, done.made);
+        return advance_from(m, c, starts, columns, values, area, done, from);
+    }
     let from = prepare(m, scales, n, area, done.made);
-    let to = region(n, done.made + 1);
-    let r: usize = 0;
-    let end = 3 * n;
-    let more = step_within(
-        m,
-        c,
-        starts,
-        columns,
-        values,
-        &mut area[r..end],
-        r,
-        from,
-        to,
-    );
-    plus(done, more)
+    advance_from(m, c, starts, columns, values, area, done, from)
 }
 
 // Term i, where the recurrence has it: the projection's dot product with the iterate Aⁱr, which stands at `from`.
