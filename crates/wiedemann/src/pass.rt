@@ -109,8 +109,31 @@ fn advance_from(
     plus(done, more)
 }
 
-// The same with AX and the iterate, which is scaled first, or goes as it is where there are no scales. Two calls of `advance_from`, so that its loop over
-// the rows stays a function of its own: compiled together with the scaling it was slower.
+// The same with AX and the iterate, which is scaled first.
+pub(crate) fn advance_scaled(
+    m: Modulus,
+    c: u32,
+    starts: &[u32],
+    columns: &[u32],
+    values: &[u32],
+    scales: &[u32],
+    area: &mut [u32],
+    done: Products,
+) -> Products
+    requires { ⌜ ValidScaled (m .p) (matrix (now starts) (now columns) (now values)) (now scales) ⌝ }
+    requires { ⌜ Modular m × Turning (m .p) (length (now starts) - 1) (regionAt (length (now starts) - 1) (done .made)) (now area) × Few done ⌝ }
+    ensures { λ r. ⌜ (r ≡ added done (productsWith 1 (scaled (m .p) (matrix (now (starts .entry)) (now (columns .entry)) (now (values .entry))) (now (scales .entry)))))
+        × Advanced (m .p) (scaled (m .p) (matrix (now (starts .entry)) (now (columns .entry)) (now (values .entry))) (now (scales .entry))) c
+        (now (area .entry)) (regionAt (length (now (starts .entry)) - 1) (done .made))
+        (now (area .exit)) (regionAt (length (now (starts .entry)) - 1) (r .made)) ⌝ }
+{
+    let n = starts.len() - 1;
+    let from = prepare(m, scales, n, area, done.made);
+    advance_from(m, c, starts, columns, values, area, done, from)
+}
+
+// The same, and where there are no scales nothing beside the step. So short that LLVM compiles it into its callers, and the loop over the rows stays a
+// function of its own: compiled together with the scaling it was slower.
 pub(crate) fn advance(
     m: Modulus,
     c: u32,
@@ -133,8 +156,7 @@ pub(crate) fn advance(
         let from = region(n, done.made);
         return advance_from(m, c, starts, columns, values, area, done, from);
     }
-    let from = prepare(m, scales, n, area, done.made);
-    advance_from(m, c, starts, columns, values, area, done, from)
+    advance_scaled(m, c, starts, columns, values, scales, area, done)
 }
 
 // Term i, where the recurrence has it: the projection's dot product with the iterate Aⁱr, which stands at `from`.

@@ -19,7 +19,7 @@ ghost use Rattle.wiedemann.specs.Pass.{Shortened};
 ghost use Rattle.wiedemann.specs.Window.{dueBy, Room, Begun, ToStep, StepMade, ToHear, Hears, Listening, Unasked, Listened, Turned, Finished, Tried};
 use crate::matrix::plus;
 use crate::pass::Pass;
-use crate::pass::advance;
+use crate::pass::advance_scaled;
 use crate::pass::apply_within;
 use crate::pass::region;
 use crate::pass::term;
@@ -166,7 +166,7 @@ fn listen_next(
     let n = starts.len() - 1;
     let steps = heard.steps;
     let before = heard.done;
-    let done = advance(m, 0, starts, columns, values, scales, area, before);
+    let done = advance_scaled(m, 0, starts, columns, values, scales, area, before);
     hear(m, words, u, n, area, left, done, steps, heard.zeros)
 }
 

@@ -39,26 +39,14 @@ returns c =
     let made = c .before .before .advance-from .ensures in
     (made .0 ∙ ap {B = Products} (added (a .done)) (products-scaled (a .m .p) A (now (a .scales)) 1), advanced-scaled (ready (c .before .before .before .before)) (made .1))
 
-prepare-requires : tie.Need-prepare-requires
-prepare-requires c κs =
-    let pre = c .before .before .before .before .before .before .before .pre in
-    (pre .1 .0, pre .0 .valid .sized, pre .0 .scales, pre .1 .1)
-
-advance-from-requires-2 : tie.Need-advance-from-requires-2
-advance-from-requires-2 c κs =
-    let pre = c .before .before .before .before .before .before .before .before .before .before .before .pre in
-    let here = c .before .before .before .prepare .ensures in
-    (pre .0 .valid, (pre .1 .0, prepared-turning (pre .0 .valid .positive) (pre .1 .1) here, pre .1 .2, here .other))
+advance-scaled-requires : tie.Need-advance-scaled-requires
+advance-scaled-requires c κs = search needs
 
 same-length-2 : tie.Need-same-length-2
 same-length-2 c = search needs
 
 returns-2 : tie.Need-returns-2
-returns-2 c =
-    let a = c .before .before .before .before .before .before .before .before .before .before .before .before .before .before .args in
-    let A = matrix (now (a .starts)) (now (a .columns)) (now (a .values)) in
-    let made = c .before .before .advance-from2 .ensures in
-    (made .0 ∙ ap {B = Products} (added (a .done)) (products-scaled (a .m .p) A (now (a .scales)) 1), advanced-scaled (c .before .before .before .before .before .before .prepare .ensures) (made .1))
+returns-2 c = c .before .before .advance-scaled .ensures
 
 pub advance-spec : {M : Type 1} → statement M
 advance-spec =
@@ -69,7 +57,6 @@ advance-spec =
     advance-from-requires
     same-length
     returns
-    prepare-requires
-    advance-from-requires-2
+    advance-scaled-requires
     same-length-2
     returns-2)
