@@ -236,14 +236,22 @@ for window in (*range(8), 63, 64, 65, 66, 256, 65536, 4294967295):
     add(7, *diag, [1, 1], [], 1, bill=6, window=window)
     add(7, *diag, [1, 1], [], 2, 2, bill=6, window=window)
     add(7, *diag, [1, 1], [], 2, 3, 47, 6, window)
+
+
+def of_some_sort(p, n, dice):
+    """A sparse matrix, or a diagonal of few elements, which has a short f."""
+    A = system(p, n, min(1.0, dice.choice((1.0, 2.0, 4.0)) / n), dice.choice((0, 0, 1)))
+    if dice.random() < 0.3:
+        few = [dice.randrange(1, p) for _ in range(3)]
+        A = (list(range(n + 1)), list(range(n)), [dice.choice(few) for _ in range(n)])
+    return A
+
+
 # random systems with windows: over small fields tests often fail; a diagonal of few elements has a short f, so passes end early
 for p, count, most in ((2, 120, 16), (3, 80, 16), (5, 60, 16), (7, 60, 16), (65537, 30, 16), (2147483647, 30, 16)):
     for _ in range(count):
         n = dice.randrange(1, most + 1)
-        A = system(p, n, min(1.0, dice.choice((1.0, 2.0, 4.0)) / n), dice.choice((0, 0, 1)))
-        if dice.random() < 0.3:
-            few = [dice.randrange(1, p) for _ in range(3)]
-            A = (list(range(n + 1)), list(range(n)), [dice.choice(few) for _ in range(n)])
+        A = of_some_sort(p, n, dice)
         words, b = words_for(p, n), vector(p, n, dice.choice((0.0, 0.5, 0.9)))
         add(p, *A, b, words, bill=3 * (n + len(words) // n), window=dice.choice((0, 1, 1, 1, 2, 2, 2, 5, 5, 64, 65)))
 for p, n, window in ((2, 60, 1), (2, 60, 5), (3, 60, 2), (7, 57, 1), (65537, 60, 5), (2147483647, 60, 64)):
@@ -299,10 +307,7 @@ for more in ([7, 5], [1, 1], [4, 5]):
 for p, count, most in ((3, 50, 16), (5, 50, 16), (7, 50, 16), (65537, 25, 16), (high, 25, 16)):
     for _ in range(count):
         n = scale_dice.randrange(1, most + 1)
-        A = system(p, n, min(1.0, scale_dice.choice((1.0, 2.0, 4.0)) / n), scale_dice.choice((0, 0, 1)))
-        if scale_dice.random() < 0.3:
-            few = [scale_dice.randrange(1, p) for _ in range(3)]
-            A = (list(range(n + 1)), list(range(n)), [scale_dice.choice(few) for _ in range(n)])
+        A = of_some_sort(p, n, scale_dice)
         kind = scale_dice.randrange(4)
         scales = [1 if kind == 0 and j != n - 1 or kind == 1 and j else scale_dice.randrange(1, p) for j in range(n)]
         words, b = words_for(p, n), vector(p, n, scale_dice.choice((0.0, 0.5, 0.9)))

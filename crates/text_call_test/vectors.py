@@ -137,19 +137,26 @@ add(text_of(2, 128, [(i, j, 1) for i in range(1, 129) for j in range(1, 9)] + [(
 add(text_of(2, 128, [], [(128, 1)]))
 add(text_of(2, 128, [], []))
 
-# 24,576 bytes, and one more, which are read since there are scales
-for size in (24576, 24577):
-    a, b = system(high, 128, 1200, least=10 ** 9)
+
+def add_of_size(size, entries, number):
+    """Both calls on a text of so many bytes, made of at most so many entries: they refuse it with this number."""
+    a, b = system(high, 128, entries, least=10 ** 9)
     while len(text_of(high, 128, a, b)) > size + 20:
         a.pop()
     for k in range(3):
         excess = min(9, len(text_of(high, 128, a, b)) - size)
         a[k] = a[k][:2] + (a[k][2] // 10 ** excess,)
-    assert len(text_of(high, 128, a, b)) == size
-    add(text_of(high, 128, a, b))
-    assert answers[-1].startswith(b' 11 ')
-    add(text_of(high, 128, a, b), letter='o')
-    assert answers[-1].endswith(b'refused\t11\n')
+    text = text_of(high, 128, a, b)
+    assert len(text) == size
+    add(text)
+    assert answers[-1].startswith(b' %d ' % number)
+    add(text, letter='o')
+    assert answers[-1].endswith(b'refused\t%d\n' % number)
+
+
+# 24,576 bytes, and one more, which are read since there are scales
+for size in (24576, 24577):
+    add_of_size(size, 1200, 11)
 add(first * 463 + first[:37])
 add(first * 463 + first[:38])
 add(first * 463 + first[:38], 0)
@@ -252,17 +259,7 @@ assert len(longest) == 25488
 for letter in 'co':
     add(longest, letter=letter)
 for size in (26624, 26625):
-    a, b = system(high, 128, 1400, least=10 ** 9)
-    while len(text_of(high, 128, a, b)) > size + 20:
-        a.pop()
-    for k in range(3):
-        excess = min(9, len(text_of(high, 128, a, b)) - size)
-        a[k] = a[k][:2] + (a[k][2] // 10 ** excess,)
-    assert len(text_of(high, 128, a, b)) == size
-    add(text_of(high, 128, a, b))
-    assert answers[-1].startswith(b' 11 ' if size == 26624 else b' 1 ')
-    add(text_of(high, 128, a, b), letter='o')
-    assert answers[-1].endswith(b'refused\t11\n' if size == 26624 else b'refused\t1\n')
+    add_of_size(size, 1400, 11 if size == 26624 else 1)
 beyond = first * 502 + first[:19]
 assert len(beyond) == BUFFER
 add(beyond[:-1])
