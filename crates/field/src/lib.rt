@@ -3,14 +3,17 @@
 //
 // The contracts cite the crate meaning (Field: what the operations mean; Calls: what a call refuses and answers) and specs/Answer.antt (what
 // each case of an answer says).
+mod byte_field;
 mod euclid;
+mod table;
 
-pub use euclid::inverse_modulo;
+use byte_field::inverse_by_table;
+pub use euclid::inverse_by_euclid;
 pub use primality::is_modulus;
 ghost use mathlib.Core.Path.{_≡_};
 ghost use mathlib.Core.Bool.{_&&_};
 ghost use lib.Dec.{ltb};
-ghost use Rattle.meaning.specs.Field.{plus, minus, times};
+ghost use Rattle.meaning.specs.Field.{plus, minus, times, inverse};
 ghost use Rattle.meaning.specs.Calls.{fieldRefusal, operationRefusal, operationAnswer, inverseRefusal, inverseAnswer};
 ghost use Rattle.field.specs.Answer.{Makes, Gives, Operands};
 
@@ -126,6 +129,17 @@ fn inverse_refusal(p: u32, a: u32) -> u32
         return 12;
     }
     0
+}
+
+// The inverse of a modulo any p, and p where a has none: modulo 251 from a table, otherwise the general way.
+pub fn inverse_modulo(p: u32, a: u32) -> u32
+    ensures { λ r. ⌜ r ≡ inverse p a ⌝ }
+{
+    if p == 251 {
+        inverse_by_table(a)
+    } else {
+        inverse_by_euclid(p, a)
+    }
 }
 
 // The operations on elements of a field.

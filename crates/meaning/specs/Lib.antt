@@ -7,6 +7,7 @@ pub mod Solver  -- projections, passes, the run, its verdict and its bill; the t
 pub mod ThirdCondition  -- the customer's third condition
 pub mod Text  -- numerals, lines, and a system as text
 pub mod Answer  -- the text of an answer and of a refusal
+pub mod Inverses  -- the table of inverses modulo 251, and what its program prints
 pub mod Refusal  -- the checks with their numbers, and which is first
 pub mod Calls  -- what each call refuses, answers and leaves in its slices
 pub mod Rows  -- document 01's cases, proved by computation

@@ -6,26 +6,28 @@
 --     nothing-left-cases          request (ii)'s, of size 0
 --     window-cases                request (v)'s, with a window
 --     scaled-cases                request (vi)'s, with scales
---     proved-rows, more-rows, nothing-left-rows, window-rows, scaled-rows      they hold
+--     inverse-cases               request (vii)'s, of the table's program
+--     proved-rows, more-rows, nothing-left-rows, window-rows, scaled-rows, inverse-rows      they hold
 use mathlib.Core.Path.{_≡_, refl}
 use mathlib.Core.Bool.{Bool, true, false}
 use mathlib.Core.List.{List, [], _∷_}
-use Prim.Native.Nat.{ℕ, _+_}
+use Prim.Native.Nat.{ℕ, _+_, _-_}
 use Prim.Native.String.{String}
-use lib.ListN.{length, replicate}
-use Rattle.meaning.specs.List.{sum, table, all, every, chainFrom, chain, equal, least, select, flat, bytes, overwrite}
+use lib.ListN.{length, take, replicate}
+use Rattle.meaning.specs.List.{at, sum, table, all, every, chainFrom, chain, equal, least, select, flat, bytes, overwrite}
 use Rattle.meaning.specs.Field.{isPrime, isModulus, plus, minus, times, inverse}
 use Rattle.meaning.specs.Matrix.{product, transposed, power, apply, scaledValues, diagonal, perProduct, multiplied, Matrix, matrix}
 use Rattle.meaning.specs.Recurrence.{isMonic, recurs, start, discrepancy, update, step, steps, reversed, degree, generator, Steps}
 use Rattle.meaning.specs.Solver.{vectorCount, vectors, units, projections, dot, terms, multiply, Pass, begin, passTerms, due, testAt, endPass, pass, run, spent, bill, verdict, close, outcome, answered, solve, takes, isNull, Kind, solved, singular, passCount, applications}
 use Rattle.meaning.specs.Text.{digits, decimal, valueAfter, isNumeral, line, onFirst, parts, hasForm, formOf, lineOf, lineFields, lines, saying, inForm, document, placed, system, writeRow, writeScales, writeElement, write}
 use Rattle.meaning.specs.Answer.{passLines, answerText, refusedText}
+use Rattle.meaning.specs.Inverses.{inverses, inverseLines, inversesText}
 use Rattle.meaning.specs.Refusal.{first, elements, sizeTaken, startsTaken, columnsTaken, scaledChecks, wordsTaken, countTaken, before, placesTaken, valuesTaken, documentChecks}
 use Rattle.meaning.specs.Calls.{fieldRefusal, operationRefusal, inverseRefusal, productRefusal, applyRefusal, recurrenceRefusal, systemChecks, runChecks, solverRefusal, takesRefusal, isNullRefusal, textChecks, readerRefusal, writerRefusal, textRefusal, solvedText, programOutput, operationAnswer, inverseAnswer, productAfter, productCount, applyAfter, applyCount, recurrenceAnswer, recurrenceAfter, vectorAfter, polynomialAfter, billAfter, takesAnswer, takesCount, isNullAnswer, isNullCount, readerAnswer, readerAfter, writerAnswer, writerAfter, textAnswer}
 
 -- every definition open, so that the rows compute
 unfoldable compute : Unit {0}
-unfolding sum table all every chainFrom chain equal least select flat bytes isPrime isModulus plus minus times inverse product transposed power apply scaledValues diagonal perProduct multiplied isMonic recurs start discrepancy update step steps reversed degree generator vectorCount vectors units projections dot terms multiply begin passTerms due testAt endPass pass run spent bill verdict close outcome answered solve takes isNull digits decimal valueAfter isNumeral line onFirst parts hasForm formOf lineOf lineFields lines saying inForm document placed system writeRow writeScales writeElement write passLines answerText refusedText first elements sizeTaken startsTaken columnsTaken scaledChecks wordsTaken countTaken before placesTaken valuesTaken documentChecks fieldRefusal operationRefusal inverseRefusal productRefusal applyRefusal recurrenceRefusal systemChecks runChecks solverRefusal takesRefusal isNullRefusal textChecks readerRefusal writerRefusal textRefusal solvedText programOutput
+unfolding sum table all every chainFrom chain equal least select flat bytes isPrime isModulus plus minus times inverse product transposed power apply scaledValues diagonal perProduct multiplied isMonic recurs start discrepancy update step steps reversed degree generator vectorCount vectors units projections dot terms multiply begin passTerms due testAt endPass pass run spent bill verdict close outcome answered solve takes isNull digits decimal valueAfter isNumeral line onFirst parts hasForm formOf lineOf lineFields lines saying inForm document placed system writeRow writeScales writeElement write passLines answerText refusedText inverses inverseLines inversesText first elements sizeTaken startsTaken columnsTaken scaledChecks wordsTaken countTaken before placesTaken valuesTaken documentChecks fieldRefusal operationRefusal inverseRefusal productRefusal applyRefusal recurrenceRefusal systemChecks runChecks solverRefusal takesRefusal isNullRefusal textChecks readerRefusal writerRefusal textRefusal solvedText programOutput
 compute = tt
 
 pub data Case : Type 0 where
@@ -82,6 +84,9 @@ pub data Case : Type 0 where
   -- the field: a number and an element
   sum-gives difference-gives product-of-gives : (p a b number element : ℕ) → Case
   inverse-gives : (p a number element : ℕ) → Case
+  -- the lines of the inverses modulo p; what the program prints: its front, the number of its lines, and the inverse in the last
+  inverse-lines : (p : ℕ) (text : String) → Case
+  inverses-print : (front : String) (count last : ℕ) → Case
 
 -- what the slices held before
 abbrev pub nines : ℕ → List ℕ
@@ -216,6 +221,9 @@ Holds (sum-gives p a b k x) = _≡_ {A = ℕ × ℕ} (operationRefusal p a b, op
 Holds (difference-gives p a b k x) = _≡_ {A = ℕ × ℕ} (operationRefusal p a b, operationAnswer minus p a b) (k, x)
 Holds (product-of-gives p a b k x) = _≡_ {A = ℕ × ℕ} (operationRefusal p a b, operationAnswer times p a b) (k, x)
 Holds (inverse-gives p a k x) = _≡_ {A = ℕ × ℕ} (inverseRefusal p a, inverseAnswer p a) (k, x)
+Holds (inverse-lines p text) = inverseLines (inverses p) ≡ bytes text
+Holds (inverses-print front n x) =
+    _≡_ {A = List ℕ × ℕ × ℕ} (take (length (bytes front)) inversesText, length (inverses 251), at (inverses 251) (n - 1)) (bytes front, n, x)
 
 abbrev pub AllHold : List Case → Type 0
 AllHold [] = Unit {0}
@@ -654,3 +662,21 @@ scaled-cases =
 pub scaled-rows : AllHold scaled-cases
 unfolding compute
 scaled-rows = (refl, (refl, (refl, (refl, (refl, (refl, (refl, (refl, (refl, (refl, (refl, (refl, (refl, (refl, (refl, (refl, (refl, (refl, (refl, (refl, (refl, (refl, (refl, (refl, (refl, (refl, (refl, (refl, (refl, (refl, (refl, (refl, (refl, (refl, (refl, (refl, (refl, (refl, (refl, (refl, (refl, (refl, (refl, (refl, (refl, (refl, (refl, (refl, (refl, (refl, (refl, (refl, (refl, (refl, (refl, (refl, (refl, (refl, (refl, (refl, (refl, (refl, (refl, (refl, (refl, (refl, (refl, (refl, (refl, (refl, (refl, (refl, (refl, (refl, (refl, (refl, (refl, (refl, (refl, (refl, (refl, (refl, (refl, (refl, (refl, (refl, (refl, (refl, (refl, (refl, (refl, (refl, (refl, (refl, (refl, (refl, (refl, (refl, tt))))))))))))))))))))))))))))))))))))))))))))))))))))))))))))))))))))))))))))))))))))))))))))))))))
+
+-- ---- request (vii): "from `i 1 1` and `i 2 126` to `i 250 250`"
+
+abbrev pub inverse-cases : List Case
+inverse-cases =
+    inverses-print "i\t1\t1\ni\t2\t126\ni\t3\t84\n" 250 250
+    ∷ inverse-lines 2 "i\t1\t1\n"
+    ∷ inverse-lines 13 "i\t1\t1\ni\t2\t7\ni\t3\t9\ni\t4\t10\ni\t5\t8\ni\t6\t11\ni\t7\t2\ni\t8\t5\ni\t9\t3\ni\t10\t4\ni\t11\t6\ni\t12\t12\n"
+    ∷ inverse-gives 251 2 0 126
+    ∷ inverse-gives 251 250 0 250
+    ∷ inverse-gives 251 0 12 0
+    ∷ inverse-gives 251 251 9 0
+    ∷ inverse-gives 241 2 0 121
+    ∷ []
+
+pub inverse-rows : AllHold inverse-cases
+unfolding compute
+inverse-rows = (refl, (refl, (refl, (refl, (refl, (refl, (refl, (refl, tt))))))))

@@ -1,4 +1,4 @@
--- `field::euclid::inverse_modulo` meets its contract. The loop's invariant is the Euclidean algorithm's (proofs/Cofactors.antt), with u above 1; the measure
+-- `field::euclid::inverse_by_euclid` meets its contract. The loop's invariant is the Euclidean algorithm's (proofs/Cofactors.antt), with u above 1; the measure
 -- is v.
 use mathlib.Core.Path.{_≡_, sym}
 use Prim.Native.Nat.{ℕ, _*_, _%_, _<_}
@@ -8,8 +8,8 @@ use Rattle.meaning.specs.Field.{inverse}
 use Rattle.residue.specs.Inverse.{inverse-none}
 use Rattle.field.proofs.Cofactors.{Euclid, start, turn-low, turn-high, low-fits, high-fits, found-low, found-high, none-low, none-high}
 use borrow.Author.Needs.{needs}
-use Rattle.field.proofs.euclid.inverse_modulo.Statement.{statement}
-use Rattle.field.proofs.euclid.inverse_modulo.Tie as tie
+use Rattle.field.proofs.euclid.inverse_by_euclid.Statement.{statement}
+use Rattle.field.proofs.euclid.inverse_by_euclid.Tie as tie
 
 abbrev Inv-loop : tie.InvT-loop
 Inv-loop p a u₀ v₀ s₀ t₀ u v s t = Euclid p a u v s t × (1 < u)
@@ -78,8 +78,8 @@ returns-4 c = sym (found-high (omega arith) (c .before .before .loop .inv .0) (c
 returns-5 : tie.Need-returns-5 Inv-loop μ-loop
 returns-5 c = sym (none-high (omega arith) (c .before .before .loop .inv .0) (omega arith) (c .before .before .loop .inv .1))
 
-pub inverse-modulo-spec : {M : Type 1} → statement M
-inverse-modulo-spec =
+pub inverse-by-euclid-spec : {M : Type 1} → statement M
+inverse-by-euclid-spec =
     tie.close
     (tie.spec
     Inv-loop
