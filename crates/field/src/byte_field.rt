@@ -1,10 +1,10 @@
-// Inverses modulo 251, from a table. It has bytes, since a constant is copied to the stack where it is used: 250 of them take less than half the
-// time of the Euclidean algorithm, 250 words would take twice that time.
+// Inverses modulo 251, from a table. It has bytes and not words, since a constant is copied to the stack, whole, wherever it is used.
 use crate::table::INVERSES;
 ghost use mathlib.Core.Path.{_≡_};
 ghost use Rattle.meaning.specs.Field.{inverse};
 ghost use Rattle.meaning.specs.Inverses.{ByteTable};
 
+// The table: the entry of an element stands at the place before its number.
 fn byte_inverses() -> [u8; 250]
     ensures { λ r. ⌜ ByteTable r ⌝ }
 {

@@ -5,7 +5,7 @@
 --     product-factor       g is so, if it kills r and is such a product
 --     blind-apply          a projection that sees nothing of w, A w, A²w, .. sees nothing of q(A)w
 --     pass-degree          t is at most the degree of whatever kills r
---     pass-early           f of the first M terms is one of the first N ≥ M terms too, if it kills r; waits for request (v)
+--     pass-early           f of the first M terms is one of the first N ≥ M terms too, if it kills r
 --   and if r has an annihilator of degree at most left, and f is of the first 2·left terms:
 --     pass-blind           u·Aʲf(A)r = 0 for every j
 --     pass-factor          whatever kills r has the factor f

@@ -663,8 +663,7 @@ pub scaled-rows : AllHold scaled-cases
 unfolding compute
 scaled-rows = (refl, (refl, (refl, (refl, (refl, (refl, (refl, (refl, (refl, (refl, (refl, (refl, (refl, (refl, (refl, (refl, (refl, (refl, (refl, (refl, (refl, (refl, (refl, (refl, (refl, (refl, (refl, (refl, (refl, (refl, (refl, (refl, (refl, (refl, (refl, (refl, (refl, (refl, (refl, (refl, (refl, (refl, (refl, (refl, (refl, (refl, (refl, (refl, (refl, (refl, (refl, (refl, (refl, (refl, (refl, (refl, (refl, (refl, (refl, (refl, (refl, (refl, (refl, (refl, (refl, (refl, (refl, (refl, (refl, (refl, (refl, (refl, (refl, (refl, (refl, (refl, (refl, (refl, (refl, (refl, (refl, (refl, (refl, (refl, (refl, (refl, (refl, (refl, (refl, (refl, (refl, (refl, (refl, (refl, (refl, (refl, (refl, (refl, tt))))))))))))))))))))))))))))))))))))))))))))))))))))))))))))))))))))))))))))))))))))))))))))))))))
 
--- ---- request (vii): "from `i 1 1` and `i 2 126` to `i 250 250`"
-
+-- document 02, request (vii): "from `i 1 1` and `i 2 126` to `i 250 250`"
 abbrev pub inverse-cases : List Case
 inverse-cases =
     inverses-print "i\t1\t1\ni\t2\t126\ni\t3\t84\n" 250 250

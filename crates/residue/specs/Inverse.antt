@@ -9,7 +9,7 @@
 --     euclid-lt        it is below p
 --     mul-euclid       (a · euclid p a) mod p is 1
 --     inverse-euclid   so it is the inverse
---     inverse-lt, mul-inverse      the same of the meaning's inverse, for a from 1 to p − 1; mul-inverse waits for request (vii)
+--     inverse-lt, mul-inverse      the same of the meaning's inverse, for a from 1 to p − 1
 --     mul-mod-nonzero  p divides a product only if it divides a factor
 use mathlib.Core.Path.{_≡_, refl, sym, ap, fun-ext, _∙_}
 use mathlib.Core.Logic.{_≢_}
