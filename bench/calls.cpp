@@ -15,6 +15,15 @@ void refused(Case &c, uint32_t refusal) { c.numbers = {refusal, 0, 0, 0, 0, 0, 0
 
 void field(Case &c) { refused(c, filzeur_field(c.s.p)); }
 
+void inverses(Case &c) {
+    refused(c, 0);
+    for (size_t i = 0; i < c.v.size(); i++) {
+        filzeur_element answer = filzeur_inverse(c.s.p, c.v[i]);
+        c.out[i] = answer.value;
+        c.numbers.refusal |= answer.refusal;
+    }
+}
+
 // What a product answers: before version 4 the refusal alone.
 #if FILZEUR_VERSION >= 4
 void written(Case &c, filzeur_written answer) {
@@ -102,5 +111,5 @@ void text(Case &c) {
 #define FILZEUR_VERSION 1
 #endif
 
-extern "C" const Calls our_calls{FILZEUR_VERSION, field, product, transposed, apply,
-                                 recurrence,      solve, write,   text};
+extern "C" const Calls our_calls{FILZEUR_VERSION, field, inverses, product, transposed, apply,
+                                 recurrence,      solve, write,    text};

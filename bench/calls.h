@@ -26,6 +26,7 @@ struct Case {
 struct Calls {
     int version; // FILZEUR_VERSION of the header
     void (*field)(Case &);
+    void (*inverses)(Case &); // of the elements of v, each a call
     void (*product)(Case &);
     void (*transposed)(Case &);
     void (*apply)(Case &);

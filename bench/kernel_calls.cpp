@@ -14,4 +14,5 @@ void apply(Case &c) {
 } // namespace
 
 // As a library of version 3, which counts no entries.
-extern "C" const Calls our_calls{3, nullptr, nullptr, nullptr, apply, nullptr, nullptr, nullptr, nullptr};
+extern "C" const Calls our_calls{3,     nullptr, nullptr, nullptr, nullptr,
+                                 apply, nullptr, nullptr, nullptr, nullptr};

@@ -170,6 +170,17 @@ void compare(std::vector<Library> &libraries) {
         Case c(s, s.b, s.b);
         row(libraries, "making a field, p = " + grouped(p), &Calls::field, c);
     }
+    // All inverses of a field, or as many evenly spread: modulo 251 a library from landing 16 on has a table.
+    for (uint32_t p : {241u, 251u, 2147483647u}) {
+        size_t n = std::min<size_t>(p - 1, 250);
+        Random random(p);
+        System s = some_system(random, n, 1, p, true);
+        Vector elements(n);
+        for (size_t i = 0; i < n; i++)
+            elements[i] = (p - 1) / n * i + 1;
+        Case c(s, elements, s.b);
+        row(libraries, grouped(n) + " inverses, p = " + grouped(p), &Calls::inverses, c);
+    }
     for (auto [n, k] : small)
         for (uint32_t p : {251u, 2147483647u}) {
             Random random(n * 1000 + k + p);
@@ -183,7 +194,7 @@ void compare(std::vector<Library> &libraries) {
             row(libraries, "small, text call" + size(n, k, p), &Calls::text, c);
         }
     for (auto [n, k] : sizes)
-        for (uint32_t p : {101u, 65537u, 2147483647u}) {
+        for (uint32_t p : {101u, 251u, 65537u, 2147483647u}) {
             Random random(n * 1000 + k + p);
             size_t rows = quick ? n / 10 : n;
             System s = some_system(random, rows, k, p, true);

@@ -579,7 +579,9 @@ for s, got in [
         ('inverse p=7 3', ref.field_inverse(7, 3)), ('inverse p=2 1', ref.field_inverse(2, 1)),
         ('inverse p=2147483647 2', ref.field_inverse(2147483647, 2)),
         ('inverse p=7 0', ref.field_inverse(7, 0)), ('inverse p=7 7', ref.field_inverse(7, 7)),
-        ('inverse p=6 0', ref.field_inverse(6, 0)), ('sum p=7 7 0', ref.field_sum(7, 7, 0)), ('sum p=1 0 0', ref.field_sum(1, 0, 0))]:
+        ('inverse p=6 0', ref.field_inverse(6, 0)), ('inverse p=251 0', ref.field_inverse(251, 0)), ('inverse p=251 251', ref.field_inverse(251, 251)),
+        *[('inverse p=251 %d' % a, ref.field_inverse(251, a)) for a in range(1, 251)],
+        *[('inverse p=241 %d' % a, ref.field_inverse(241, a)) for a in (1, 2, 126, 240)], ('sum p=7 7 0', ref.field_sum(7, 7, 0)), ('sum p=1 0 0', ref.field_sum(1, 0, 0))]:
     put('%s -> %s' % (s, '%d' % got[1] if got[0] == 'ok' else 'refused %d' % got[1]))
 
 open('cases.txt', 'w').write('\n'.join(out) + '\n')

@@ -1,13 +1,15 @@
 #!/usr/bin/env python3
-"""Holds the program to the reference in Python: what it prints, byte for byte.
+"""Holds the programs to the reference in Python: what they print, byte for byte.
 
     evidence/program.py
 
 Runs target/bin/solve (what `rt check solve` leaves, or what FILZEUR_PROGRAM names) on texts of each refusal and at the limits of document
-01, given at once and in pieces. Exit status 0: nothing differs."""
+01, given at once and in pieces; and target/bin/inverses once, whose numbers are also held to those of the field's table in the source. Exit
+status 0: nothing differs."""
 
 import collections
 import os
+import re
 import subprocess
 import sys
 import time
@@ -16,6 +18,8 @@ import reference
 import tools
 
 PROGRAM = os.environ.get('FILZEUR_PROGRAM', os.path.join(tools.ROOT, 'target', 'bin', 'solve'))
+INVERSES = os.path.join(tools.ROOT, 'target', 'bin', 'inverses')
+TABLE = os.path.join(tools.ROOT, 'crates', 'field', 'src', 'table.rt')
 HIGH = 2147483647
 LIMIT = reference.CALL_TEXT
 
@@ -235,11 +239,27 @@ def printed(pieces):
     return answer, process.wait()
 
 
+def inverses_differ():
+    """How many lines of what `inverses` prints differ from the reference's, and how many of its numbers from the table's."""
+    expected = reference.inverses_program()
+    run = subprocess.run([INVERSES], stdin=subprocess.DEVNULL, stdout=subprocess.PIPE)
+    got, right = run.stdout.split(b'\n'), expected.split(b'\n')
+    with open(TABLE) as source:
+        table = re.findall(r'^ +(\d+),$', source.read(), re.M)
+    numbers = [line.split(b'\t')[2].decode() for line in right if line]
+    assert right[:2] + right[249:] == [b'i\t1\t1', b'i\t2\t126', b'i\t250\t250', b'']
+    lines = sum(a != b for a, b in zip(got, right)) + abs(len(got) - len(right))
+    entries = sum(a != b for a, b in zip(table, numbers)) + abs(len(table) - len(numbers))
+    print('inverses: %d lines differ, status %d; %d entries of the table differ' % (lines, run.returncode, entries))
+    return lines + entries + (run.returncode != 0)
+
+
 def main():
     if len(sys.argv) > 1:
         sys.exit(__doc__)
-    if not os.path.exists(PROGRAM):
-        sys.exit('no program at %s (make it with `rt check solve`, or set FILZEUR_PROGRAM)' % PROGRAM)
+    for program in (PROGRAM, INVERSES):
+        if not os.path.exists(program):
+            sys.exit('no program at %s (make it with `rt check solve inverses`; FILZEUR_PROGRAM names another `solve`)' % program)
     began = time.time()
     refusals, runs, differ = collections.Counter(), 0, 0
     for number, text in texts():
@@ -256,7 +276,8 @@ def main():
     print('%d texts in %d runs, %d accepted; refused: %s; %.0f seconds' % (
         sum(refusals.values()), runs, refusals[0],
         ', '.join('%d × %d' % (refusals[k], k) for k in sorted(refusals) if k), time.time() - began))
-    print('program: %d differ' % differ)
+    differ += inverses_differ()
+    print('programs: %d differ' % differ)
     sys.exit(differ != 0)
 
 

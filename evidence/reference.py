@@ -1,6 +1,6 @@
 """Reference implementation of document 01 (Wiedemann solver modulo word-size primes).
 
-Plain Python 3, standard library only.  Written from 00-conditions.md, 01-scope.md, requests (i) to (iii), (v) and (vi) of
+Plain Python 3, standard library only.  Written from 00-conditions.md, 01-scope.md, requests (i) to (iii) and (v) to (vii) of
 02-change-requests.md and source 002 alone; but whoever wrote the cases of n = 0 had seen the library's checks 4 and 10,
 whoever wrote the window (B 33) had been told how the library reads request (v), though not seen its code, and whoever wrote
 the scales (B 35 to 39) had read how the library defines them, before there was code.
@@ -871,6 +871,11 @@ def program(standard_input):
     if result[0] == 'refused':
         return line('refused', result[1])
     return result[2][:result[1]]
+
+
+def inverses_program():
+    """The bytes printed by request (vii)'s program: a line for each element of the field of 251."""
+    return b''.join(line('i', a, inverse_mod(a, 251)) for a in range(1, 251))
 
 
 if __name__ == '__main__':

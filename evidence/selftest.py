@@ -669,6 +669,10 @@ def field_tests():
                 expect(ref.field_product(p, a, b) == (('ok', a * b % p) if ok else ('refused', 9)))
             got = ref.field_inverse(p, a)
             expect(got == ('refused', 9) if a >= p else got == ('refused', 12) if a == 0 else got[1] * a % p == 1)
+    for a in range(1, 251):
+        expect(ref.field_inverse(251, a)[1] * a % 251 == 1)
+    printed = ref.inverses_program()
+    expect(printed.startswith(b'i\t1\t1\ni\t2\t126\n') and printed.endswith(b'\ni\t250\t250\n') and printed.count(b'\n') == 250)
     expect(ref.field_sum(9, 100, 100) == ('refused', 3))
     expect(ref.field_inverse(4, 0) == ('refused', 3))
     expect(ref.field_inverse(2147483647, 2147483646) == ('ok', 2147483646))

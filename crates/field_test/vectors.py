@@ -113,6 +113,15 @@ def vectors():
     for p in list(range(13)) + [36, 100, 2147117569, 2147483646, 2147483648, 4294967291, top]:
         for a in sorted({0, 1, 2, 3, 10, 46337, pick.randrange(2**32), top}):
             yield 'v', p, a
+    # the modulus with a table, all of its elements and numbers that are none, and its neighbours
+    for a in [0, *range(251, 255), 501, 502, 503, 251 * 251, top // 251 * 251 - 1, top // 251 * 251, top // 251 * 251 + 1, top] + [pick.randrange(2**32) for _ in range(20)]:
+        yield 'v', 251, a
+    for a in range(1, 251):
+        yield 'v', 251, a
+    for p in (241, 250, 252, 257):
+        for a in sorted({0, 1, 2, 3, 126, 240, 249, 250, 251, p - 1, p, p + 1, pick.randrange(2**32), top}):
+            yield 'v', p, a
+            yield 'i', p, a
     # the slowest: neighbours in Fibonacci's sequence
     yield 'v', 2971215073, 1836311903
     yield 'v', 1836311903, 1134903170
