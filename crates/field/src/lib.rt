@@ -1,8 +1,8 @@
 // A prime field as document 01 has it: a record made from the modulus p, whose operations belong to it. Anyone may make up a record, so
 // every operation checks it first, then its operands.
 //
-// The contracts cite the crate meaning (Field: what the operations mean; Calls: what a call refuses and answers) and specs/Answer.antt (what
-// each case of an answer says).
+// The contracts cite the crate meaning (Field: what the operations mean; Inverses: what is asked of the table; Calls: what a call refuses and
+// answers) and specs/Answer.antt (what each case of an answer says).
 mod byte_field;
 mod euclid;
 mod table;
