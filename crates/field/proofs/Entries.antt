@@ -1,6 +1,6 @@
 -- The table of inverses modulo 251.
 --     inverts p l        the rule of all entries, as one test: each is below p, and it × its element is 1 modulo p
---     entry-below, entry-rule, entry-inverse      what the test says of the entry of an element
+--     entry-rule, entry-inverse      what the test says of the entry of an element
 --     inverts-inverses   .. and of the whole table: it is the meaning's
 --     byte-table         a table of 250 numbers that passes the test is what is asked of it
 use mathlib.Core.Path.{_≡_, sym, ap, subst, _∙_}

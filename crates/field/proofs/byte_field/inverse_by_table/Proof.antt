@@ -1,6 +1,6 @@
 -- `byte_field::inverse_by_table` meets its contract: a may be reduced first, and the table agrees with the inverse.
 use mathlib.Core.Path.{sym, ap, _∙_}
-use Prim.Native.Nat.{_%_, _<_}
+use Prim.Native.Nat.{_%_}
 use native.Mathlib.Nat.{mod-lt}
 use native.Mathlib.Omega.{arith}
 use Rattle.meaning.specs.Field.{inverse}
