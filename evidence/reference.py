@@ -2,8 +2,9 @@
 
 Plain Python 3, standard library only.  Written from 00-conditions.md, 01-scope.md, requests (i) to (iii) and (v) to (vii) of
 02-change-requests.md and source 002 alone; but whoever wrote the cases of n = 0 had seen the library's checks 4 and 10,
-whoever wrote the window (B 33) had been told how the library reads request (v), though not seen its code, and whoever wrote
-the scales (B 35 to 39) had read how the library defines them, before there was code.
+whoever wrote the window (B 33) had been told how the library reads request (v), though not seen its code, whoever wrote
+the scales (B 35 to 39) had read how the library defines them, before there was code, and whoever wrote the lines of the
+inverses (inverses_program) had written the library's.
 
 Every public call takes lists of ints (32-bit numbers, 0 .. 2**32 - 1) or bytes, never changes an argument, and
 returns either ('ok', ...) or ('refused', number).  A lent slice that is written is passed in with its old contents

@@ -1,12 +1,12 @@
 -- What the program of the inverses prints.
 --     Printed              a slice with room for 250 lines of 10 bytes gets the text at its front; a shorter one stays
---     inverseLine i        the line of the element i + 1
+--     lineAt i             the line of the element i + 1
 --     text-lines           the text by its lines
 --     text-short           it has at most 2,500 bytes
 --     printed-short, printed-wrote      the two cases
 use mathlib.Core.Path.{_≡_, refl, sym, ap, _∙_}
 use mathlib.Core.Bool.{cond}
-use mathlib.Core.List.{List, [], _∷_}
+use mathlib.Core.List.{List}
 use Prim.Native.Nat.{ℕ, _+_, _≤_, _<_}
 use native.Mathlib.Omega.{arith}
 use lib.Dec.{leb}
@@ -14,8 +14,8 @@ use lib.ListN.{length}
 use borrow.Author.Tests.{le-leb, lt-leb}
 use Rattle.meaning.specs.List.{at, table, all, flat, bytes, overwrite}
 use Rattle.meaning.specs.Field.{isPrime, inverse}
-use Rattle.meaning.specs.Text.{decimal, line}
-use Rattle.meaning.specs.Inverses.{inverses, inverseLines, inversesText}
+use Rattle.meaning.specs.Text.{decimal}
+use Rattle.meaning.specs.Inverses.{inverses, inverseLine, inverseLines, inversesText}
 use Rattle.laws.specs.List.{table-ext, length-table, getD-table}
 use Rattle.residue.specs.Prime.{Prime, isPrime-Prime}
 use Rattle.residue.specs.Inverse.{inverse-lt}
@@ -28,23 +28,23 @@ pub record Printed (out : List ℕ) (r : ℕ) (after : List ℕ) : Type 0 where
   pub slice : after ≡ cond (leb 2500 (length out)) (overwrite inversesText out) out
   pub within : r ≤ length after
 
-abbrev pub inverseLine : ℕ → List ℕ
-inverseLine i = line (bytes "i" ∷ decimal (i + 1) ∷ decimal (inverse 251 (i + 1)) ∷ [])
+abbrev pub lineAt : ℕ → List ℕ
+lineAt i = inverseLine (i + 1) (inverse 251 (i + 1))
 
-pub text-lines : inversesText ≡ flat (table 250 inverseLine)
+pub text-lines : inversesText ≡ flat (table 250 lineAt)
 unfolding inversesText inverseLines inverses
 text-lines =
     let numbers = table 250 (λ i. inverse 251 (i + 1)) in
-    ap (λ n. flat (table n (λ i. line (bytes "i" ∷ decimal (i + 1) ∷ decimal (at numbers i) ∷ [])))) (length-table 250 (λ i. inverse 251 (i + 1)))
+    ap (λ n. flat (table n (λ i. inverseLine (i + 1) (at numbers i)))) (length-table 250 (λ i. inverse 251 (i + 1)))
     ∙ ap flat
-    (table-ext 250 (λ i. line (bytes "i" ∷ decimal (i + 1) ∷ decimal (at numbers i) ∷ [])) inverseLine
-    (λ i h. ap (λ x. line (bytes "i" ∷ decimal (i + 1) ∷ decimal x ∷ [])) (getD-table 250 (λ j. inverse 251 (j + 1)) i 0 h)))
+    (table-ext 250 (λ i. inverseLine (i + 1) (at numbers i)) lineAt
+    (λ i h. ap (inverseLine (i + 1)) (getD-table 250 (λ j. inverse 251 (j + 1)) i 0 h)))
 
 byte-prime : Prime 251
 unfolding isPrime all
 byte-prime = isPrime-Prime 251 .0 refl
 
-line-short : (i : ℕ) → i < 250 → length (inverseLine i) ≤ 10
+line-short : (i : ℕ) → i < 250 → length (lineAt i) ≤ 10
 unfolding bytes
 line-short i h =
     omega (
@@ -59,7 +59,7 @@ text-short =
     omega (
       arith,
       ap length text-lines,
-      length-flat-rows (λ i. i) 10 250 inverseLine (λ i h. omega (arith, line-short i h)),
+      length-flat-rows (λ i. i) 10 250 lineAt (λ i h. omega (arith, line-short i h)),
     )
 
 pub printed-short : (out : List ℕ) → length out < 2500 → Printed out 0 out

@@ -1,6 +1,7 @@
 -- Document 02, (vii), "Inverses for the byte field".
 --     inverses p         "the 250 inverses of 1 to 250" for p = 251: those of 1 to p − 1, in their order
---     inverseLines l     "lines of `i`, element, inverse with tabs", one for each number of l; its element is its place, from 1
+--     inverseLine a x    "`i`, element, inverse with tabs"
+--     inverseLines l     such a line for each number of l; its element is its place, from 1
 --     inversesText       what the program prints
 --     ByteTable l        what is asked of the constant table l
 use mathlib.Core.Path.{_≡_}
@@ -14,8 +15,11 @@ use Rattle.meaning.specs.Text.{decimal, line}
 unfoldable pub inverses : ℕ → List ℕ
 inverses p = table (p - 1) (λ i. inverse p (i + 1))
 
+abbrev pub inverseLine : ℕ → ℕ → List ℕ
+inverseLine a x = line (bytes "i" ∷ decimal a ∷ decimal x ∷ [])
+
 unfoldable pub inverseLines : List ℕ → List ℕ
-inverseLines l = flat (table (length l) (λ i. line (bytes "i" ∷ decimal (i + 1) ∷ decimal (at l i) ∷ [])))
+inverseLines l = flat (table (length l) (λ i. inverseLine (i + 1) (at l i)))
 
 unfoldable pub inversesText : List ℕ
 inversesText = inverseLines (inverses 251)

@@ -84,7 +84,7 @@ pub data Case : Type 0 where
   -- the field: a number and an element
   sum-gives difference-gives product-of-gives : (p a b number element : ℕ) → Case
   inverse-gives : (p a number element : ℕ) → Case
-  -- the lines of the inverses modulo p; what the program prints: its front, the number of its lines, and the inverse in the last
+  -- the lines of the inverses modulo p; the front of what the program prints, the number of its inverses, and the last of them
   inverse-lines : (p : ℕ) (text : String) → Case
   inverses-print : (front : String) (count last : ℕ) → Case
 

@@ -1,24 +1,23 @@
 -- `inverse_lines::put_lines` meets its contract. The invariant: the lines of the first i elements are written.
 use mathlib.Core.Path.{_≡_, sym, ap, _∙_}
-use mathlib.Core.List.{[], _∷_}
 use Prim.Native.Nat.{_+_, _-_, _≤_}
 use native.Mathlib.Omega.{arith}
 use Rattle.meaning.specs.List.{bytes, table, flat}
-use Rattle.meaning.specs.Text.{decimal, line}
+use Rattle.meaning.specs.Inverses.{inverseLine}
 use Rattle.line_writer.specs.Written.{Wrote, wrote-line, wrote-as, wrote-rows-none, wrote-rows-more}
-use Rattle.inverse_lines.specs.Printed.{inverseLine, text-lines}
+use Rattle.inverse_lines.specs.Printed.{lineAt, text-lines}
 use borrow.Author.Needs.{needs}
 use Rattle.inverse_lines.proofs.put_lines.Statement.{statement}
 use Rattle.inverse_lines.proofs.put_lines.Tie as tie
 
 abbrev Inv-loop : tie.InvT-loop
-Inv-loop out₀ next₀ i₀ t6 out next i = (i ≤ 250) × Wrote out₀ 0 (flat (table i inverseLine)) next out
+Inv-loop out₀ next₀ i₀ t6 out next i = (i ≤ 250) × Wrote out₀ 0 (flat (table i lineAt)) next out
 
 abbrev μ-loop : tie.MeasureT-loop
 μ-loop out₀ next₀ i₀ t6 out next i = 250 - i
 
 loop-holds : tie.Need-loop-holds Inv-loop μ-loop
-loop-holds c = (omega arith, wrote-rows-none (c .before .args .out .now) 0 inverseLine (omega arith))
+loop-holds c = (omega arith, wrote-rows-none (c .before .args .out .now) 0 lineAt (omega arith))
 
 add-element : tie.Need-add-element Inv-loop μ-loop
 add-element c = search needs
@@ -55,8 +54,8 @@ loop-again c =
     let b = found .before .before in
     let i = b .loop .i in (
       omega (arith, found .before .loop-test .taken),
-      wrote-rows-more inverseLine i (b .loop .inv .1)
-          (wrote-as (ap (λ x. line (bytes "i" ∷ decimal (i + 1) ∷ decimal x ∷ [])) (found .inverse-by-euclid .ensures))
+      wrote-rows-more lineAt i (b .loop .inv .1)
+          (wrote-as (ap (inverseLine (i + 1)) (found .inverse-by-euclid .ensures))
           (wrote-line (e .ensures .0) (e .ensures .1))),
     )
 
@@ -67,7 +66,7 @@ returns : tie.Need-returns Inv-loop μ-loop
 returns c =
     let b = c .before in
     let all : b .loop .i ≡ 250 = omega (arith, c .loop-test .left, b .loop .inv .0) in
-    wrote-as (ap (λ n. flat (table n inverseLine)) all ∙ sym text-lines) (b .loop .inv .1)
+    wrote-as (ap (λ n. flat (table n lineAt)) all ∙ sym text-lines) (b .loop .inv .1)
 
 pub put-lines-spec : {M : Type 1} → statement M
 put-lines-spec =
