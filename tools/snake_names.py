@@ -74,9 +74,24 @@ def main():
         if taken.fullmatch(to):
             print('reserved:', to)
     token = re.compile(rf'(?<![\w\'′-])({WORD})')
+    own = {d.name for d in pathlib.Path('crates').iterdir()}
 
-    def turn(text):
-        return token.sub(lambda m: new.get(m[1], m[1]), text)
+    def imported(text):
+        """The names that a file takes from the library: they keep their spelling there."""
+        found = set()
+        for m in re.finditer(r'^(?:ghost )?(?:pub )?use ([\w.]+)\.\{([^}]*)\}', text, re.M):
+            path = m[1].split('.')
+            if not (path[0] == 'Rattle' and path[1] in own):
+                found |= {n.strip() for n in m[2].split(',')}
+        return found
+
+    def turn(text, kept=frozenset()):
+        def one(m):
+            if m[1] in kept and text[m.start() - 1:m.start()] != '.':
+                return m[1]
+            return new.get(m[1], m[1])
+
+        return token.sub(one, text)
 
     if '--map' in sys.argv:
         for n in sorted(new):
@@ -85,7 +100,9 @@ def main():
         return
     for f in files('crates/*/specs/**/*.antt', 'crates/*/proofs/**/*.antt', 'crates/*/src/**/*.rt'):
         old = f.read_text()
-        text = re.sub(r'"(?:[^"\\\n]|\\.)*"|[^"]+|"', lambda m: m[0] if m[0].startswith('"') and len(m[0]) > 1 else turn(m[0]), old)
+        kept = imported(old)
+        pieces = re.findall(r'"(?:[^"\\\n]|\\.)*"|[^"]+|"', old)
+        text = ''.join(p if p.startswith('"') and len(p) > 1 else turn(p, kept) for p in pieces)
         if text != old:
             f.write_text(text)
     for f in files('crates/*/must-fail/*.edit'):

@@ -12,7 +12,7 @@
 --     sum_reverse      the last term first
 use Rattle.std.specs.Prelude.{◌≡◌, ◌≢◌, ℕ, zero, suc, ◌+◌, ◌-◌, ◌≤◌, ◌<◌}
 use Rattle.std.proofs.Math.Path.{refl}
-use Rattle.std.proofs.Common.{sym, ap, ap₂, ◌∙◌, add_zero, add-suc, add-sub_of_le, arith}
+use Rattle.std.proofs.Common.{sym, ap, ap₂, ◌∙◌, add-zero, add-suc, add-sub_of_le, arith}
 use Rattle.algebra.specs.Ring.{Ring, ring-laws}
 use Rattle.algebra.specs.Ring as ring
 
@@ -64,7 +64,7 @@ module _ (R : Ring) where
       sum_suc n f ∙ ap₂ ◌⊕◌ (sum_zeros n f (λ i l. h i (omega arith))) (h n (omega arith)) ∙ ring.add_zero R 𝟎
 
   pub sum_split : (m n : ℕ) (f : ℕ → C) → sum (m + n) f ≡ sum m f ⊕ sum n (λ i. f (m + i))
-  sum_split m zero f = ap (λ k. sum k f) (add_zero m) ∙ simp (sum_zero, ring-laws)
+  sum_split m zero f = ap (λ k. sum k f) (add-zero m) ∙ simp (sum_zero, ring-laws)
   sum_split m (suc n) f =
       ap (λ k. sum k f) (add-suc m n) ∙ simp (sum_suc, sum_split m n f, ring-laws)
 

@@ -9,7 +9,7 @@
 --     accepted_scaled                   AX passes the checks that A and X pass
 --     diagonal_zero                     X takes no vector but zero to zero
 use Rattle.std.specs.Prelude.{◌≡◌, refl, ◌≢◌, true, List, [], ℕ, ◌+◌, ◌-◌, ◌*◌, ◌%◌, ◌≤◌, ◌<◌, ltb, leb, length}
-use Rattle.std.proofs.Common.{sym, ◌∙◌, mod-lt, mod-eq_of_lt, zero_mul, mul_one, mul_assoc, mul_comm, pos_of_ne-zero, arith, ltb-true, leb-true, lt-ltb, le-leb}
+use Rattle.std.proofs.Common.{sym, ◌∙◌, mod-lt, mod-eq_of_lt, zero-mul, mul-one, mul_assoc, mul_comm, pos_of_ne-zero, arith, ltb-true, leb-true, lt-ltb, le-leb}
 use Rattle.std.proofs.Math.Path.{ap}
 use Rattle.std.proofs.Math.Nat.{zero-mod}
 use Rattle.std.proofs.Math.Decide.{dec_lt, ℕ_discrete}
@@ -36,7 +36,7 @@ at_times p l f i = place (dec_lt i (length l))
     place (yes k) = get_or_table (length l) (λ i. at l i * f i % p) i 0 k
     place (no k) =
         get_or_table_past (length l) (λ i. at l i * f i % p) i 0 (omega arith) ∙ sym (zero-mod p)
-        ∙ ap (λ x. x % p) (sym (zero_mul (f i))) ∙ ap (λ x. x * f i % p) (sym (get_or-eq_default l 0 {n = i} (omega arith)))
+        ∙ ap (λ x. x % p) (sym (zero-mul (f i))) ∙ ap (λ x. x * f i % p) (sym (get_or-eq_default l 0 {n = i} (omega arith)))
 
 pub length_diagonal : (p : ℕ) (X v : List ℕ) → length (diagonal p X v) ≡ length v
 unfolding diagonal
@@ -99,7 +99,7 @@ module _ (p : ℕ) (X Y : List ℕ) (same : (j : ℕ) → scale_at X j ≡ scale
 
 one_times : (p : ℕ) (l : List ℕ) → ((i : ℕ) → i < length l → at l i < p) → table (length l) (λ i. at l i * 1 % p) ≡ l
 one_times p l h =
-    sym (table_of 0 l (length l) (λ i. at l i * 1 % p) refl (λ i k. sym (ap (λ x. x % p) (mul_one (at l i)) ∙ mod-eq_of_lt (h i k))))
+    sym (table_of 0 l (length l) (λ i. at l i * 1 % p) refl (λ i k. sym (ap (λ x. x % p) (mul-one (at l i)) ∙ mod-eq_of_lt (h i k))))
 
 pub diagonal_none : (p : ℕ) (v : List ℕ) → ((i : ℕ) → i < length v → at v i < p) → diagonal p [] v ≡ v
 unfolding diagonal

@@ -15,7 +15,7 @@
 --     Applicable, apply_accepted; takes_accepted             the same of g(AX)v, and of the check that A takes x to b
 use Rattle.std.specs.Prelude.{◌≡◌, refl, ◌≢◌, Bool, true, ◌&&◌, ◌||◌, not, ℕ, zero, suc, ◌+◌, ◌-◌, ◌*◌, ◌≤◌, ◌<◌, eqb, ltb, leb, length}
 use Rattle.std.proofs.Math.Path.{sym, ap}
-use Rattle.std.proofs.Common.{ap₂, ◌∙◌, subst, add_zero, add-sub_of_le, pos_of_ne-zero, add-one, arith}
+use Rattle.std.proofs.Common.{ap₂, ◌∙◌, subst, add-zero, add-sub_of_le, pos_of_ne-zero, add-one, arith}
 use mathlib.Core.List.{List, [], ◌∷◌, ◌++◌, append_assoc}
 use Rattle.std.proofs.Math.Nat.{sub_self}
 use Rattle.std.proofs.Math.Decide.{dec_lt}
@@ -77,7 +77,7 @@ module _ (a : ℕ) (f : ℕ → Bool) where
 -- the last column of a row that rises is its greatest
 module _ (n from end : ℕ) (columns : List ℕ) where
   below_last : all_from from (end - 1) (rises columns) ≡ true → at columns (end - 1) < n → (d k : ℕ) → from ≤ k → k + d ≡ end - 1 → at columns k < n
-  below_last r h zero k l e = subst (λ i. at columns i < n) (sym e ∙ add_zero k) h
+  below_last r h zero k l e = subst (λ i. at columns i < n) (sym e ∙ add-zero k) h
   below_last r h (suc d) k l e =
       let next = ltb-true (at columns k) (at columns (k + 1)) (all_from_at from (rises columns) (end - 1) r k l (omega (arith, e))) in
       let ih = below_last r h d (k + 1) (omega (arith, l)) (omega (arith, e)) in

@@ -31,7 +31,7 @@
 --     Annihilator A m v    some monic polynomial of degree at most m kills v
 use Rattle.std.specs.Prelude.{◌≡◌, ◌≢◌, ℕ, zero, suc, ◌+◌, ◌≤◌, ◌<◌}
 use Rattle.std.proofs.Math.Path.{refl, ap, fun_ext}
-use Rattle.std.proofs.Common.{sym, ap₂, ◌∙◌, add_zero, zero_add, suc-add, arith}
+use Rattle.std.proofs.Common.{sym, ap₂, ◌∙◌, add-zero, zero-add, suc-add, arith}
 use Rattle.std.proofs.Math.Decide.{dec_lt}
 use Rattle.algebra.specs.Ring.{Ring, ring-laws}
 use Rattle.algebra.specs.Ring as ring
@@ -82,7 +82,7 @@ module _ (R : Ring) where
 
   pub unit_same : (k : ℕ) → unit k k ≡ 𝟏
   unfolding unit
-  unit_same k = ap (shifts R k (const R 𝟏)) (sym (add_zero k)) ∙ shifts_high R k (const R 𝟏) 0 ∙ const_zero R 𝟏
+  unit_same k = ap (shifts R k (const R 𝟏)) (sym (add-zero k)) ∙ shifts_high R k (const R 𝟏) 0 ∙ const_zero R 𝟏
 
   pub unit_other : (k i : ℕ) → i ≢ k → unit k i ≡ 𝟎
   unfolding unit
@@ -162,7 +162,7 @@ module _ (R : Ring) (A : Operator R) where
   power_operator (suc k) v = simp (power_suc, power_operator k v)
 
   pub power_power : (i j : ℕ) (v : ℕ → C) → power R A i (power R A j v) ≡ power R A (i + j) v
-  power_power zero j v = simp (power_zero, zero_add)
+  power_power zero j v = simp (power_zero, zero-add)
   power_power (suc i) j v = simp (power_suc, suc-add, power_power i j v)
 
   pub apply_at : (m : ℕ) (f v : ℕ → C) (place : ℕ) → apply R A m f v place ≡ sum R m (λ i. f i ⊗ power R A i v place)

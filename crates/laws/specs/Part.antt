@@ -8,7 +8,7 @@
 --     written_next     one place more, from the front
 --     written_table    a whole slice that was written
 use Rattle.std.specs.Prelude.{◌≡◌, List, ℕ, ◌+◌, ◌≤◌, ◌<◌, length, take, drop, set}
-use Rattle.std.proofs.Common.{sym, ap, ◌∙◌, subst, zero_add, arith, length-drop, ext_get_or, get_or-take, get_or-drop, length-take-le}
+use Rattle.std.proofs.Common.{sym, ap, ◌∙◌, subst, zero-add, arith, length-drop, ext_get_or, get_or-take, get_or-drop, length-take-le}
 use Rattle.meaning.specs.List.{at, table}
 use Rattle.laws.specs.List.{table_of}
 use Rattle.laws.specs.Written.{Written, written_more}
@@ -49,8 +49,8 @@ written_other {W} {W'} b m l d h = part_ext b m W' W (omega (arith, h.same_lengt
 
 pub written_next : {W W' : List ℕ} {i : ℕ} {f : ℕ → ℕ} (v : ℕ) → Written W 0 i f W' → i < length W → v ≡ f i → Written W 0 (i + 1) f (set W' i v)
 written_next {W} {W'} {i} {f} v h l e =
-    subst (λ k. Written W 0 (i + 1) f (set W' k v)) (zero_add i) (written_more v h (omega (arith, l)) e)
+    subst (λ k. Written W 0 (i + 1) f (set W' k v)) (zero-add i) (written_more v h (omega (arith, l)) e)
 
 pub written_table : (W : List ℕ) (n : ℕ) (f : ℕ → ℕ) (W' : List ℕ) → length W ≡ n → Written W 0 n f W' → W' ≡ table n f
 written_table W n f W' e h =
-    table_of 0 W' n f (h.same_length ∙ e) (λ i k. ap (at W') (sym (zero_add i)) ∙ h.inside i k)
+    table_of 0 W' n f (h.same_length ∙ e) (λ i k. ap (at W') (sym (zero-add i)) ∙ h.inside i k)

@@ -9,7 +9,7 @@
 --     every_run_by_entry                 of a run: applications × entries
 --     multiplied_most                    k products with at most m entries each
 use Rattle.std.specs.Prelude.{◌≡◌, refl, List, ℕ, zero, suc, ◌+◌, ◌-◌, ◌*◌, ◌≤◌, ◌<◌, length}
-use Rattle.std.proofs.Common.{sym, ap, ap₂, ◌∙◌, zero_mul, suc-mul, one_mul, mul_one, add_mul, mul-le-mul_left, add-one, arith}
+use Rattle.std.proofs.Common.{sym, ap, ap₂, ◌∙◌, zero-mul, suc-mul, one-mul, mul-one, add-mul, mul-le-mul_left, add-one, arith}
 use Rattle.meaning.specs.List.{sum, sum_from}
 use Rattle.meaning.specs.Matrix.{Matrix, size, entry_count, row_entries, per_product, multiplied, scaled}
 use Rattle.meaning.specs.Refusal.{first, unless_refused, matrix_checks}
@@ -20,11 +20,11 @@ use Rattle.laws.specs.Refusal.{first_append_zero, numbered_matrix, unless_refuse
 use Rattle.laws.specs.Accepted.{start, AcceptedSystem, matrix_accepted, run_accepted}
 
 pub sum_same : (n c : ℕ) → sum n (λ i. c) ≡ n * c
-sum_same zero c = sum_zero (λ i. c) ∙ sym (zero_mul c)
+sum_same zero c = sum_zero (λ i. c) ∙ sym (zero-mul c)
 sum_same (suc n) c = sum_suc n (λ i. c) ∙ ap (λ k. k + c) (sum_same n c) ∙ sym (suc-mul n c)
 
 pub sum_from_ones : (from to : ℕ) → sum_from from to (λ k. 1) ≡ to - from
-sum_from_ones from to = sum_same (to - from) 1 ∙ mul_one (to - from)
+sum_from_ones from to = sum_same (to - from) 1 ∙ mul-one (to - from)
 
 -- ---- some products
 
@@ -34,14 +34,14 @@ module _ (A : Matrix) where
   multiplied_times k = sum_same k (per_product A)
 
   pub multiplied_none : multiplied 0 A ≡ 0
-  multiplied_none = multiplied_times 0 ∙ zero_mul (per_product A)
+  multiplied_none = multiplied_times 0 ∙ zero-mul (per_product A)
 
   pub multiplied_one : multiplied 1 A ≡ per_product A
-  multiplied_one = multiplied_times 1 ∙ one_mul (per_product A)
+  multiplied_one = multiplied_times 1 ∙ one-mul (per_product A)
 
   pub multiplied_add : (j k : ℕ) → multiplied (j + k) A ≡ multiplied j A + multiplied k A
   multiplied_add j k =
-      multiplied_times (j + k) ∙ add_mul j k (per_product A) ∙ sym (ap₂ ◌+◌ (multiplied_times j) (multiplied_times k))
+      multiplied_times (j + k) ∙ add-mul j k (per_product A) ∙ sym (ap₂ ◌+◌ (multiplied_times j) (multiplied_times k))
 
   pub multiplied_most : (m k : ℕ) → per_product A ≤ m → multiplied k A ≤ k * m
   multiplied_most m k l = omega (arith, multiplied_times k, mul-le-mul_left k l)
@@ -82,7 +82,7 @@ counted p A k (suc number) h =
 
 module _ (p : ℕ) (A : Matrix) where
   one_each : (number : ℕ) → unless_refused number (1 * entry_count A) 0 ≡ unless_refused number (entry_count A) 0
-  one_each number = ap (λ m. unless_refused number m 0) (one_mul (entry_count A))
+  one_each number = ap (λ m. unless_refused number m 0) (one-mul (entry_count A))
 
   pub product_by_entry : (v out : List ℕ) → product_count p A v out ≡ unless_refused (product_refusal p A v out) (entry_count A) 0
   unfolding product_refusal

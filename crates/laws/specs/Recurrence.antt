@@ -17,7 +17,7 @@
 --     degree_within, length_generator, generator_below       L ≤ N; f has L + 1 elements, all below p
 use Rattle.std.specs.Prelude.{◌≡◌, ◌≢◌, true, ◌&&◌, List, [], ◌∷◌, length, take, eqb}
 use Rattle.std.proofs.Math.Path.{refl, ap}
-use Rattle.std.proofs.Common.{sym, ap₂, ◌∙◌, subst, mul_zero, mod-eq_of_lt, arith, get_or-take}
+use Rattle.std.proofs.Common.{sym, ap₂, ◌∙◌, subst, mul-zero, mod-eq_of_lt, arith, get_or-take}
 use Prim.Native.Nat.{ℕ, zero, suc, ◌+◌, ◌-◌, ◌*◌, ◌%◌, ◌≤◌, ◌<◌, max}
 use Rattle.std.proofs.Math.Nat.{mod-lt, zero-mod, sub-zero, add-mod_right, le-max_left, le-max_right}
 use Rattle.std.proofs.Math.Decide.{dec_lt, ℕ_discrete}
@@ -59,7 +59,7 @@ minus_lt p a b z = mod-lt (a + (p - b)) z
 
 pub times_zero : (p a : ℕ) → times p a 0 ≡ 0
 unfolding times
-times_zero p a = ap (λ x. x % p) (mul_zero a) ∙ zero-mod p
+times_zero p a = ap (λ x. x % p) (mul-zero a) ∙ zero-mod p
 
 pub minus_zero : (p a : ℕ) → a < p → minus p a 0 ≡ a
 unfolding minus

@@ -4,7 +4,7 @@
 --     scale_of             .. is Xv for a modulus that `of` made, elements below p, and no scales or as many, below p too
 use Rattle.std.specs.Prelude.{◌≡◌, ℕ, ◌*◌, ◌%◌, ◌<◌, cond, ◌≢◌, ◌⊎◌, List, [], length, ◌==◌}
 use Rattle.std.proofs.Math.Path.{refl, ap}
-use Rattle.std.proofs.Common.{sym, ◌∙◌, inl, inr, mul_one, mod-eq_of_lt, arith, eq-eqb, ne_eqb}
+use Rattle.std.proofs.Common.{sym, ◌∙◌, inl, inr, mul-one, mod-eq_of_lt, arith, eq-eqb, ne_eqb}
 use Rattle.std.proofs.Math.Decide.{ℕ_discrete}
 use Rattle.meaning.specs.List.{at, table}
 use Rattle.meaning.specs.Matrix.{scale_at, diagonal}
@@ -47,4 +47,4 @@ module _ (m : Modulus) (X v : List ℕ) where
           none (inr e) = absurd (q e)
 
           plain : (j : ℕ) → j < length v → X ≡ [] → at v j ≡ at v j * scale_at X j % m.p
-          plain j l z = sym (ap (λ Y. at v j * scale_at Y j % m.p) z ∙ ap (λ x. x % m.p) (mul_one (at v j)) ∙ mod-eq_of_lt (elements j l))
+          plain j l z = sym (ap (λ Y. at v j * scale_at Y j % m.p) z ∙ ap (λ x. x % m.p) (mul-one (at v j)) ∙ mod-eq_of_lt (elements j l))

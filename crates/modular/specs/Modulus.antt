@@ -17,7 +17,7 @@
 --     times_of, added_of
 use Rattle.std.specs.Prelude.{◌≡◌, ℕ, ◌+◌, ◌-◌, ◌*◌, ◌/◌, ◌%◌, ◌<◌, ◌≤◌, Bool, true, false, cond, nat_lt, refl}
 use Rattle.std.proofs.Math.Path.{sym, ap}
-use Rattle.std.proofs.Common.{◌∙◌, zero_mul, one_mul, add_mul, add_zero, div-lt_iff_lt-mul, le-div_iff_mul-le, lt_of_le_of_lt, arith, lt-ltb, le-ltb}
+use Rattle.std.proofs.Common.{◌∙◌, zero-mul, one-mul, add-mul, add-zero, div-lt_iff_lt-mul, le-div_iff_mul-le, lt_of_le_of_lt, arith, lt-ltb, le-ltb}
 use Rattle.std.proofs.Math.Nat.{mod-lt, mod-eq_of_lt, div-eq_of_lt-le}
 use Rattle.std.proofs.Math.Decide.{dec_lt}
 use Rattle.meaning.specs.Field.{plus, minus, times}
@@ -96,7 +96,7 @@ module _ (p x y : ℕ) (s : p ≤ 2147483647) where
   restored_le : y ≤ x → x - y < p → restored p (lessened x y) ≡ x - y
   restored_le l k =
       ap (restored p) (lessened_whole x y l (omega (arith, s, k))) ∙ restored_bit p (x - y) 0 (omega (arith, s, k))
-      ∙ ap (λ n. (x - y + n) % 4294967296) (zero_mul p) ∙ omega (arith, s, k)
+      ∙ ap (λ n. (x - y + n) % 4294967296) (zero-mul p) ∙ omega (arith, s, k)
 
   lessened_below : x < y → y ≤ x + p → lessened x y ≡ 4294967296 - (y - x)
   unfolding lessened
@@ -105,7 +105,7 @@ module _ (p x y : ℕ) (s : p ≤ 2147483647) where
   restored_lt : x < y → y ≤ x + p → restored p (lessened x y) ≡ x + p - y
   restored_lt l k =
       ap (restored p) (lessened_below l k) ∙ restored_bit p (4294967296 - (y - x)) 1 (omega (arith, s, l, k))
-      ∙ ap (λ n. (4294967296 - (y - x) + n) % 4294967296) (one_mul p) ∙ omega (arith, s, l, k)
+      ∙ ap (λ n. (4294967296 - (y - x) + n) % 4294967296) (one-mul p) ∙ omega (arith, s, l, k)
 
 reduced_mod : (p s : ℕ) → p ≤ 2147483647 → s < p + p → reduced p s ≡ s % p
 unfolding reduced
@@ -131,10 +131,10 @@ corrected p x q s low high k = go (dec_lt (x - q * p) p)
 
     go : Dec (x - q * p < p) → (q + cond (nat_lt (lessened x (q * p)) p) 0 1) % 4294967296 ≡ x / p
     go (yes a) =
-        by true 0 (lt-ltb (x - q * p) p a) refl (div-eq_of_lt-le {k = q} p low (omega (arith, a, low, add_mul q 1 p, one_mul p)) ∙ sym (add_zero q))
+        by true 0 (lt-ltb (x - q * p) p a) refl (div-eq_of_lt-le {k = q} p low (omega (arith, a, low, add-mul q 1 p, one-mul p)) ∙ sym (add-zero q))
     go (no a) =
         by false 1 (le-ltb (x - q * p) p (omega (arith, a))) refl
-        (div-eq_of_lt-le {k = q + 1} p (omega (arith, a, low, add_mul q 1 p, one_mul p)) (omega (arith, high, low, add_mul q 1 p, add_mul (q + 1) 1 p, one_mul p)))
+        (div-eq_of_lt-le {k = q + 1} p (omega (arith, a, low, add-mul q 1 p, one-mul p)) (omega (arith, high, low, add-mul q 1 p, add-mul (q + 1) 1 p, one-mul p)))
 
 -- ---- a modulus
 

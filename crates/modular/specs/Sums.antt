@@ -7,7 +7,7 @@
 --     Summed           the invariant of every loop that sums into a total: summed_none where it begins, summed_more for a turn, summed_one for a
 --                      turn with one term, summed_both for two such loops after each other
 use Rattle.std.specs.Prelude.{◌≡◌, ℕ, zero, suc, ◌+◌, ◌-◌, ◌<◌, ◌≤◌}
-use Rattle.std.proofs.Common.{sym, ap, ap₂, ◌∙◌, zero_add, add_zero, add_assoc, add-suc, add-sub_of_le, add-one, arith}
+use Rattle.std.proofs.Common.{sym, ap, ap₂, ◌∙◌, zero-add, add-zero, add_assoc, add-suc, add-sub_of_le, add-one, arith}
 use Rattle.std.proofs.Math.Nat.{sub-zero, sub_self}
 use Rattle.meaning.specs.List.{sum, sum_from}
 use Rattle.laws.specs.List.{sum_zero, sum_suc, sum_ext}
@@ -21,7 +21,7 @@ sum_from_empty a f = ap (λ n. sum n (λ j. f (a + j))) (sub_self a) ∙ sum_zer
 
 pub sum_from_zero : (n : ℕ) (f : ℕ → ℕ) → sum_from 0 n f ≡ sum n f
 sum_from_zero n f =
-    ap (λ m. sum m (λ j. f (0 + j))) (sub-zero n) ∙ sum_ext n (λ j. f (0 + j)) f (λ i l. ap f (zero_add i))
+    ap (λ m. sum m (λ j. f (0 + j))) (sub-zero n) ∙ sum_ext n (λ j. f (0 + j)) f (λ i l. ap f (zero-add i))
 
 pub sum_from_suc : (a b : ℕ) (f : ℕ → ℕ) → a ≤ b → sum_from a (suc b) f ≡ sum_from a b f + f b
 sum_from_suc a b f l =
@@ -37,7 +37,7 @@ sum_from_split a b c f l k =
   where
     go : (n : ℕ) → sum_from a (b + n) f ≡ sum_from a b f + sum_from b (b + n) f
     go zero =
-        ap (λ n. sum_from a n f) (add_zero b) ∙ omega (arith, ap (λ n. sum_from b n f) (add_zero b) ∙ sum_from_empty b f)
+        ap (λ n. sum_from a n f) (add-zero b) ∙ omega (arith, ap (λ n. sum_from b n f) (add-zero b) ∙ sum_from_empty b f)
     go (suc n) =
         ap (λ n. sum_from a n f) (add-suc b n) ∙ sum_from_suc a (b + n) f (omega arith) ∙ ap (λ x. x + f (b + n)) (go n)
         ∙ omega (arith, ap (λ n. sum_from b n f) (add-suc b n) ∙ sum_from_suc b (b + n) f (omega arith))
@@ -48,7 +48,7 @@ module _ (a : ℕ) (f : ℕ → ℕ) where
   more k x e = ap (λ n. sum_from a n f) (add-suc a k) ∙ sum_from_suc a (a + k) f (omega arith) ∙ ap (λ y. y + f (a + k)) e
 
   pub sum_from_one : sum_from a (a + 1) f ≡ f a
-  sum_from_one = sum_from_next a a f (omega arith) ∙ ap (λ x. x + f a) (sum_from_empty a f) ∙ zero_add (f a)
+  sum_from_one = sum_from_next a a f (omega arith) ∙ ap (λ x. x + f a) (sum_from_empty a f) ∙ zero-add (f a)
 
   pub sum_from_two : sum_from a (a + 2) f ≡ f a + f (a + 1)
   sum_from_two = more 1 (f a) sum_from_one
@@ -75,7 +75,7 @@ pub record Summed (t r : Total) (a b : ℕ) (f : ℕ → ℕ) : Type 0 where
 
 pub summed_none : (t : Total) (a : ℕ) (f : ℕ → ℕ) → t.low < 18446744073709551616 → t.high ≤ a → Summed t t a a f
 summed_none t a f l h =
-    record { sum = sym (ap (λ x. number t + x) (sum_from_empty a f) ∙ add_zero (number t)); low = l; carries = h }
+    record { sum = sym (ap (λ x. number t + x) (sum_from_empty a f) ∙ add-zero (number t)); low = l; carries = h }
 
 -- a turn adds the word x
 pub summed_more : (t s r : Total) (a b c : ℕ) (f : ℕ → ℕ) (x : ℕ) → a ≤ b → b < c → c < 4294967296 → Summed t s a b f

@@ -7,7 +7,7 @@
 --     high_fits, fold_fits             what `residue_of` adds up fits a word, whatever the words are
 --     residue_number   the number modulo p
 use Rattle.std.specs.Prelude.{◌≡◌, ℕ, zero, suc, ◌+◌, ◌*◌, ◌/◌, ◌%◌, ◌<◌, ◌≤◌}
-use Rattle.std.proofs.Common.{sym, ap, ◌∙◌, mod-lt, mod-eq_of_lt, mul-le-mul, div-add-mod', suc-mul, zero_mul, one_mul, arith}
+use Rattle.std.proofs.Common.{sym, ap, ◌∙◌, mod-lt, mod-eq_of_lt, mul-le-mul, div-add-mod', suc-mul, zero-mul, one-mul, arith}
 use Rattle.std.proofs.Math.Nat.{add-mod-mod, mod-add-div'}
 use Rattle.residue.specs.Numbers.{mul_mod_mod}
 use Rattle.modular.specs.declared.modulus.Modulus.{Modulus}
@@ -70,8 +70,8 @@ module _ (low high weight : ℕ) (k : low < 18446744073709551616) (h : high < 42
       (mod-lt s (omega arith)) (div-add-mod' s 18446744073709551616)
     where
       go : (q r : ℕ) → q ≤ 1 → r < 18446744073709551616 → q * 18446744073709551616 + r ≡ low + high * weight → r + q * weight < 18446744073709551616
-      go zero r a b e = omega (arith, b, zero_mul weight)
-      go (suc zero) r a b e = omega (arith, e, k, high_fits, one_mul weight)
+      go zero r a b e = omega (arith, b, zero-mul weight)
+      go (suc zero) r a b e = omega (arith, e, k, high_fits, one-mul weight)
       go (suc (suc q)) r a b e = absurd (omega (arith, a))
 
 fold_number : (p weight low high : ℕ) → weight ≡ 18446744073709551616 % p

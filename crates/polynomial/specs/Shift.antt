@@ -6,7 +6,7 @@
 --     product_shifts_left  zʲ comes out of a product
 use Rattle.std.specs.Prelude.{◌≡◌, ℕ, zero, suc, ◌+◌, ◌-◌, ◌<◌}
 use Rattle.std.proofs.Math.Path.{refl}
-use Rattle.std.proofs.Common.{sym, ap, ◌∙◌, zero_add, suc-add, arith}
+use Rattle.std.proofs.Common.{sym, ap, ◌∙◌, zero-add, suc-add, arith}
 use Rattle.algebra.specs.Ring.{Ring}
 use Rattle.algebra.specs.Polynomial.{Below, shift, shift_zero, shift_suc, product}
 use Rattle.polynomial.specs.Product.{product_shift_left}
@@ -32,7 +32,7 @@ module _ (R : Ring) where
   shifts_low (suc j) f (suc i) l = rw (shifts_suc j f) (shift_suc R (shifts j f) i ∙ shifts_low j f i (omega arith))
 
   pub shifts_high : (j : ℕ) (f : ℕ → C) (i : ℕ) → shifts j f (j + i) ≡ f i
-  shifts_high zero f i = rw (shifts_zero f, zero_add)
+  shifts_high zero f i = rw (shifts_zero f, zero-add)
   shifts_high (suc j) f i = rw (shifts_suc j f, suc-add) (shift_suc R (shifts j f) (j + i) ∙ shifts_high j f i)
 
   pub shifts_below : (j n : ℕ) (f : ℕ → C) → Below R n f → Below R (j + n) (shifts j f)

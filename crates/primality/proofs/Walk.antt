@@ -9,7 +9,7 @@ use mathlib.Core.Logic.{◌≢◌}
 use mathlib.Core.Bool.{Bool, true, false, ◌&&◌, true≢false}
 use mathlib.Core.List.{List, [], ◌∷◌}
 use Prim.Native.Nat.{ℕ, zero, suc, ◌+◌, ◌*◌, ◌-◌, ◌/◌, ◌%◌, ◌≤◌, ◌<◌}
-use native.Mathlib.Nat.{add_zero, mul_one, mul_comm, mul_assoc, mul_left_comm, mul-mod_right, mul-le-mul, mul-le-mul_left, mod-eq_of_lt, div-add-mod'}
+use native.Mathlib.Nat.{add-zero, mul-one, mul_comm, mul_assoc, mul_left_comm, mul-mod_right, mul-le-mul, mul-le-mul_left, mod-eq_of_lt, div-add-mod'}
 use native.Mathlib.Decide.{dec_lt, ℕ_discrete}
 use native.Mathlib.Numerals.{add-one}
 use native.Mathlib.Omega.{arith}
@@ -29,12 +29,12 @@ module _ (w p q v : ℕ) (i : q * v % w ≡ 1) where
   pub inverse_quotient : (k : ℕ) → k < w → k * q ≡ p → p * v % w ≡ k
   inverse_quotient k l e =
       ap (λ x. x * v % w) (sym e) ∙ ap (λ x. x % w) (mul_assoc k q v) ∙ sym (mul_mod_mod k (q * v) w) ∙ ap (λ x. k * x % w) i
-      ∙ ap (λ x. x % w) (mul_one k) ∙ mod-eq_of_lt l
+      ∙ ap (λ x. x % w) (mul-one k) ∙ mod-eq_of_lt l
 
   pub inverse_product : p < w → q * (p * v % w) < w → q * (p * v % w) ≡ p
   inverse_product l s =
       sym (mod-eq_of_lt s) ∙ mul_mod_mod q (p * v) w ∙ ap (λ x. x % w) (mul_left_comm q p v) ∙ sym (mul_mod_mod p (q * v) w)
-      ∙ ap (λ x. p * x % w) i ∙ ap (λ x. x % w) (mul_one p) ∙ mod-eq_of_lt l
+      ∙ ap (λ x. p * x % w) i ∙ ap (λ x. x % w) (mul-one p) ∙ mod-eq_of_lt l
 
 abbrev pub Free : ℕ → ℕ → Type 0
 Free p d = (e : ℕ) → 2 ≤ e → e < d → p % e ≢ 0
@@ -109,7 +109,7 @@ module _ (p limit : ℕ) (small : p ≤ 2147483647) where
   missed_free a d v h l k e m z = omega (arith, whole, mul-le-mul {n₁ = limit + 1} {m₁ = a} {n₂ = p / d} {m₂ = d} (omega (arith, quotient)) l)
     where
       whole : p / d * d ≡ p
-      whole = sym (add_zero (p / d * d)) ∙ ap (λ x. p / d * d + x) (sym z) ∙ div-add-mod' p d
+      whole = sym (add-zero (p / d * d)) ∙ ap (λ x. p / d * d + x) (sym z) ∙ div-add-mod' p d
 
       within : p / d ≤ p
       within = omega (arith, whole, mul-le-mul_left (p / d) k)

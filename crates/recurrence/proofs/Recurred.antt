@@ -9,7 +9,7 @@ use mathlib.Core.Logic.{◌≢◌}
 use mathlib.Core.Bool.{true, false, cond}
 use mathlib.Core.List.{List}
 use Prim.Native.Nat.{ℕ, ◌+◌, ◌≤◌, ◌<◌}
-use native.Mathlib.Nat.{zero_add}
+use native.Mathlib.Nat.{zero-add}
 use native.Mathlib.Omega.{arith}
 use lib.Dec.{eqb}
 use lib.ListN.{length, take}
@@ -63,7 +63,7 @@ modulus_range {p} input = (omega (arith, (is_modulus_Prime p input.modulus).two_
 module _ {p : ℕ} {s polynomial work W₁ : List ℕ} (input : Accepted p s polynomial work)
     (placed : Written work 0 (length s) (λ i. at s (0 + i)) W₁) where
   terms : (i : ℕ) → i < length s → at W₁ i ≡ at s i
-  terms i l = ap (at W₁) (sym (zero_add i)) ∙ placed.inside i l ∙ ap (at s) (zero_add i)
+  terms i l = ap (at W₁) (sym (zero-add i)) ∙ placed.inside i l ∙ ap (at s) (zero-add i)
 
   pub ready : {m : ℕ} → m ≡ p → Ready m (length s) W₁
   ready {m} e = subst (λ n. Ready n (length s) W₁) (sym e) (record {
@@ -104,7 +104,7 @@ module _ {p : ℕ} {s polynomial work W₁ : List ℕ} (input : Accepted p s pol
 
       coefficient : (i : ℕ) → i < length s + 1 → at polynomial' i ≡ at (generator p s) i
       coefficient i l =
-          ap (at polynomial') (sym (zero_add i)) ∙ written.inside i l ∙ generator_at_law found i (omega arith)
+          ap (at polynomial') (sym (zero-add i)) ∙ written.inside i l ∙ generator_at_law found i (omega arith)
           ∙ ap (λ x. at (generator p x) i) same
 
       within : L ≤ length s

@@ -12,7 +12,7 @@ use mathlib.Core.Logic.{◌⊎◌, inl, inr}
 use mathlib.Core.List.{List, ◌∷◌}
 use Prim.Native.Nat.{ℕ, zero, suc, ◌+◌, ◌*◌, ◌≤◌, ◌<◌}
 use native.Mathlib.Decide.{dec_lt}
-use native.Mathlib.Nat.{zero_add}
+use native.Mathlib.Nat.{zero-add}
 use native.Mathlib.Numerals.{add-one}
 use native.Mathlib.Omega.{arith}
 use lib.ListN.{length, take, get_or-eq_default}
@@ -44,7 +44,7 @@ power_low (suc k) f (suc i) l = power_low k f i (omega arith)
 
 pub power_at : (k : ℕ) (f : List ℕ) (i : ℕ) → at (times_power k f) (k + i) ≡ at f i
 unfolding times_power
-power_at zero f i = ap (at f) (zero_add i)
+power_at zero f i = ap (at f) (zero-add i)
 power_at (suc k) f i =
     let e : suc k + i ≡ suc (k + i) = omega arith in
     ap (at (0 ∷ times_power k f)) e ∙ power_at k f i

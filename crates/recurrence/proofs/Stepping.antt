@@ -14,7 +14,7 @@ use mathlib.Core.Path.{◌≡◌, refl, sym, ap, ap₂, ◌∙◌, subst}
 use mathlib.Core.Logic.{◌≢◌, ◌⊎◌, inl, inr, ⊎_elim}
 use mathlib.Core.List.{List, [], ◌∷◌}
 use Prim.Native.Nat.{ℕ, zero, suc, ◌+◌, ◌-◌, ◌*◌, ◌%◌, ◌≤◌, ◌<◌}
-use native.Mathlib.Nat.{zero_add, mod-eq_of_lt}
+use native.Mathlib.Nat.{zero-add, mod-eq_of_lt}
 use native.Mathlib.Omega.{arith}
 use lib.ListN.{length, take, set, length-set}
 use lib.Seq.{get_or-take, take-take, take-set-le, get_or-set_same, get_or-set_other}
@@ -310,7 +310,7 @@ module _ {p count r : ℕ} {W : List ℕ} {c : Register} (ask : BeforeStep p cou
   discrepancy_is T d summed residue =
       residue
       ∙ ap (λ x. x % p)
-      (summed.sum ∙ zero_add (sum_from 0 (c.L + 1) (cross W (count + 2) (r - 1)))
+      (summed.sum ∙ zero-add (sum_from 0 (c.L + 1) (cross W (count + 2) (r - 1)))
       ∙ sum_from_zero (c.L + 1) (cross W (count + 2) (r - 1))
       ∙ sum_ext (c.L + 1) (cross W (count + 2) (r - 1)) (λ i. at st.q i * at s (r - 1 - i))
       (λ i l. ap₂ ◌*◌ (q_is i (omega (arith, l, within, high))) (sym (get_or-take r W (r - 1 - i) 0 (omega (arith, low))))))

@@ -15,9 +15,9 @@
 --                      where it ends
 use Rattle.std.specs.Prelude.{◌≡◌, refl, ◌≢◌, ◌⊎◌, Bool, true, false, not, ◌&&◌, List, [], ◌∷◌, leb, ltb, length, drop, set}
 use Rattle.std.proofs.Math.Path.{sym, ap₂}
-use Rattle.std.proofs.Common.{ap, ◌∙◌, subst, inl, inr, zero_mul, mul_zero, mod-lt, eq-or-lt_of_le, one_mul, mod-eq_of_lt, arith, length-set, get_or-set_same, get_or-set_other, leb-true, ltb-true, le-leb, lt-ltb}
+use Rattle.std.proofs.Common.{ap, ◌∙◌, subst, inl, inr, zero-mul, mul-zero, mod-lt, eq-or-lt_of_le, one-mul, mod-eq_of_lt, arith, length-set, get_or-set_same, get_or-set_other, leb-true, ltb-true, le-leb, lt-ltb}
 use Prim.Native.Nat.{ℕ, ◌+◌, ◌-◌, ◌*◌, ◌%◌, ◌≤◌, ◌<◌}
-use Rattle.std.proofs.Math.Nat.{zero_add, add_zero, sub-zero}
+use Rattle.std.proofs.Math.Nat.{zero-add, add-zero, sub-zero}
 use Rattle.std.proofs.Math.Decide.{dec_lt}
 use Rattle.std.proofs.Math.ListN.{get_or-eq_default}
 use Rattle.meaning.specs.List.{at, sum, sum_from}
@@ -129,14 +129,14 @@ module _ {p : ℕ} {W : List ℕ} {d f t : ℕ} (h : Factors p W d f t) where
         ∙ ap₂ ◌+◌ (sum_from_zeros 0 from g low)
         (sum_from_split from to (k + 1) g order m.low
         ∙ ap₂ ◌+◌ (sum_from_ext from to g (cross W 0 (f + k)) middle) (sum_from_zeros to (k + 1) g (high m.end))
-        ∙ add_zero (sum_from from to (cross W 0 (f + k))))
-        ∙ zero_add (sum_from from to (cross W 0 (f + k))))
+        ∙ add-zero (sum_from from to (cross W 0 (f + k))))
+        ∙ zero-add (sum_from from to (cross W 0 (f + k))))
       where
         g : ℕ → ℕ
         g i = left i * right (k - i)
 
         low : (i : ℕ) → 0 ≤ i → i < from → g i ≡ 0
-        low i z l = ap (λ x. left i * x) (right_out (k - i) (omega (arith, l, m.start))) ∙ mul_zero (left i)
+        low i z l = ap (λ x. left i * x) (right_out (k - i) (omega (arith, l, m.start))) ∙ mul-zero (left i)
 
         middle : (i : ℕ) → from ≤ i → i < to → g i ≡ cross W 0 (f + k) i
         middle i a l =
@@ -144,11 +144,11 @@ module _ {p : ℕ} {W : List ℕ} {d f t : ℕ} (h : Factors p W d f t) where
 
         high : (to ≡ k + 1) ⊎ (to ≡ d + 1) → (i : ℕ) → to ≤ i → i < k + 1 → g i ≡ 0
         high (inl q) i a l = absurd (omega (arith, q, a, l))
-        high (inr q) i a l = ap (λ x. x * right (k - i)) (left_out i (omega (arith, q, a))) ∙ zero_mul (right (k - i))
+        high (inr q) i a l = ap (λ x. x * right (k - i)) (left_out i (omega (arith, q, a))) ∙ zero-mul (right (k - i))
 
     pub coefficient : (T : Total) (v : ℕ) → Summed nothing T from to (cross W 0 (f + k)) → v ≡ number T % p → v ≡ product_at p W d f t k
     coefficient T v summed residue =
-        residue ∙ ap (λ x. x % p) (summed.sum ∙ zero_add (sum_from from to (cross W 0 (f + k))) ∙ meets)
+        residue ∙ ap (λ x. x % p) (summed.sum ∙ zero-add (sum_from from to (cross W 0 (f + k))) ∙ meets)
 
 pub record Descending (p : ℕ) (W : List ℕ) (d f t k : ℕ) (W' : List ℕ) : Type 0 where
   pub same_length : length W' ≡ length W
@@ -226,7 +226,7 @@ descending_all {p} {W} {d} {f} {t} {W'} h w =
           table_of 0 (part 0 (d + t + 1) W') size (λ k. product_at p W d f t k)
           (length_part 0 (d + t + 1) W' (omega (arith, h.below, h.room, w.same_length)) ∙ sym sized)
           (λ i l. let k : i < d + t + 1 = omega (arith, l, sized) in
-          at_part 0 (d + t + 1) W' i k ∙ ap (at W') (zero_add i) ∙ w.inside i (omega arith) (omega (arith, k)));
+          at_part 0 (d + t + 1) W' i k ∙ ap (at W') (zero-add i) ∙ w.inside i (omega arith) (omega (arith, k)));
       rest = drop_ext (d + t + 1) W W' w.same_length (λ i l. w.after i (omega (arith, l)));
     }
   where
@@ -308,7 +308,7 @@ factors_of p W d f t z =
         few = fit.0;
         below = fit.1;
         room = fit.2;
-        left = λ i l. subst (λ x. x < p) (at_part 0 (d + 1) W i (omega (arith, l)) ∙ ap (at W) (zero_add i)) (F.below i (omega (arith, l)));
+        left = λ i l. subst (λ x. x < p) (at_part 0 (d + 1) W i (omega (arith, l)) ∙ ap (at W) (zero-add i)) (F.below i (omega (arith, l)));
         right = λ i l. subst (λ x. x < p) (at_part f (t + 1) W i (omega (arith, l))) (g.below i (omega (arith, l)));
       },
     )
@@ -330,7 +330,7 @@ factors_taken {p} {W} {d} {f} {t} two small h =
     size_f = length_part f (t + 1) W (omega (arith, h.room))
 
     left : (i : ℕ) → i < d + 1 → at (part 0 (d + 1) W) i < p
-    left i l = subst (λ x. x < p) (sym (at_part 0 (d + 1) W i l ∙ ap (at W) (zero_add i))) (h.left i (omega (arith, l)))
+    left i l = subst (λ x. x < p) (sym (at_part 0 (d + 1) W i l ∙ ap (at W) (zero-add i))) (h.left i (omega (arith, l)))
 
     right : (i : ℕ) → i < t + 1 → at (part f (t + 1) W) i < p
     right i l = subst (λ x. x < p) (sym (at_part f (t + 1) W i l)) (h.right i (omega (arith, l)))
@@ -343,7 +343,7 @@ product_one {p} {W} {d} {f} {t} {W'} h z one w =
     (record {
       same_length = w.same_length;
       below = λ i l. absurd (omega (arith, l));
-      inside = λ i a l. ap (at W') (sym (zero_add i)) ∙ w.inside i (omega (arith, l, z)) ∙ sym (place i (omega (arith, l, z)));
+      inside = λ i a l. ap (at W') (sym (zero-add i)) ∙ w.inside i (omega (arith, l, z)) ∙ sym (place i (omega (arith, l, z)));
       after = λ i l. w.after i (omega (arith, l, z));
     })
   where
@@ -351,7 +351,7 @@ product_one {p} {W} {d} {f} {t} {W'} h z one w =
     place k l =
         ap (λ x. x % p)
         (sym (meets h {k = k} {from = 0} {to = 1} (record { inside = omega (arith, l); start = omega (arith, l); low = omega arith; short = omega arith; end = inr (omega (arith, z)) }))
-        ∙ sum_from_one 0 (cross W 0 (f + k)) ∙ ap (λ x. at W 0 * at W x) (sub-zero (f + k)) ∙ ap (λ x. x * at W (f + k)) one ∙ one_mul (at W (f + k)))
+        ∙ sum_from_one 0 (cross W 0 (f + k)) ∙ ap (λ x. at W 0 * at W x) (sub-zero (f + k)) ∙ ap (λ x. x * at W (f + k)) one ∙ one-mul (at W (f + k)))
         ∙ mod-eq_of_lt (h.right k l)
 
 -- a leading part that holds F and f, lent to the product
@@ -363,7 +363,7 @@ multiplied_lent {p} {W} {d} {f} {t} m {Y} a b l same q =
       product =
           inner_lent W 0 m Y fits same 0 (d + t + 1) (omega (arith, a, b)) ∙ q.product
           ∙ ap₂ (multiply p) (part_of_part 0 (d + 1) 0 m W (omega (arith, a, b)) fits)
-          (part_of_part f (t + 1) 0 m W (omega (arith, b)) fits ∙ part_at W (0 + f) (t + 1) f (t + 1) (zero_add f) refl);
+          (part_of_part f (t + 1) 0 m W (omega (arith, b)) fits ∙ part_at W (0 + f) (t + 1) f (t + 1) (zero-add f) refl);
       rest = drop_ext (d + t + 1) W (lent W 0 m Y) long (λ i h. go i h (dec_lt i m));
     }
   where
@@ -375,6 +375,6 @@ multiplied_lent {p} {W} {d} {f} {t} m {Y} a b l same q =
 
     go : (i : ℕ) → d + t + 1 ≤ i → Dec (i < m) → at (lent W 0 m Y) i ≡ at W i
     go i h (yes k) =
-        ap (at (lent W 0 m Y)) (sym (zero_add i)) ∙ sym (at_part 0 m (lent W 0 m Y) i k) ∙ ap (λ r. at r i) (part_lent W 0 m Y fits same)
-        ∙ same_after (d + t + 1) i (part 0 m W) Y q.rest h ∙ at_part 0 m W i k ∙ ap (at W) (zero_add i)
+        ap (at (lent W 0 m Y)) (sym (zero-add i)) ∙ sym (at_part 0 m (lent W 0 m Y) i k) ∙ ap (λ r. at r i) (part_lent W 0 m Y fits same)
+        ∙ same_after (d + t + 1) i (part 0 m W) Y q.rest h ∙ at_part 0 m W i k ∙ ap (at W) (zero-add i)
     go i h (no k) = same_after (0 + m) i W (lent W 0 m Y) (drop_lent W 0 m Y fits same) (omega (arith, k))

@@ -12,7 +12,7 @@
 --     inverse_lt, mul_inverse      the same of the meaning's inverse, for a from 1 to p − 1
 --     mul_mod_nonzero  p divides a product only if it divides a factor
 use Rattle.std.specs.Prelude.{◌≡◌, refl, ◌≢◌, Bool, true, false, ℕ, zero, suc, ◌+◌, ◌*◌, ◌-◌, ◌/◌, ◌%◌, ◌≤◌, ◌<◌, ltb, eqb}
-use Rattle.std.proofs.Common.{sym, ap, ◌∙◌, mod-lt, mod-eq_of_lt, add_mul, mul_assoc, mul_comm, mul_left_comm, mul_one, one_mul, zero_mul, div-le_self, mul-le-mul_left, pos_of_ne-zero, arith, ltb-true, ltb-false, eq-eqb, ne_eqb}
+use Rattle.std.proofs.Common.{sym, ap, ◌∙◌, mod-lt, mod-eq_of_lt, add-mul, mul_assoc, mul_comm, mul_left_comm, mul-one, one-mul, zero-mul, div-le_self, mul-le-mul_left, pos_of_ne-zero, arith, ltb-true, ltb-false, eq-eqb, ne_eqb}
 use Rattle.std.proofs.Math.Path.{fun_ext}
 use Rattle.std.proofs.Math.Nat.{mul-sub, zero-mod, div-add-mod, add-mul-mod_self_left, mul-add-mod_self_left}
 use Rattle.meaning.specs.List.{least}
@@ -25,9 +25,9 @@ use Rattle.residue.specs.Prime.{Prime}
 
 pub inverse_unique : (p a x y : ℕ) → x < p → y < p → a * x % p ≡ 1 → a * y % p ≡ 1 → x ≡ y
 inverse_unique p a x y j m f e =
-    sym (mod-eq_of_lt j) ∙ ap (λ z. z % p) (sym (one_mul x)) ∙ ap (λ z. z * x % p) (sym e) ∙ mod_mul_mod (a * y) x p
+    sym (mod-eq_of_lt j) ∙ ap (λ z. z % p) (sym (one-mul x)) ∙ ap (λ z. z * x % p) (sym e) ∙ mod_mul_mod (a * y) x p
     ∙ ap (λ z. z % p) (ap (λ z. z * x) (mul_comm a y) ∙ mul_assoc y a x) ∙ sym (mul_mod_mod y (a * x) p)
-    ∙ ap (λ z. y * z % p) f ∙ ap (λ z. z % p) (mul_one y) ∙ mod-eq_of_lt m
+    ∙ ap (λ z. y * z % p) f ∙ ap (λ z. z % p) (mul-one y) ∙ mod-eq_of_lt m
 
 pub inverse_is : (p a y : ℕ) → y < p → a * y % p ≡ 1 → inverse p a ≡ y
 unfolding inverse
@@ -42,7 +42,7 @@ inverse_none p a h = least_none p (λ x. eqb (a * x % p) 1) (λ y l. ne_eqb (a *
 pub inverse_zero : (p : ℕ) → inverse p 0 ≡ p
 inverse_zero p =
     inverse_none p 0
-    (λ y l e. let z : ◌≡◌ {A = ℕ} 0 1 = sym (zero-mod p) ∙ ap (λ x. x % p) (sym (zero_mul y)) ∙ e in omega arith)
+    (λ y l e. let z : ◌≡◌ {A = ℕ} 0 1 = sym (zero-mod p) ∙ ap (λ x. x % p) (sym (zero-mul y)) ∙ e in omega arith)
 
 pub inverse_mod : (p a : ℕ) → inverse p (a % p) ≡ inverse p a
 unfolding inverse
@@ -81,8 +81,8 @@ neg_quotient p a =
 euclid_step : (p a y : ℕ) → a * ((p - p / a) * y % p) % p ≡ p % a * y % p
 euclid_step p a y =
     mul_mod_mod a ((p - p / a) * y) p ∙ sym (add-mul-mod_self_left (a * ((p - p / a) * y)) p y)
-    ∙ ap (λ x. x % p) (ap (λ x. x + p * y) (sym (mul_assoc a (p - p / a) y)) ∙ sym (add_mul (a * (p - p / a)) p y)
-    ∙ ap (λ x. x * y) (neg_quotient p a) ∙ add_mul (p * a) (p % a) y ∙ ap (λ x. x + p % a * y) (mul_assoc p a y))
+    ∙ ap (λ x. x % p) (ap (λ x. x + p * y) (sym (mul_assoc a (p - p / a) y)) ∙ sym (add-mul (a * (p - p / a)) p y)
+    ∙ ap (λ x. x * y) (neg_quotient p a) ∙ add-mul (p * a) (p % a) y ∙ ap (λ x. x + p % a * y) (mul_assoc p a y))
     ∙ mul-add-mod_self_left p (a * y) (p % a * y)
 
 module _ (p : ℕ) (h : Prime p) where
@@ -129,6 +129,6 @@ module _ (p : ℕ) (h : Prime p) where
     where
       cancel : (x : ℕ) → a % p * x % p ≡ 1 → b % p ≡ 0
       cancel x i =
-          ap (λ z. z % p) (sym (mul_one b)) ∙ ap (λ z. b * z % p) (sym i) ∙ mul_mod_mod b (a % p * x) p
+          ap (λ z. z % p) (sym (mul-one b)) ∙ ap (λ z. b * z % p) (sym i) ∙ mul_mod_mod b (a % p * x) p
           ∙ ap (λ z. z % p) (mul_left_comm b (a % p) x) ∙ mod_mul_mod a (b * x) p ∙ ap (λ z. z % p) (sym (mul_assoc a b x))
-          ∙ sym (mod_mul_mod (a * b) x p) ∙ ap (λ z. z * x % p) e ∙ ap (λ z. z % p) (zero_mul x) ∙ zero-mod p
+          ∙ sym (mod_mul_mod (a * b) x p) ∙ ap (λ z. z * x % p) e ∙ ap (λ z. z % p) (zero-mul x) ∙ zero-mod p

@@ -3,13 +3,13 @@
 --     mod_eq_sub                    from p to 2p − 1 the remainder is one difference
 --     sub_mod_le, sub_mod_lt        x − y modulo p for x and y below p, as one sum with p − y
 use Rattle.std.specs.Prelude.{◌≡◌, ℕ, ◌+◌, ◌*◌, ◌-◌, ◌/◌, ◌%◌, ◌≤◌, ◌<◌}
-use Rattle.std.proofs.Common.{sym, ap, ◌∙◌, mul_comm, mul_add, mul_left_comm, mod-eq_of_lt, arith}
+use Rattle.std.proofs.Common.{sym, ap, ◌∙◌, mul_comm, mul-add, mul_left_comm, mod-eq_of_lt, arith}
 use Rattle.std.proofs.Math.Nat.{mod-add-div, mod-eq-sub-mod, add-mul-mod_self_left}
 
 pub mul_mod_mod : (a b p : ℕ) → a * (b % p) % p ≡ a * b % p
 mul_mod_mod a b p =
     sym (add-mul-mod_self_left (a * (b % p)) p (a * (b / p)))
-    ∙ ap (λ x. x % p) (ap (λ x. a * (b % p) + x) (mul_left_comm p a (b / p)) ∙ sym (mul_add a (b % p) (p * (b / p))) ∙ ap (λ x. a * x) (mod-add-div b p))
+    ∙ ap (λ x. x % p) (ap (λ x. a * (b % p) + x) (mul_left_comm p a (b / p)) ∙ sym (mul-add a (b % p) (p * (b / p))) ∙ ap (λ x. a * x) (mod-add-div b p))
 
 pub mod_mul_mod : (a b p : ℕ) → a % p * b % p ≡ a * b % p
 mod_mul_mod a b p = ap (λ x. x % p) (mul_comm (a % p) b) ∙ mul_mod_mod b a p ∙ ap (λ x. x % p) (mul_comm b a)

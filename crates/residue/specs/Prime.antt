@@ -7,7 +7,7 @@
 --     is_prime_Prime    the meaning's is_prime, a test of all p − 2 candidates, says Prime p; refuted, is_prime_small, is_prime_divided: it says no to what is not Prime, 0, 1 and any p with a divisor
 --     is_modulus_prime, is_modulus_Prime, isModulus-le, is_modulus_small, is_modulus_large      the meaning's is_modulus: prime, and at most 2³¹ − 1
 use Rattle.std.specs.Prelude.{◌≡◌, refl, ◌≢◌, ◌⊎◌, ◌↔◌, Bool, true, false, not, ◌&&◌, ℕ, zero, suc, ◌+◌, ◌*◌, ◌-◌, ◌/◌, ◌%◌, ◌≤◌, ◌<◌, leb, eqb}
-use Rattle.std.proofs.Common.{sym, ap, ◌∙◌, inl, inr, div-add-mod', add_zero, mul-le-mul, mul-le-mul_left, lt_of_mul-lt-mul_right, zero_mul, one_mul, le_of_lt, arith, leb-true, le-leb, ne_eqb}
+use Rattle.std.proofs.Common.{sym, ap, ◌∙◌, inl, inr, div-add-mod', add-zero, mul-le-mul, mul-le-mul_left, lt_of_mul-lt-mul_right, zero-mul, one-mul, le_of_lt, arith, leb-true, le-leb, ne_eqb}
 use Rattle.std.proofs.Math.Nat.{mul-mod_right, mod-eq-zero_of_dvd, dvd_trans, dvd_of_mod-eq-zero}
 use Rattle.std.proofs.Math.Decide.{dec_le, dec_lt, ℕ_discrete}
 use Rattle.meaning.specs.List.{all}
@@ -22,8 +22,8 @@ pub record Prime (p : ℕ) : Type 0 where
   pub no_divisor : (d : ℕ) → 2 ≤ d → d < p → p % d ≢ 0
 
 two_le_factor : (e d p : ℕ) → 2 ≤ p → d < p → e * d ≡ p → 2 ≤ e
-two_le_factor zero d p a b q = omega (arith, zero_mul d)
-two_le_factor (suc zero) d p a b q = omega (arith, one_mul d)
+two_le_factor zero d p a b q = omega (arith, zero-mul d)
+two_le_factor (suc zero) d p a b q = omega (arith, one-mul d)
 two_le_factor (suc (suc e)) d p a b q = omega arith
 
 pub up_to_root : (p : ℕ) → 2 ≤ p → ((d : ℕ) → 2 ≤ d → d * d ≤ p → p % d ≢ 0) → Prime p
@@ -36,7 +36,7 @@ up_to_root p l h = record { two_le = l; no_divisor = none }
         h e (two_le_factor e d p l b q) (omega (arith, mul-le-mul_left e le)) (ap (λ x. x % e) (sym q) ∙ mul-mod_right e d)
 
     none : (d : ℕ) → 2 ≤ d → d < p → p % d ≢ 0
-    none d a b z = cofactor d (p / d) a b (sym (add_zero (p / d * d)) ∙ ap (λ x. p / d * d + x) (sym z) ∙ div-add-mod' p d) z (dec_le (d * d) p)
+    none d a b z = cofactor d (p / d) a b (sym (add-zero (p / d * d)) ∙ ap (λ x. p / d * d + x) (sym z) ∙ div-add-mod' p d) z (dec_le (d * d) p)
 
 pub divisor_of_divisor : (c d p : ℕ) → d % c ≡ 0 → p % d ≡ 0 → p % c ≡ 0
 divisor_of_divisor c d p a b = mod-eq-zero_of_dvd c (dvd_trans c (dvd_of_mod-eq-zero c a) (dvd_of_mod-eq-zero d b))

@@ -10,7 +10,7 @@
 --     The inverse of zero is zero here, where the meaning's `inverse p 0` is p: mk_inv holds for every number.
 use Rattle.std.specs.Prelude.{◌≡◌, ◌≢◌, ◌↔◌, ℕ, zero, ◌+◌, ◌*◌, ◌-◌, ◌%◌, ◌<◌}
 use Rattle.std.proofs.Math.Path.{refl, sym, ap}
-use Rattle.std.proofs.Common.{◌∙◌, mod-lt, mod-eq_of_lt, add_comm, add_assoc, add_zero, le_of_lt, mul_comm, mul_assoc, mul_add, mul_one, pos_of_ne-zero, arith}
+use Rattle.std.proofs.Common.{◌∙◌, mod-lt, mod-eq_of_lt, add_comm, add_assoc, add-zero, le_of_lt, mul_comm, mul_assoc, mul-add, mul-one, pos_of_ne-zero, arith}
 use mathlib.Core.HLevel.{Σ_prop_path}
 use Rattle.std.proofs.Math.Nat.{ℕ_set, mod-mod, mod-add-mod, add-mod-mod, zero-mod, add-sub_of_le, mod_self}
 use Rattle.std.proofs.Math.Decide.{ℕ_discrete, map_dec}
@@ -86,7 +86,7 @@ module _ (p : ℕ) where
   plus_zero : (a : Residue p) → plus a (reduce 0) ≡ a
   unfolding plus
   plus_zero a =
-      reduce_eq (number a + number (reduce 0)) (number a) (simp (number_reduce, add-mod-mod, add_zero)) ∙ reduce_number a
+      reduce_eq (number a + number (reduce 0)) (number a) (simp (number_reduce, add-mod-mod, add-zero)) ∙ reduce_number a
 
   times_comm : (a b : Residue p) → times a b ≡ times b a
   unfolding times
@@ -101,14 +101,14 @@ module _ (p : ℕ) where
   times_one : (a : Residue p) → times a (reduce 1) ≡ a
   unfolding times
   times_one a =
-      reduce_eq (number a * number (reduce 1)) (number a) (simp (number_reduce, mul_mod_mod, mul_one)) ∙ reduce_number a
+      reduce_eq (number a * number (reduce 1)) (number a) (simp (number_reduce, mul_mod_mod, mul-one)) ∙ reduce_number a
 
   times_plus : (a b c : Residue p) → times a (plus b c) ≡ plus (times a b) (times a c)
   unfolding plus times
   times_plus a b c =
       reduce_eq (number a * number (reduce (number b + number c)))
       (number (reduce (number a * number b)) + number (reduce (number a * number c)))
-      (simp (number_reduce, mul_mod_mod, mod-add-mod, add-mod-mod, mul_add))
+      (simp (number_reduce, mul_mod_mod, mod-add-mod, add-mod-mod, mul-add))
 
 module _ (p : ℕ) (h : Prime p) where
   positive : 0 < p
@@ -150,12 +150,12 @@ module _ (p : ℕ) (h : Prime p) where
               one = reduce p 1;
               add_comm = plus_comm p;
               add_assoc = plus_assoc p;
-              add_zero = plus_zero p;
+              add-zero = plus_zero p;
               add_neg = plus_negative;
               mul_comm = times_comm p;
               mul_assoc = times_assoc p;
-              mul_one = times_one p;
-              mul_add = times_plus p;
+              mul-one = times_one p;
+              mul-add = times_plus p;
             };
         inv = inverted p;
         zero? =

@@ -14,7 +14,7 @@
 --     Closable, closable       what the end asks: F is monic of degree D ≤ n
 use Rattle.std.specs.Prelude.{◌≡◌, refl, ◌⊎◌, true, false, not, cond, List, [], ◌∷◌, ◌++◌, ℕ, ◌+◌, ◌*◌, ◌≤◌, ◌<◌, take, drop, get_or, set, eqb}
 use Rattle.std.proofs.Math.Path.{sym, ap, subst}
-use Rattle.std.proofs.Common.{ap₂, ◌∙◌, inl, inr, zero_add, eq-or-lt_of_le, add-one, arith, length-set, length-append, take-append-drop, take-suc, take_all, get_or-set_same, get_or-set_other, eqb-true}
+use Rattle.std.proofs.Common.{ap₂, ◌∙◌, inl, inr, zero-add, eq-or-lt_of_le, add-one, arith, length-set, length-append, take-append-drop, take-suc, take_all, get_or-set_same, get_or-set_other, eqb-true}
 use Rattle.std.proofs.Math.Decide.{dec_lt}
 use Rattle.std.proofs.Math.ListN.{length, get_or-eq_default}
 use Rattle.meaning.specs.List.{at, every, is_zero, padded}
@@ -426,4 +426,4 @@ closable {p} {A} {X} {b} {words} {w} {B} {B'} {W} {c} s f =
     found = subst (λ (q : Run). q.found ≤ size A) (sym f.state) (run_found p h M b size_b reduced_b w us)
 
     place : (i : ℕ) → i ≤ c.degree → at (part 0 (c.degree + 1) W) i ≡ at W i
-    place i l = at_part 0 (c.degree + 1) W i (omega (arith, l)) ∙ ap (at W) (zero_add i)
+    place i l = at_part 0 (c.degree + 1) W i (omega (arith, l)) ∙ ap (at W) (zero-add i)

@@ -9,7 +9,7 @@ use mathlib.Core.Bool.{Bool, true, false, not, ◌&&◌, ◌||◌}
 use mathlib.Core.List.{List, [], ◌∷◌, ◌++◌, append-nil}
 use Prim.Native.Nat.{ℕ, zero, suc, ◌+◌, ◌-◌, ◌≤◌, ◌<◌}
 use native.Mathlib.Omega.{arith}
-use native.Mathlib.Nat.{add_zero}
+use native.Mathlib.Nat.{add-zero}
 use native.Mathlib.Numerals.{add-one}
 use lib.Dec.{eqb, ltb, leb}
 use lib.ListN.{get_or, length, take, drop, set, replicate, length-drop, length-set, length-map, take-append-drop, drop_of_length-le, get_or-map}
@@ -52,7 +52,7 @@ front_set m g old l =
 
 pub front_fill : (m d v : ℕ) (g : ℕ → ℕ) (old : List ℕ) → m + d ≤ length old → ((i : ℕ) → m ≤ i → i < m + d → g i ≡ v)
     → sets (table m g ++ drop m old) m (replicate d v) ≡ table (m + d) g ++ drop (m + d) old
-front_fill m zero v g old l h = ap (λ j. table j g ++ drop j old) (sym (add_zero m))
+front_fill m zero v g old l h = ap (λ j. table j g ++ drop j old) (sym (add-zero m))
 front_fill m (suc d) v g old l h =
     let e : suc m + d ≡ m + suc d = omega arith in
     ap (λ x. sets (set (table m g ++ drop m old) m x) (suc m) (replicate d v)) (sym (h m (omega arith) (omega arith)))

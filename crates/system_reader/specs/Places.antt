@@ -12,8 +12,8 @@
 -- places_end; entry_fresh, place_fresh: no line of that form stands after them.
 use Rattle.std.specs.Prelude.{◌≡◌, refl, ◌⊎◌, Bool, true, false, cond, ◌&&◌, ◌||◌, ℕ, ◌+◌, ◌≤◌, eqb, ltb, leb, length, take, drop}
 use Rattle.std.proofs.Math.Path.{sym, ap}
-use Rattle.std.proofs.Common.{ap₂, ◌∙◌, subst, inl, inr, arith, add_zero, lt-ltb, leb-true, eq-eqb}
-use Rattle.std.proofs.Math.Bool.{and_true, and_assoc, or-false}
+use Rattle.std.proofs.Common.{ap₂, ◌∙◌, subst, inl, inr, arith, add-zero, lt-ltb, leb-true, eq-eqb}
+use Rattle.std.proofs.Math.Bool.{and-true, and_assoc, or-false}
 use mathlib.Core.List.{List, [], ◌∷◌}
 use Rattle.meaning.specs.List.{at, every, chain, chain_from}
 use Rattle.meaning.specs.Text as text
@@ -183,7 +183,7 @@ row_first n r t u = go (test_cases (within 1 n r))
   where
     go : (within 1 n r ≡ true) ⊎ (within 1 n r ≡ false) → (within 1 n r && u) && (ltb 0 r || t) ≡ within 1 n r && u
     go (inl e) =
-        ap (λ x. (within 1 n r && u) && (x || t)) (lt-ltb 0 r (leb-true 1 r (and_left (leb 1 r) (leb r n) e))) ∙ and_true (within 1 n r && u)
+        ap (λ x. (within 1 n r && u) && (x || t)) (lt-ltb 0 r (leb-true 1 r (and_left (leb 1 r) (leb r n) e))) ∙ and-true (within 1 n r && u)
     go (inr e) = ap (λ x. (x && u) && (ltb 0 r || t)) e ∙ sym (ap (λ x. x && u) e)
 
 abbrev ranged : ℕ → List ℕ → Bool
@@ -205,7 +205,7 @@ places_rise n =
   where
     first_row : (r : ℕ) → within 1 n r && ltb 0 r ≡ within 1 n r
     first_row r =
-        ap₂ ◌&&◌ (sym (and_true (within 1 n r))) (sym (or-false (ltb 0 r))) ∙ row_first n r false true ∙ and_true (within 1 n r)
+        ap₂ ◌&&◌ (sym (and-true (within 1 n r))) (sym (or-false (ltb 0 r))) ∙ row_first n r false true ∙ and-true (within 1 n r)
 
 -- ---- one line more
 
@@ -225,7 +225,7 @@ module _ (f : text.Form) (test : List ℕ → Bool) (s : List ℕ) (from i : ℕ
       ∙ ap (λ a. a && every test es) (sym q)
 
   tested_end : saying f (lines (drop i s)) ≡ [] → every test (saying f (lines (drop from s))) ≡ b
-  tested_end none = t ∙ ap (λ l. b && every test l) none ∙ ap (λ a. b && a) (every_nil test) ∙ and_true b
+  tested_end none = t ∙ ap (λ l. b && every test l) none ∙ ap (λ a. b && a) (every_nil test) ∙ and-true b
 
 module _ (f : text.Form) (all : List (List ℕ) → Bool) (value : List ℕ → Bool) (s : List ℕ) (from : ℕ) where
   pub passed_none : from ≤ length s → Passed f all all value s from from 0 true true
@@ -268,8 +268,8 @@ module _ (f : text.Form) (all : List (List ℕ) → Bool) (value : List ℕ → 
           within = b.within;
           form = b.form ∙ form_missing (lines (drop i s)) f (forms_after f) m;
           others = b.others;
-          count = λ e. b.count ∙ ap (λ l. k + length l) (none e) ∙ add_zero k;
-          placed = λ e. b.placed ∙ ap (λ l. places && ahead l) (none e) ∙ ap (λ t. places && t) nil ∙ and_true places;
+          count = λ e. b.count ∙ ap (λ l. k + length l) (none e) ∙ add-zero k;
+          placed = λ e. b.placed ∙ ap (λ l. places && ahead l) (none e) ∙ ap (λ t. places && t) nil ∙ and-true places;
           valued = λ e. tested_end f value s from i values b.valued (none e);
         }
 

@@ -17,7 +17,7 @@
 --     chain_flat_table     groups of the keys 1 to n, each a chain, are a chain
 use Rattle.std.specs.Prelude.{◌≡◌, ◌⊎◌, Bool, true, false, not, ◌&&◌, ℕ, zero, suc, ◌+◌, ◌-◌, ◌≤◌, ◌<◌, get_or, length}
 use Rattle.std.proofs.Math.Path.{refl}
-use Rattle.std.proofs.Common.{sym, ap, ap₂, ◌∙◌, subst, inl, inr, le_of_suc-le-suc, add_zero, add-suc, arith, add-one, ltb-true, leb-true, leb-false, eqb-true, lt-ltb, le-ltb, le-leb, ne_eqb}
+use Rattle.std.proofs.Common.{sym, ap, ap₂, ◌∙◌, subst, inl, inr, le_of_suc-le-suc, add-zero, add-suc, arith, add-one, ltb-true, leb-true, leb-false, eqb-true, lt-ltb, le-ltb, le-leb, ne_eqb}
 use mathlib.Core.List.{List, [], ◌∷◌, ◌++◌, map, append_assoc, append-nil, cons≢nil}
 use lib.Dec.{eqb, ltb, leb}
 use Rattle.std.proofs.lemmas.Bool.{eqb-false, lt-leb, not-true}
@@ -33,7 +33,7 @@ use Rattle.text_laws.specs.Lists.{map_append, flat_nil, flat_one, flat_append, s
 module _ {A : Type 0} where
   pub table_add : (a b : ℕ) (f : ℕ → A) → table (a + b) f ≡ table a f ++ table b (λ k. f (a + k))
   table_add a zero f =
-      ap (λ n. table n f) (add_zero a) ∙ sym (append-nil (table a f)) ∙ ap (λ l. table a f ++ l) (sym (table_zero (λ k. f (a + k))))
+      ap (λ n. table n f) (add-zero a) ∙ sym (append-nil (table a f)) ∙ ap (λ l. table a f ++ l) (sym (table_zero (λ k. f (a + k))))
   table_add a (suc b) f =
       ap (λ n. table n f) (add-suc a b) ∙ table_suc (a + b) f ∙ ap (λ l. l ++ (f (a + b) ∷ [])) (table_add a b f)
       ∙ append_assoc (table a f) (table b (λ k. f (a + k))) (f (a + b) ∷ []) ∙ ap (λ l. table a f ++ l) (sym (table_suc b (λ k. f (a + k))))
@@ -232,7 +232,7 @@ module _ {A : Type 0} (key : A → ℕ) where
       (λ a b c p q. let x = ltb-true (key a) (key b) p in let y = ltb-true (key b) (key c) q in lt-ltb (key a) (key c) (omega arith))
 
   climbs : (l : List A) (d : A) → rises_strictly l ≡ true → (k j : ℕ) → k + j < length l → key (get_or l k d) + j ≤ key (get_or l (k + j) d)
-  climbs l d r k zero h = omega (arith, ap (λ m. key (get_or l m d)) (add_zero k))
+  climbs l d r k zero h = omega (arith, ap (λ m. key (get_or l m d)) (add-zero k))
   climbs l d r k (suc j) h =
       omega (
         arith,

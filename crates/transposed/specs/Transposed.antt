@@ -10,7 +10,7 @@
 --     gathered_none, gathered_next, gathered_all      no row, one row more, all of them
 use Rattle.std.specs.Prelude.{◌≡◌, ◌≢◌, cond, List, ℕ, suc, ◌+◌, ◌*◌, ◌%◌, ◌≤◌, ◌<◌, eqb, length, set}
 use Rattle.std.proofs.Math.Path.{refl, sym, ap}
-use Rattle.std.proofs.Common.{ap₂, ◌∙◌, add_zero, mod-lt, add_assoc, add-one, arith, length-set, get_or-set_same, get_or-set_other, eq-eqb, ne_eqb}
+use Rattle.std.proofs.Common.{ap₂, ◌∙◌, add-zero, mod-lt, add_assoc, add-one, arith, length-set, get_or-set_same, get_or-set_other, eq-eqb, ne_eqb}
 use Rattle.std.proofs.Math.Nat.{mod-eq_of_lt, mod-add-mod, add-mod-mod, mul_comm, zero-mod}
 use Rattle.std.proofs.Math.Decide.{ℕ_discrete}
 use Rattle.meaning.specs.List.{at, sum, sum_from, table, zeros}
@@ -50,7 +50,7 @@ module _ (p c : ℕ) (columns values : List ℕ) where
   scattered_none a n v h =
       table_of 0 v (length v) (scattered_at p c a a columns values v) refl
       (λ i l. sym
-      (ap (λ x. (at v i + x) % p) (sum_from_empty a (hit columns values c i)) ∙ ap (λ x. x % p) (add_zero (at v i))
+      (ap (λ x. (at v i + x) % p) (sum_from_empty a (hit columns values c i)) ∙ ap (λ x. x % p) (add-zero (at v i))
       ∙ mod-eq_of_lt (h.below i (omega (arith, h.places)))))
 
   pub scattered_more : (a k : ℕ) (v : List ℕ) → a ≤ k → at columns k < length v
@@ -77,7 +77,7 @@ module _ (p c : ℕ) (columns values : List ℕ) where
       there j b q =
           ap (λ x. (at v j + x) % p)
           (sum_from_next a k (hit columns values c j) l ∙ ap (λ x. sum_from a k (hit columns values c j) + x) (hit_other j k q)
-          ∙ add_zero (sum_from a k (hit columns values c j)))
+          ∙ add-zero (sum_from a k (hit columns values c j)))
 
   pub vector_scattered : (a b n : ℕ) (v : List ℕ) → 0 < p → length v ≡ n → Vector p n (scattered p c a b columns values v)
   unfolding scattered

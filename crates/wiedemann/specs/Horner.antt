@@ -17,7 +17,7 @@
 --     after_plain        without scales g(AX)v is g(A)v
 --     vector_diagonal, vector_step, vector_product, vector_apply      what is reduced has elements below p
 use Rattle.std.specs.Prelude.{◌≡◌, refl, ◌≢◌, ◌⊎◌, List, [], ◌∷◌, ℕ, zero, suc, ◌+◌, ◌*◌, ◌-◌, ◌%◌, ◌<◌, length, drop}
-use Rattle.std.proofs.Common.{sym, ap, ap₂, ◌∙◌, subst, inl, inr, zero_add, add_zero, zero_mul, mul_zero, mul_add, mul_left_comm, arith, drop-cons}
+use Rattle.std.proofs.Common.{sym, ap, ap₂, ◌∙◌, subst, inl, inr, zero-add, add-zero, zero-mul, mul-zero, mul-add, mul_left_comm, arith, drop-cons}
 use Rattle.std.proofs.Math.Nat.{add-mod-mod}
 use Rattle.std.proofs.Math.Decide.{ℕ_discrete}
 use Rattle.std.proofs.Math.Seq.{drop-length}
@@ -60,7 +60,7 @@ unfolding step product
 step_product p A x v =
     table_ext (size A) (step_at p A 0 x v)
     (λ i. row_product A v i % p)
-    (λ i l. ap (λ y. y % p) (ap (λ y. y + row_product A v i) (zero_mul (at x i)) ∙ zero_add (row_product A v i)))
+    (λ i l. ap (λ y. y % p) (ap (λ y. y + row_product A v i) (zero-mul (at x i)) ∙ zero-add (row_product A v i)))
 
 pub step_made : (p q : ℕ) → q ≡ p → (A : Matrix) (x v w : List ℕ) → w ≡ step q A 0 x v → w ≡ product p A v
 step_made p q e A x v w made = made ∙ ap (λ m. step m A 0 x v) e ∙ step_product p A x v
@@ -88,9 +88,9 @@ sum_head zero f = omega (arith, sum_suc 0 f, sum_zero f, sum_zero (λ i. f (suc 
 sum_head (suc n) f = omega (arith, sum_suc (suc n) f, sum_head n f, sum_suc n (λ i. f (suc i)))
 
 pub sum_scale : (c n : ℕ) (f : ℕ → ℕ) → sum n (λ i. c * f i) ≡ c * sum n f
-sum_scale c zero f = sum_zero (λ i. c * f i) ∙ sym (ap (λ x. c * x) (sum_zero f) ∙ mul_zero c)
+sum_scale c zero f = sum_zero (λ i. c * f i) ∙ sym (ap (λ x. c * x) (sum_zero f) ∙ mul-zero c)
 sum_scale c (suc n) f =
-    sum_suc n (λ i. c * f i) ∙ ap (λ x. x + c * f n) (sum_scale c n f) ∙ sym (mul_add c (sum n f) (f n)) ∙ ap (λ x. c * x) (sym (sum_suc n f))
+    sum_suc n (λ i. c * f i) ∙ ap (λ x. x + c * f n) (sum_scale c n f) ∙ sym (mul-add c (sum n f) (f n)) ∙ ap (λ x. c * x) (sym (sum_suc n f))
 
 pub sum_swap : (m n : ℕ) (f : ℕ → ℕ → ℕ) → sum m (λ i. sum n (λ j. f i j)) ≡ sum n (λ j. sum m (λ i. f i j))
 sum_swap zero n f = sum_zero (λ i. sum n (λ j. f i j)) ∙ sym (sum_zeros n (λ j. sum 0 (λ i. f i j)) (λ j l. sum_zero (λ i. f i j)))
@@ -186,7 +186,7 @@ apply_one p A a v =
     ∙ table_ext (size A) (λ j. combination p A (a ∷ []) v j % p) (λ j. a * at v j % p)
     (λ j l. ap (λ x. x % p)
     (sum_head 0 (λ i. at (a ∷ []) i * at (power p A i v) j) ∙ ap₂ ◌+◌ (ap (λ w. a * at w j) (power_zero p A v)) (sum_zero (λ i. at (a ∷ []) (suc i) * at (power p A (suc i) v) j))
-    ∙ add_zero (a * at v j)))
+    ∙ add-zero (a * at v j)))
 
 -- ---- the rule as a loop runs it: from the last coefficient to the first
 

@@ -14,7 +14,7 @@
 --     makes_passed, makes_modulus      .. its record counted together; the modulus by its other name
 use Rattle.std.specs.Prelude.{◌≡◌, ◌≢◌, true, false, ℕ, ◌+◌, ◌-◌, ◌*◌, ◌≤◌, ◌<◌, length, take, get_or}
 use Rattle.std.proofs.Math.Path.{refl, sym, ap₂}
-use Rattle.std.proofs.Common.{ap, ◌∙◌, subst, zero_add, arith, take-take}
+use Rattle.std.proofs.Common.{ap, ◌∙◌, subst, zero-add, arith, take-take}
 use mathlib.Core.List.{List, [], ◌∷◌, ◌++◌}
 use Rattle.meaning.specs.List.{at, is_zero}
 use Rattle.meaning.specs.Matrix.{Matrix, size, apply, multiplied, scaled}
@@ -220,7 +220,7 @@ module _ {p : ℕ} {A : Matrix} {w : ℕ} {u W W₁ : List ℕ} {q : CodePass} (
             λ i l.
             subst (λ x. x < p)
             (ap (λ g. at g i) (sym (part_at W₁ f (t + 1) (generator_at n (n - D)) (t + 1) e refl ∙ a.f)) ∙ at_part f (t + 1) W₁ i (omega (arith, l))
-            ∙ sym (at_part 0 m W₁ (f + i) (omega (arith, l, inside)) ∙ ap (at W₁) (zero_add (f + i))))
+            ∙ sym (at_part 0 m W₁ (f + i) (omega (arith, l, inside)) ∙ ap (at W₁) (zero-add (f + i))))
             (generator_below p prime.two_le a.taken i);
       }
     where

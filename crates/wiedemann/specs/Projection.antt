@@ -8,7 +8,7 @@
 --     dot_nothing      a dot product with no vector: 0
 --     projection_past  behind the words: an element, or 0 past the end
 use Rattle.std.specs.Prelude.{◌≡◌, refl, ◌≢◌, ◌⊎◌, true, cond, List, [], ℕ, zero, suc, ◌+◌, ◌-◌, ◌*◌, ◌/◌, ◌%◌, ◌≤◌, ◌<◌, eqb, length, get_or}
-use Rattle.std.proofs.Common.{sym, ap, ap₂, ◌∙◌, inl, inr, zero_add, add_zero, zero_mul, one_mul, mod-eq_of_lt, eq-or-lt_of_le, le_of_suc-le-suc, arith, eq-eqb, ne_eqb}
+use Rattle.std.proofs.Common.{sym, ap, ap₂, ◌∙◌, inl, inr, zero-add, add-zero, zero-mul, one-mul, mod-eq_of_lt, eq-or-lt_of_le, le_of_suc-le-suc, arith, eq-eqb, ne_eqb}
 use Rattle.std.proofs.Math.Nat.{zero-mod}
 use Rattle.std.proofs.Math.Decide.{dec_lt}
 use Rattle.std.proofs.Math.ListN.{get_or-eq_default}
@@ -45,8 +45,8 @@ sum_one (suc n) f j l h = sum_suc n f ∙ go (eq-or-lt_of_le (le_of_suc-le-suc l
   where
     go : (j ≡ n) ⊎ (j < n) → (j < n → sum n f ≡ f j) → sum n f + f n ≡ f j
     go (inl e) ih =
-        ap₂ ◌+◌ (sum_zeros n f (λ i m. h i (omega arith) (λ q. omega (arith, q, m, e)))) (ap f (sym e)) ∙ zero_add (f j)
-    go (inr k) ih = ap₂ ◌+◌ (ih k) (h n (omega arith) (λ q. omega (arith, q, k))) ∙ add_zero (f j)
+        ap₂ ◌+◌ (sum_zeros n f (λ i m. h i (omega arith) (λ q. omega (arith, q, m, e)))) (ap f (sym e)) ∙ zero-add (f j)
+    go (inr k) ih = ap₂ ◌+◌ (ih k) (h n (omega arith) (λ q. omega (arith, q, k))) ∙ add-zero (f j)
 
 pub dot_words : (p : ℕ) (words v : List ℕ) → dot p (table (length v) (λ i. at words i % p)) v ≡ sum (length v) (word_term words v) % p
 unfolding dot
@@ -59,7 +59,7 @@ unfolding dot
 dot_unit p v j l h =
     ap (λ x. x % p)
     (sum_one (length v) (λ i. at unit i * at v i) j l others
-    ∙ ap (λ x. x * at v j) (get_or_table (length v) (λ i. cond (eqb i j) 1 0) j 0 l ∙ ap (λ t. cond t 1 0) (eq-eqb j j refl)) ∙ one_mul (at v j))
+    ∙ ap (λ x. x * at v j) (get_or_table (length v) (λ i. cond (eqb i j) 1 0) j 0 l ∙ ap (λ t. cond t 1 0) (eq-eqb j j refl)) ∙ one-mul (at v j))
     ∙ mod-eq_of_lt h
   where
     unit : List ℕ
@@ -67,11 +67,11 @@ dot_unit p v j l h =
 
     others : (i : ℕ) → i < length v → i ≢ j → at unit i * at v i ≡ 0
     others i k ne =
-        ap (λ x. x * at v i) (get_or_table (length v) (λ m. cond (eqb m j) 1 0) i 0 k ∙ ap (λ t. cond t 1 0) (ne_eqb i j ne)) ∙ zero_mul (at v i)
+        ap (λ x. x * at v i) (get_or_table (length v) (λ m. cond (eqb m j) 1 0) i 0 k ∙ ap (λ t. cond t 1 0) (ne_eqb i j ne)) ∙ zero-mul (at v i)
 
 pub dot_nothing : (p : ℕ) (v : List ℕ) → dot p [] v ≡ 0
 unfolding dot
-dot_nothing p v = ap (λ x. x % p) (sum_zeros (length v) (λ i. at [] i * at v i) (λ i l. zero_mul (at v i))) ∙ zero-mod p
+dot_nothing p v = ap (λ x. x % p) (sum_zeros (length v) (λ i. at [] i * at v i) (λ i l. zero-mul (at v i))) ∙ zero-mod p
 
 -- behind the words: an element, or 0 past the end
 pub projection_past : (p : ℕ) (words v : List ℕ) (j R : ℕ) → R ≡ vector_count (length v) words → R ≤ j → ((i : ℕ) → i < length v → at v i < p)

@@ -12,7 +12,7 @@
 --     Generated              the shortest recurrence of a part: generated
 --     vector_power, vector_terms, apply_unit      Aⁱv and the terms have elements below p; 1(A)v is v
 use Rattle.std.specs.Prelude.{◌≡◌, refl, ◌≢◌, ◌⊎◌, true, cond, List, [], ◌∷◌, ℕ, zero, suc, ◌+◌, ◌-◌, ◌*◌, ◌%◌, ◌≤◌, ◌<◌, length, take, drop, set, eqb}
-use Rattle.std.proofs.Common.{sym, ap, ap₂, ◌∙◌, subst, inl, inr, zero_add, add_zero, one_mul, mod-eq_of_lt, eq-or-lt_of_le, add-one, arith, length-set, get_or-set_same, get_or-set_other, get_or-take, take-take, eq-eqb, ne_eqb}
+use Rattle.std.proofs.Common.{sym, ap, ap₂, ◌∙◌, subst, inl, inr, zero-add, add-zero, one-mul, mod-eq_of_lt, eq-or-lt_of_le, add-one, arith, length-set, get_or-set_same, get_or-set_other, get_or-take, take-take, eq-eqb, ne_eqb}
 use Rattle.std.proofs.Math.Decide.{ℕ_discrete}
 use Rattle.std.proofs.lemmas.List.{take-set-le}
 use Rattle.meaning.specs.List.{at, sum, padded}
@@ -255,7 +255,7 @@ regions {p} {n} {from} {to} {W} m e t o =
       elements =
           λ i l.
           subst (λ x. x < p)
-          (at_part from n W i l ∙ sym (at_part 0 m W (from + i) (omega (arith, l, e, seat_low t.seat)) ∙ ap (at W) (zero_add (from + i))))
+          (at_part from n W i l ∙ sym (at_part 0 m W (from + i) (omega (arith, l, e, seat_low t.seat)) ∙ ap (at W) (zero-add (from + i))))
           (t.elements.below i l);
     }
   where
@@ -284,11 +284,11 @@ advanced {p} {A} {c} {from} {to} {W} m {Y} e t o w =
 
     source_of : part from (size A) (part 0 m W) ≡ part from (size A) W
     source_of =
-        part_of_part from (size A) 0 m W (omega (arith, e, seat_low t.seat)) fits ∙ part_at W (0 + from) (size A) from (size A) (zero_add from) refl
+        part_of_part from (size A) 0 m W (omega (arith, e, seat_low t.seat)) fits ∙ part_at W (0 + from) (size A) from (size A) (zero-add from) refl
 
     whole : Written W to (size A) (step_at p A c (part 0 (size A) W) (part from (size A) W)) (lent W 0 m Y)
     whole =
-        subst (λ a. Written W a (size A) (step_at p A c (part 0 (size A) W) (part from (size A) W)) (lent W 0 m Y)) (zero_add to)
+        subst (λ a. Written W a (size A) (step_at p A c (part 0 (size A) W) (part from (size A) W)) (lent W 0 m Y)) (zero-add to)
         (written_inner W 0 m fits (omega (arith, e, o.low))
         (subst (λ v. Written (part 0 m W) to (size A) (step_at p A c (part 0 (size A) W) v) Y) source_of
         (subst (λ x. Written (part 0 m W) to (size A) (step_at p A c x (part from (size A) (part 0 m W))) Y) origin_of w)))
@@ -443,7 +443,7 @@ pub apply_unit : (p : ℕ) (A : Matrix) (v : List ℕ) → Vector p (size A) v �
 unfolding times
 apply_unit p A v h =
     apply_one p A 1 v
-    ∙ sym (table_of 0 v (size A) (λ j. times p 1 (at v j)) h.places (λ j l. sym (ap (λ x. x % p) (one_mul (at v j)) ∙ mod-eq_of_lt (h.below j l))))
+    ∙ sym (table_of 0 v (size A) (λ j. times p 1 (at v j)) h.places (λ j l. sym (ap (λ x. x % p) (one-mul (at v j)) ∙ mod-eq_of_lt (h.below j l))))
 
 pub applying_none : {p : ℕ} {A : Matrix} {W : List ℕ} {f t : ℕ} → Leading p (size A) W f t → Applying p A W f t t 0 W
 applying_none {p} {A} {W} {f} {t} h =
@@ -494,7 +494,7 @@ applied_all {p} {A} {W} {f} {t} {from} {W₁} m {Y} e l w c =
       holds =
           written_part W₁ 0 (size A) (λ i. at (part 0 m W₁) (from + i)) (lent W₁ 0 m Y) (omega (arith, l, w.same_length)) whole
           ∙ sym (table_of 0 (part from (size A) W₁) (size A) (λ i. at (part 0 m W₁) (from + i)) (length_part from (size A) W₁ (omega (arith, l, w.same_length, low))) same)
-          ∙ w.holds ∙ ap (λ g. apply p A g (part 0 (size A) W)) (part_at W (f + 0) (t + 1 - 0) f (t + 1) (add_zero f) (omega arith));
+          ∙ w.holds ∙ ap (λ g. apply p A g (part 0 (size A) W)) (part_at W (f + 0) (t + 1 - 0) f (t + 1) (add-zero f) (omega arith));
     }
   where
     low : from ≤ 2 * size A
@@ -504,7 +504,7 @@ applied_all {p} {A} {W} {f} {t} {from} {W₁} m {Y} e l w c =
     whole = written_inner W₁ 0 m (omega (arith, l, e, w.same_length)) (omega (arith, e)) c
 
     same : (i : ℕ) → i < size A → at (part from (size A) W₁) i ≡ at (part 0 m W₁) (from + i)
-    same i k = at_part from (size A) W₁ i k ∙ sym (at_part 0 m W₁ (from + i) (omega (arith, e, k, low)) ∙ ap (at W₁) (zero_add (from + i)))
+    same i k = at_part from (size A) W₁ i k ∙ sym (at_part 0 m W₁ (from + i) (omega (arith, e, k, low)) ∙ ap (at W₁) (zero-add (from + i)))
 
 -- ---- terms, recurrence and f(A)r
 

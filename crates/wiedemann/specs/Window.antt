@@ -21,8 +21,8 @@
 --     finished_shortened, window_whole, window_on, window_early                the pass as it ends: with all terms, without a test or with one that failed; early
 use Rattle.std.specs.Prelude.{◌≡◌, refl, ◌≢◌, ◌⊎◌, Bool, true, false, cond, not, ◌&&◌, eqb, ltb, leb, take, drop, set}
 use Rattle.std.proofs.Math.Path.{sym, ap, ap₂}
-use Rattle.std.proofs.Common.{◌∙◌, subst, inl, inr, true≢false, add_zero, mod-lt, eq-or-lt_of_le, arith, length-set, get_or-take, get_or-drop, get_or-set_same, get_or-set_other, length-take-le, take-take, take_all, eqb-true, eq-eqb, ne_eqb, leb-true, le-leb, lt-ltb}
-use Rattle.std.proofs.Math.Bool.{and_true}
+use Rattle.std.proofs.Common.{◌∙◌, subst, inl, inr, true≢false, add-zero, mod-lt, eq-or-lt_of_le, arith, length-set, get_or-take, get_or-drop, get_or-set_same, get_or-set_other, length-take-le, take-take, take_all, eqb-true, eq-eqb, ne_eqb, leb-true, le-leb, lt-ltb}
+use Rattle.std.proofs.Math.Bool.{and-true}
 use mathlib.Core.List.{List, []}
 use Prim.Native.Nat.{ℕ, zero, suc, ◌+◌, ◌-◌, ◌*◌, ◌≤◌, ◌<◌}
 use Rattle.std.proofs.Math.Decide.{dec_lt, ℕ_discrete}
@@ -656,7 +656,7 @@ listened_all {left} {h} l = go (dec_lt h.terms (2 * left))
   where
     go : Dec (h.terms < 2 * left) → h.terms ≡ 2 * left
     go (no a) = omega (arith, a, l.listening.high)
-    go (yes a) = never (ltb h.terms (2 * left)) (lt-ltb h.terms (2 * left) a) (sym (and_true (ltb h.terms (2 * left))) ∙ l.stop)
+    go (yes a) = never (ltb h.terms (2 * left)) (lt-ltb h.terms (2 * left) a) (sym (and-true (ltb h.terms (2 * left))) ∙ l.stop)
 
 -- none is due before the first term
 pub unasked_first : (p : ℕ) (A : Matrix) (left w : ℕ) (u v : List ℕ) {r : ℕ} → r ≡ 1 → Unasked p A left w u v r
@@ -865,11 +865,11 @@ module _ {p : ℕ} {A : Matrix} {left w : ℕ} {u : List ℕ} (B : List ℕ) (m 
 
   -- r
   first_r : part 0 (size A) (part at_r m B) ≡ part at_r (size A) B
-  first_r = part_of_part 0 (size A) at_r m B (omega (arith, room)) fits ∙ part_at B (at_r + 0) (size A) at_r (size A) (add_zero at_r) refl
+  first_r = part_of_part 0 (size A) at_r m B (omega (arith, room)) fits ∙ part_at B (at_r + 0) (size A) at_r (size A) (add-zero at_r) refl
 
   pub heard_residual : part (3 * size A) (size A) (lent B (3 * size A) m R₁) ≡ part (3 * size A) (size A) B
   heard_residual =
-      part_at B₁ at_r (size A) (at_r + 0) (size A) (sym (add_zero at_r)) refl ∙ inner_lent B at_r m R₁ fits same 0 (size A) (omega (arith, room))
+      part_at B₁ at_r (size A) (at_r + 0) (size A) (sym (add-zero at_r)) refl ∙ inner_lent B at_r m R₁ fits same 0 (size A) (omega (arith, room))
       ∙ l.listening.iterated.front ∙ first_r
 
   at_B₁ : (k : ℕ) → k < m → at B₁ (at_r + k) ≡ at R₁ k

@@ -1,6 +1,6 @@
 use Rattle.modular.specs.Modulus.{times_of}
 use Rattle.meaning.specs.Field.{minus, times}
-use native.Mathlib.Nat.{mod-eq_of_lt, mod_self, mul_comm, zero_add}
+use native.Mathlib.Nat.{mod-eq_of_lt, mod_self, mul_comm, zero-add}
 use native.Mathlib.Omega.{arith}
 use mathlib.Core.Logic.{⊎_elim}
 use Prim.Native.Nat.{ℕ, ◌+◌, ◌-◌, ◌*◌, ◌%◌, ◌<◌}
@@ -13,7 +13,7 @@ zero : (p w : ℕ) → w ≡ 0 → 0 ≡ (0 + (p - w)) % p
 zero p w e = sym (ap (λ x. x % p) (omega (arith, e)) ∙ mod_self p)
 
 other : (p w : ℕ) → 0 < w → w < p → p - w ≡ (0 + (p - w)) % p
-other p w e l = sym (ap (λ x. x % p) (zero_add (p - w)) ∙ mod-eq_of_lt (omega (arith, e, l)))
+other p w e l = sym (ap (λ x. x % p) (zero-add (p - w)) ∙ mod-eq_of_lt (omega (arith, e, l)))
 
 sub-negative : tie.Need-overflow-sub-negative
 sub-negative c = search rules

@@ -1,7 +1,7 @@
 -- `numeral::shared` meets its contract. The invariant: what is shared is what was passed and what is shared from there on.
 use mathlib.Core.Path.{◌≡◌, sym, ap, ◌∙◌}
 use Prim.Native.Nat.{◌<◌, ◌≤◌, ◌+◌, ◌-◌}
-use native.Mathlib.Nat.{add_zero, zero_add}
+use native.Mathlib.Nat.{add-zero, zero-add}
 use native.Mathlib.Omega.{arith}
 use lib.ListN.{length, drop}
 use Rattle.system_reader.specs.Scan.{common}
@@ -20,7 +20,7 @@ decreases-loop text from word k₀ k = length word - k
 loop-holds : tie.Need-loop-init invariant-loop decreases-loop
 loop-holds c =
     let a = c.args in
-    (omega arith, omega arith, sym (ap (λ i. 0 + common (drop i a.text.now) a.word.now) (add_zero a.from) ∙ zero_add _))
+    (omega arith, omega arith, sym (ap (λ i. 0 + common (drop i a.text.now) a.word.now) (add-zero a.from) ∙ zero-add _))
 
 sub-if1 : tie.Need-overflow-sub-if1 invariant-loop decreases-loop
 sub-if1 c = search rules

@@ -1,6 +1,6 @@
 use mathlib.Core.Path.{ap, ◌∙◌}
 use Prim.Native.Nat.{◌+◌, ◌-◌, ◌%◌}
-use native.Mathlib.Nat.{add_zero}
+use native.Mathlib.Nat.{add-zero}
 use native.Mathlib.Omega.{arith}
 use Rattle.meaning.specs.List.{sum_from}
 use Rattle.modular.specs.declared.sums.Total.{Total}
@@ -32,7 +32,7 @@ returns c =
     let both : Summed total c.ones.result at.from at.to f =
     summed_both total c.before.fours.result c.ones.result at.from (at.to - (at.to - at.from) % 4) at.to f
     (omega (arith, start.requires.1)) (omega arith) c.before.fours.ensures c.ones.ensures in
-    (both.sum ∙ ap (λ x. x + sum_from at.from at.to f) (add_zero at.start), omega (arith, both.carries, start.requires.2, start.requires.0.few))
+    (both.sum ∙ ap (λ x. x + sum_from at.from at.to f) (add-zero at.start), omega (arith, both.carries, start.requires.2, start.requires.0.few))
 
 pub row-spec : {M : Type 1} → statement M
 row-spec = tie.close (tie.spec sub-middle sub-middle-2 fours-requires ones-requires returns)

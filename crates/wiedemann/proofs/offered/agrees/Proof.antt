@@ -2,7 +2,7 @@ use mathlib.Core.Path.{◌≡◌, refl, sym, ap, ap₂, ◌∙◌}
 use mathlib.Core.Bool.{Bool, ◌&&◌}
 use mathlib.Core.List.{List}
 use Prim.Native.Nat.{ℕ, ◌-◌, ◌%◌, ◌≤◌}
-use native.Mathlib.Nat.{zero_add}
+use native.Mathlib.Nat.{zero-add}
 use native.Mathlib.Omega.{arith}
 use lib.Dec.{eqb}
 use lib.ListN.{length, get_or}
@@ -42,7 +42,7 @@ here c =
     let sum = c.before.before.row in
     ap₂ eqb
     (at_product at.m.p A at.x.now loop.i c.before.before.before.before.before.loop-test.true
-    ∙ ap (λ y. y % at.m.p) (sym (zero_add (row_product A at.x.now loop.i)))
+    ∙ ap (λ y. y % at.m.p) (sym (zero-add (row_product A at.x.now loop.i)))
     ∙ sym
     (row_reduced A loop.i loop.from to.result loop.invariant.1 to.ensures.0 at.m.p 0 0 c.before.residue.result at.x.now
     at.x.now sum.result refl refl sum.ensures.0

@@ -1,4 +1,4 @@
-use native.Mathlib.Nat.{zero_add}
+use native.Mathlib.Nat.{zero-add}
 use Rattle.wiedemann.specs.Projection.{word_term, dot_words}
 use Rattle.modular.specs.Sums.{sum_from_zero}
 use Rattle.modular.specs.declared.sums.Total.{Total}
@@ -41,7 +41,7 @@ returns c =
     ∙ residue_number a.m c.before.last.result pre.1 c.before.last.ensures.low (omega (arith, c.before.last.ensures.carries, pre.0.few))
     ∙ ap (λ x. x % a.m.p)
     ((summed_both none c.before.before.twos.result c.before.last.result 0 (n - n % 2) n (word_term words v) (omega arith) (omega arith) c.before.before.twos.ensures c.before.last.ensures).sum
-    ∙ zero_add (sum_from 0 n (word_term words v)) ∙ sum_from_zero n (word_term words v))
+    ∙ zero-add (sum_from 0 n (word_term words v)) ∙ sum_from_zero n (word_term words v))
     ∙ sym (dot_words a.m.p words v)
 
 pub dot-spec : {M : Type 1} → statement M

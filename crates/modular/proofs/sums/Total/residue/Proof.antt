@@ -1,5 +1,5 @@
 -- What the higher word counts for is added to the lower, and the carry of that counts once more.
-use Rattle.std.proofs.Common.{◌≡◌, ℕ, ◌+◌, ◌*◌, ◌/◌, ◌<◌, ap, ◌∙◌, ap₂, lt_of_le_of_lt, mod-eq_of_lt, zero_add, le-add_left, arith, rules}
+use Rattle.std.proofs.Common.{◌≡◌, ℕ, ◌+◌, ◌*◌, ◌/◌, ◌<◌, ap, ◌∙◌, ap₂, lt_of_le_of_lt, mod-eq_of_lt, zero-add, le-add_left, arith, rules}
 use Rattle.modular.specs.Modulus.{barrett}
 use Rattle.modular.specs.Total.{added, folded, carry_le, high_fits, fold_fits, residue_of}
 use Rattle.modular.proofs.sums.Total.residue.Statement.{statement}
@@ -35,7 +35,7 @@ module _ (c : tie.After-add) where
       let s = low c.before + high c.before * weight c.before in
       let carry = carry_le (low c.before) (high c.before * weight c.before) (below c.before) (omega (arith, room c.before)) in
       ap₂ (λ l h. l + h * weight c.before) (ap (λ t. t.low) c.add.ensures)
-      (ap (λ t. t.high) c.add.ensures ∙ mod-eq_of_lt {n = 0 + s / 18446744073709551616} (omega (arith, carry)) ∙ zero_add (s / 18446744073709551616))
+      (ap (λ t. t.high) c.add.ensures ∙ mod-eq_of_lt {n = 0 + s / 18446744073709551616} (omega (arith, carry)) ∙ zero-add (s / 18446744073709551616))
 
   fits : c.add.result.low + c.add.result.high * weight c.before < 18446744073709551616
   fits = rw same (fold_fits (low c.before) (high c.before) (weight c.before) (below c.before) (few c.before) (light c.before))
