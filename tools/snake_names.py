@@ -87,7 +87,8 @@ def main():
 
     def turn(text, kept=frozenset()):
         def one(m):
-            if m[1] in kept and text[m.start() - 1:m.start()] != '.':
+            field = text[m.start() - 1:m.start()] == '.' or re.match(r' = [^\n]*;\n', text[m.end():])
+            if m[1] in kept and not field:
                 return m[1]
             return new.get(m[1], m[1])
 

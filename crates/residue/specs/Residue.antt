@@ -150,12 +150,12 @@ module _ (p : ℕ) (h : Prime p) where
               one = reduce p 1;
               add_comm = plus_comm p;
               add_assoc = plus_assoc p;
-              add-zero = plus_zero p;
+              add_zero = plus_zero p;
               add_neg = plus_negative;
               mul_comm = times_comm p;
               mul_assoc = times_assoc p;
-              mul-one = times_one p;
-              mul-add = times_plus p;
+              mul_one = times_one p;
+              mul_add = times_plus p;
             };
         inv = inverted p;
         zero? =
