@@ -1,0 +1,13 @@
+use Prim.Native.Nat.{◌-◌, ◌/◌}
+use native.Mathlib.Omega.{arith}
+use lib.ListN.{length-set}
+use borrow.Author.Rules.{rules}
+use Rattle.slices.proofs.Reversing.{Reversing, reversing_none, reversing_more, reversing_all}
+use Rattle.slices.proofs.reverse.Given as goal
+
+-- `slices::reverse` meets its contract: the places outside the middle are in reverse order.
+abbrev pub invariant-loop-i : goal.invariant-loop-i
+invariant-loop-i l = Reversing l.initial.v l.i l.v
+
+abbrev pub decreases-loop-i : goal.decreases-loop-i
+decreases-loop-i l = l.n / 2 - l.i
