@@ -3,6 +3,8 @@
 // The tests of entries and elements go through to the end and join by `&`: a loop without branches is compiled to vector instructions.
 //
 // The contracts cite the crate meaning (Refusal: the checks; Calls: their order for each call).
+#![tactic(auto)]
+
 ghost use Rattle.std.specs.Prelude.{◌≡◌, ◌&&◌, [], ◌+◌, ◌-◌, ◌≤◌, ◌<◌, eqb, leb, length};
 ghost use Rattle.meaning.specs.List.{at, all, all_from, every};
 ghost use Rattle.meaning.specs.Matrix.{matrix};
@@ -14,14 +16,14 @@ ghost use Rattle.checks.specs.Matrix.{column_taken, rises, Ordered, scaled_apply
 use field::is_modulus;
 
 // Products with a matrix: how many were made, and how many of its entries they multiplied.
-#[derive(Drop)]
+#[derive(Clone, Copy)]
 pub struct Products {
     pub made: usize,
     pub multiplied: u64,
 }
 
 // What a call that writes a slice answers.
-#[derive(Drop)]
+#[derive(Clone, Copy)]
 pub enum Writing {
     Done(Products),
     // The number of the first check that turned the input down.

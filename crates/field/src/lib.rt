@@ -3,6 +3,8 @@
 //
 // The contracts cite the crate meaning (Field: what the operations mean; Inverses: what is asked of the table; Calls: what a call refuses and
 // answers) and specs/Answer.antt (what each case of an answer says).
+#![tactic(auto)]
+
 mod byte_field;
 mod euclid;
 mod table;
@@ -17,13 +19,13 @@ pub use euclid::inverse_by_euclid;
 pub use primality::is_modulus;
 
 // Elements are 0 to p - 1.
-#[derive(Drop)]
+#[derive(Clone, Copy)]
 pub struct Field {
     pub p: u32,
 }
 
 // What making a field answers.
-#[derive(Drop)]
+#[derive(Clone, Copy)]
 pub enum Made {
     Field(Field),
     // The number of the check that turned p down.
@@ -31,7 +33,7 @@ pub enum Made {
 }
 
 // What an operation answers.
-#[derive(Drop)]
+#[derive(Clone, Copy)]
 pub enum Answer {
     Element(u32),
     // The number of the first check that turned the record or an operand down.

@@ -1,5 +1,7 @@
 // Makes the field's calls that standard input lists, after their number. A call is a list: which one it is and its numbers. A line of the output: the
 // refusal's number, or 0, and the value. vectors.py makes calls and output.
+#![tactic(auto)]
+
 use field::{Answer, Field, Made};
 use test_io::{at, print};
 

@@ -8,7 +8,7 @@ ghost use Rattle.host.specs.Answers.{element_of};
 use field::{Answer, Field, Made};
 
 #[repr(C)]
-#[derive(Drop)]
+#[derive(Clone, Copy)]
 pub struct Element {
     pub refusal: u32,
     pub value: u32,

@@ -3,6 +3,8 @@
 //
 // A contract says the struct, by meaning's Calls and specs/Answers.antt (the numbers of each struct), and each lent slice afterwards. The functions
 // that lay an answer out take it as its crate promises it, whichever call it is of.
+#![tactic(auto)]
+
 pub mod elements;
 pub mod offered;
 pub mod products;

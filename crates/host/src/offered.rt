@@ -10,7 +10,7 @@ use field::Field;
 use wiedemann::offered::{Offered, is_null, takes};
 
 #[repr(C)]
-#[derive(Drop)]
+#[derive(Clone, Copy)]
 pub struct Yes {
     pub refusal: u32,
     // 1 or 0

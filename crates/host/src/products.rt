@@ -13,7 +13,7 @@ use transposed::transposed;
 use wiedemann::matrix::{apply, product};
 
 #[repr(C)]
-#[derive(Drop)]
+#[derive(Clone, Copy)]
 pub struct Written {
     pub refusal: u32,
     pub multiplied: u64,

@@ -9,7 +9,7 @@ use field::Field;
 use recurrence::{Answer, recurrence};
 
 #[repr(C)]
-#[derive(Drop)]
+#[derive(Clone, Copy)]
 pub struct Degree {
     pub refusal: u32,
     pub degree: u32,

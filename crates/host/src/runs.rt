@@ -10,7 +10,7 @@ use field::Field;
 use solver::{Counts, solve};
 
 #[repr(C)]
-#[derive(Drop)]
+#[derive(Clone, Copy)]
 pub struct Verdict {
     pub refusal: u32,
     // 1 solved, 2 singular

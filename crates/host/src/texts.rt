@@ -12,7 +12,7 @@ use system_reader::{Reading, read};
 use system_writer::{Written, write};
 
 #[repr(C)]
-#[derive(Drop)]
+#[derive(Clone, Copy)]
 pub struct System {
     pub refusal: u32,
     pub modulus: u32,
@@ -21,7 +21,7 @@ pub struct System {
 }
 
 #[repr(C)]
-#[derive(Drop)]
+#[derive(Clone, Copy)]
 pub struct Length {
     pub refusal: u32,
     pub length: u32,

@@ -2,6 +2,8 @@
 // come from. The inverses are found the general way, and not from that table.
 //
 // The contracts cite the crate meaning (Inverses: inverses_text) and specs/Printed.antt.
+#![tactic(auto)]
+
 ghost use Rattle.line_writer.specs.Written.{Wrote};
 ghost use Rattle.meaning.specs.Inverses.{inverses_text};
 ghost use Rattle.inverse_lines.specs.Printed.{Printed};

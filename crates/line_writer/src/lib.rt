@@ -3,6 +3,8 @@
 // `put_line` is the one call. What does not fit is not written, and the place after it is answered all the same: in a slice without room
 // the call measures. The contracts cite the crate meaning (Text: decimal, line), specs/Placed.antt (a slice with a word in it) and
 // specs/Written.antt (what a line leaves, and lines one after the other).
+#![tactic(auto)]
+
 ghost use Rattle.std.specs.Prelude.{◌≡◌, ◌&&◌, ◌∷◌, map, ◌+◌, ◌≤◌, ◌<◌, ltb, leb, length};
 ghost use Rattle.meaning.specs.Text.{decimal, line};
 ghost use Rattle.line_writer.specs.Placed.{placed};

@@ -4,6 +4,8 @@
 // change: two places behind it and, where it refuses, all) and what the two checks say (the refusal's number, or 0, 1 for yes and 0 for no, and
 // how many entries were multiplied): after the product whether A takes v to what it left, at the end whether A takes v to b and whether v is a
 // null vector. A large case is its first list alone, with the numbers that make the others. vectors.py makes cases and output.
+#![tactic(auto)]
+
 ghost use Rattle.std.specs.Prelude.{◌≤◌};
 
 use checks::Writing;
@@ -133,7 +135,7 @@ fn made(head: &[u32], list: u32, j: u32) -> u32 {
 }
 
 // A place of the lists: a list's number of elements, where `j` is 0, then its elements.
-#[derive(Drop)]
+#[derive(Clone, Copy)]
 struct Place {
     list: u32,
     j: u32,

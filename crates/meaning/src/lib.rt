@@ -1,1 +1,2 @@
 // Document 01 as definitions that run, and its cases as rows. There is no code here: see specs/.
+#![tactic(auto)]

@@ -4,6 +4,8 @@
 // Every function is total. Anyone may make up a record; nothing overflows then either, and each contract is one equation for all inputs. What the
 // equation means for a record that `of` made is said by the laws in specs (Modulus: a modulus and a multiplier; Total: two words; Sums: sums over ranges and
 // loops that add them up; Diagonal: products place by place).
+#![tactic(auto)]
+
 pub mod diagonal;
 pub mod modulus;
 pub mod multiplier;

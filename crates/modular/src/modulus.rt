@@ -10,7 +10,7 @@ use std::num::{wrapping_add_u32, wrapping_sub_u32, wrapping_sub_u64};
 
 const MAX: u64 = 18446744073709551615;
 
-#[derive(Drop)]
+#[derive(Clone, Copy)]
 pub struct Modulus {
     pub p: u32,
     // 2⁶⁴ modulo p.

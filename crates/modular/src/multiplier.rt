@@ -9,7 +9,7 @@ use crate::modulus::{Modulus, lessened, reduced};
 use crate::sums::times;
 use std::num::wrapping_add_u32;
 
-#[derive(Drop)]
+#[derive(Clone, Copy)]
 pub struct Multiplier {
     pub constant: u32,
     // constant × 2³² / p, rounded down.

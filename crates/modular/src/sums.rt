@@ -11,7 +11,7 @@ use crate::modulus::Modulus;
 use std::num::{wrapping_add_u32, wrapping_add_u64};
 
 // The number low + high × 2⁶⁴.
-#[derive(Drop)]
+#[derive(Clone, Copy)]
 pub struct Total {
     pub low: u64,
     pub high: u32,

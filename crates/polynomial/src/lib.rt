@@ -1,1 +1,2 @@
 // Definitions and laws only. See specs/.
+#![tactic(auto)]

@@ -2,6 +2,8 @@
 // take equally long, a table of inverses is quicker.
 //
 // The contract cites the crate meaning (Field); specs/Blocks.antt has the rule of the tables, which tables.py prints.
+#![tactic(auto)]
+
 mod blocks;
 mod tables;
 mod wheel;

@@ -3,6 +3,8 @@
 //
 // The contracts cite the crate meaning (Recurrence: the steps and what is shortest; Calls: what a call refuses, answers and leaves),
 // specs/Recurrence.antt (what the slice holds), specs/Steps.antt (what a step makes of it) and specs/OneStep.antt (the calls for one step).
+#![tactic(auto)]
+
 mod convolution;
 pub mod factor;
 mod steps;
@@ -34,7 +36,7 @@ fn transfer(source: &[u32], from: usize, target: &mut [u32], to: usize, size: us
 }
 
 // What a call answers.
-#[derive(Drop)]
+#[derive(Clone, Copy)]
 pub enum Answer {
     // The degree: L, or that of a product.
     Degree(usize),
@@ -87,7 +89,7 @@ pub fn generate(p: u32, count: usize, work: &mut [u32]) -> Answer
 // ---- step by step
 
 // What a start or a step answers.
-#[derive(Drop)]
+#[derive(Clone, Copy)]
 pub enum Stepped {
     Made(Register),
     // The number of the first check that turned the input down.

@@ -25,7 +25,7 @@ use modular::multiplier::Multiplier;
 use slices::{clear, copy_within, reverse};
 
 // What the steps keep beside the regions.
-#[derive(Drop)]
+#[derive(Clone, Copy)]
 pub struct Register {
     // d, the discrepancy of r; before the first r it says nothing
     pub d: u32,

@@ -1,6 +1,8 @@
 // Makes the calls of the shortest recurrence that standard input lists, after their number. A call is two lists: its modulus and the places of its
 // polynomial and work slices; and the terms. A line of the output: the refusal's number, or 0 and the degree; the polynomial slice and two places
 // behind it; and of the work slice what a call may not change, two places behind it and, where it refuses, all. vectors.py makes calls and output.
+#![tactic(auto)]
+
 use recurrence::Answer;
 use test_io::{at, front, list, place, print, show};
 

@@ -1,6 +1,8 @@
 // Places of slices of 32-bit numbers: read, written, cleared, copied, put in reverse order, and whether all are zero. Every function answers for all inputs.
 //
 // The contracts cite the crates meaning (List) and laws (Written), and specs/Copy.antt (what a copy within one slice leaves).
+#![tactic(auto)]
+
 ghost use Rattle.std.specs.Prelude.{◌≡◌, ◌-◌, length};
 ghost use Rattle.meaning.specs.List.{at, table, zeros, padded, is_zero};
 ghost use Rattle.slices.specs.Copy.{Copies};

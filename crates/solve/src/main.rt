@@ -1,5 +1,7 @@
 // Solves the system on standard input: prints the answer's text, or `refused` and the number. All that matters is in `text_call::output`: a buffer
 // shorter than it asks for, one byte more than a text may have, would print nothing.
+#![tactic(auto)]
+
 use libc::{STDIN_FILENO, STDOUT_FILENO};
 
 fn main() {

@@ -3,6 +3,8 @@
 //
 // The contracts cite the crate meaning (Solver: the run and its end; Calls: what a call refuses, answers and leaves), specs/Bill.antt (the bill, pass by
 // pass), specs/Run.antt (what the work slice holds between two passes) and specs/Verdict.antt (what an answer says, and the third condition).
+#![tactic(auto)]
+
 ghost use Rattle.std.specs.Prelude.{◌≡◌, true, [], ◌+◌, ◌-◌, ◌*◌, ◌≤◌, ◌<◌, length};
 ghost use Rattle.meaning.specs.List.{at, table, is_zero};
 ghost use Rattle.meaning.specs.Field.{minus, times};
@@ -30,7 +32,7 @@ use wiedemann::matrix::apply_scaled;
 use wiedemann::pass::{Pass, Passed, make_pass};
 
 // D, the passes, the applications and the entries that these multiplied.
-#[derive(Drop)]
+#[derive(Clone, Copy)]
 pub struct Counts {
     pub degree: usize,
     pub passes: u64,
@@ -39,7 +41,7 @@ pub struct Counts {
 }
 
 // What a run answers. No 'failed' kind exists.
-#[derive(Drop)]
+#[derive(Clone, Copy)]
 pub enum Verdict {
     Solved(Counts),
     Singular(Counts),

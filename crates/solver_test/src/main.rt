@@ -2,6 +2,8 @@
 // polynomial, bill and work slices; starts, columns, values, scales, b and words. A line of the output: the refusal's number; or 0, 1 where it solved and 0 where it found
 // the matrix singular, degree, passes, applications and entries multiplied; then the vector, polynomial and bill slices, each with two places behind
 // it; and of the work slice what a call may not change, two places behind it and, where it refuses, all. vectors.py makes calls and output.
+#![tactic(auto)]
+
 use solver::{Counts, Verdict};
 use test_io::{at, front, list, place, print, show};
 

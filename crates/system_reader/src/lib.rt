@@ -1,6 +1,8 @@
 // The reader of system texts, which come from anywhere: checks 2 to 7 and 11, each over the whole text before the next, and then the slices.
 // Document 01, "System text"; the contracts cite meaning's Text, Refusal and Calls, and specs/Answers gives the paper's number and values
 // for each case of an answer.
+#![tactic(auto)]
+
 mod fill;
 mod line;
 mod numeral;
@@ -19,7 +21,7 @@ use checks::wide;
 use field::is_modulus;
 
 // The modulus, the size and the number of entries; or the number of the check that turned the text down.
-#[derive(Drop)]
+#[derive(Clone, Copy)]
 pub enum Reading {
     Read(u32, u32, u32),
     Refused(u32),

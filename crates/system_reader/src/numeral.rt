@@ -5,7 +5,7 @@ ghost use Rattle.system_reader.specs.Scan.{extends_by, common};
 ghost use Rattle.system_reader.specs.Fields.{NumeralAt, FieldAt, NumbersAt};
 
 // A number, and the place after it; not taken where no numeral stands.
-#[derive(Drop)]
+#[derive(Clone, Copy)]
 pub(crate) struct Number {
     pub taken: bool,
     pub value: u32,
@@ -78,7 +78,7 @@ pub(crate) fn field(text: &[u8], from: usize) -> Number
 }
 
 // The numbers of a line, as many as were wanted, and the place after its byte 10; not taken where the line has another form.
-#[derive(Drop)]
+#[derive(Clone, Copy)]
 pub(crate) struct Numbers {
     pub taken: bool,
     pub first: u32,

@@ -53,7 +53,7 @@ pub(crate) fn value_taken(p: u32, value: u32) -> bool
 }
 
 // Lines of one form, one after the other: where the next one stands, how many there are, and whether all places and all values are taken.
-#[derive(Drop)]
+#[derive(Clone, Copy)]
 pub(crate) struct Group {
     pub next: usize,
     pub count: usize,
@@ -62,7 +62,7 @@ pub(crate) struct Group {
 }
 
 // Lines of a place and a value; and whether every value is 1.
-#[derive(Drop)]
+#[derive(Clone, Copy)]
 pub(crate) struct Placed {
     pub group: Group,
     pub ones: bool,
@@ -139,7 +139,7 @@ pub(crate) fn ended(text: &[u8], from: usize) -> bool
     if l.taken { l.next == text.len() } else { false }
 }
 
-#[derive(Drop)]
+#[derive(Clone, Copy)]
 pub(crate) struct Survey {
     pub formed: bool,
     pub p: u32,

@@ -6,6 +6,8 @@
 // A line of the output: the refusal's number, or 0 and p, n and the number of entries; for each text slice the refusal's number, or 0 and
 // the text's length, and the hash of the slice; and the five slices that the reader filled. Each slice is shown with two places behind it.
 // vectors.py makes calls and output.
+#![tactic(auto)]
+
 ghost use Rattle.std.specs.Prelude.{◌≤◌};
 
 use libc::STDIN_FILENO;

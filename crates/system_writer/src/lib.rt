@@ -1,5 +1,7 @@
 // The writer of system texts: checks 3 to 9 and 11, and then the text. Document 01, "System text", with request (vi)'s `s` lines; the contracts
 // cite meaning's Text and Calls, and specs/Answers gives the paper's number and length for each case of an answer.
+#![tactic(auto)]
+
 mod lines;
 
 ghost use Rattle.std.specs.Prelude.{◌≡◌};
@@ -11,7 +13,7 @@ use crate::lines::whole_text;
 use checks::system_refusal;
 
 // The text's length, or the number of the check that turned the system or the slice down.
-#[derive(Drop)]
+#[derive(Clone, Copy)]
 pub enum Written {
     Length(usize),
     Refused(u32),

@@ -8,6 +8,8 @@
 //     at, place, list, after   what stands in the memory
 //     part, front, ..          a part of a slice, to be read or to be lent
 //     print, show, ..          numbers, and what a slice holds
+#![tactic(auto)]
+
 ghost use Rattle.std.specs.Prelude.{◌≡◌, ◌+◌, ◌*◌, ◌-◌, ◌%◌, ◌≤◌, ◌<◌, min, length, get_or, take, drop};
 ghost use Rattle.test_io.specs.Lists.{next_place, place_after, list_at};
 ghost use Rattle.test_io.specs.Hash.{hash_from};

@@ -3,6 +3,8 @@
 // The contracts cite the crate meaning (Answer: the answer's text; Calls: what the call refuses, answers and leaves), specs/AnswerText.antt
 // (the answer's lines), specs/Loaded.antt (a system in the arrays), specs/Checks.antt (what the call ensures) and specs/Program.antt (what
 // the program prints).
+#![tactic(auto)]
+
 mod answer;
 mod call;
 

@@ -2,6 +2,8 @@
 // answer slice, where its text begins and ends in the input, and for the output where the buffer ends that begins with the text; the texts stand
 // behind the lists. Of a call is printed a line, what it returns and the hash of what stands behind its answer, up to two places behind the slice;
 // and the answer. vectors.py makes calls and output.
+#![tactic(auto)]
+
 use libc::{STDIN_FILENO, STDOUT_FILENO};
 use test_io::{at, place, print, text_part};
 

@@ -1,1 +1,2 @@
 // Laws of the system text. There is no code here: see specs/.
+#![tactic(auto)]

@@ -1,4 +1,6 @@
 // The transposed product of a sparse matrix, row after row. The solver has no use for it, so it stands apart from the kernel.
+#![tactic(auto)]
+
 ghost use Rattle.std.specs.Prelude.{◌≡◌, ℕ, ◌-◌, ◌≤◌, ◌<◌, length};
 ghost use Rattle.meaning.specs.List.{at};
 ghost use Rattle.meaning.specs.Matrix.{matrix, transposed};

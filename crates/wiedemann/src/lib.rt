@@ -1,4 +1,6 @@
 // Sparse matrices modulo a prime: their products and polynomials, one pass of a run, and the checks of offered answers.
+#![tactic(auto)]
+
 pub mod matrix;
 pub mod offered;
 pub mod pass;

@@ -15,7 +15,7 @@ use modular::modulus::Modulus;
 use slices::{element, is_zero};
 
 // What a check of an offered vector answers.
-#[derive(Drop)]
+#[derive(Clone, Copy)]
 pub enum Offered {
     // Yes or no, and how many entries the product multiplied.
     Answer(bool, u64),
@@ -24,7 +24,7 @@ pub enum Offered {
 }
 
 // Whether a product is what it was held to, and how many entries it multiplied.
-#[derive(Drop)]
+#[derive(Clone, Copy)]
 struct Compared {
     equal: bool,
     multiplied: u64,

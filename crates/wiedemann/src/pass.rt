@@ -254,7 +254,7 @@ pub(crate) fn apply_within(
 }
 
 // A pass: left, its degree t, its applications and the entries that these multiplied.
-#[derive(Drop)]
+#[derive(Clone, Copy)]
 pub struct Pass {
     pub left: usize,
     pub degree: usize,
@@ -347,7 +347,7 @@ fn take_factor(
 // ---- the call
 
 // What a pass answers.
-#[derive(Drop)]
+#[derive(Clone, Copy)]
 pub enum Passed {
     Made(Pass),
     // The number of the first check that turned the input down.

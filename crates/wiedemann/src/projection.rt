@@ -12,7 +12,7 @@ use modular::sums::{Total, times};
 use slices::element;
 
 // A projection of a run, by its place among all of them: the first `vectors` are made of the random words, the others are the unit vectors.
-#[derive(Drop)]
+#[derive(Clone, Copy)]
 pub(crate) struct Projection {
     pub(crate) vectors: usize,
     pub(crate) index: usize,

@@ -24,7 +24,7 @@ use slices::{copy_within, is_zero, reverse};
 
 // What a pass knows after some terms: their number and the products that they took, the steps' register, and how many of the last discrepancies
 // were 0.
-#[derive(Drop)]
+#[derive(Clone, Copy)]
 pub(crate) struct Heard {
     pub(crate) terms: usize,
     pub(crate) done: Products,
@@ -261,7 +261,7 @@ fn conclude(
 }
 
 // Whether f(A)r was zero, and the products that the test took.
-#[derive(Drop)]
+#[derive(Clone, Copy)]
 struct Tested {
     zero: bool,
     done: Products,

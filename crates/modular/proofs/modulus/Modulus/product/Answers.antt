@@ -1,0 +1,6 @@
+use Rattle.std.proofs.Common.{ap, ◌∙◌, rules}
+use Rattle.modular.specs.Modulus.{barrett}
+use Rattle.modular.proofs.modulus.Modulus.product.Goals as goal
+
+pub returns : goal.returns
+returns c = c.remainder.ensures ∙ ap (barrett c.args.self) c.times.ensures

@@ -1,0 +1,22 @@
+use mathlib.Core.Path.{◌≡◌, refl, sym, ap, ◌∙◌}
+use mathlib.Core.Bool.{Bool, true, false, ◌&&◌}
+use mathlib.Core.List.{List}
+use mathlib.Core.Logic.{⊎_elim}
+use Prim.Native.Nat.{ℕ, ◌+◌, ◌-◌, ◌≤◌}
+use native.Mathlib.Omega.{arith}
+use native.Mathlib.Numerals.{add-one}
+use borrow.Author.Rules.{rules}
+use borrow.Author.Tests.{not-true, not-false}
+use Rattle.laws.specs.List.{all_suc, all_not}
+use Rattle.meaning.specs.List.{all, at}
+use Rattle.primality.specs.Blocks.{misses}
+use Rattle.primality.proofs.blocks.none_divides.Given as goal
+
+abbrev pub missed : ℕ → ℕ → List ℕ → ℕ → ℕ → Bool
+missed p limit inverses from k = misses p limit (at inverses (from + k))
+
+abbrev pub invariant-loop-j : goal.invariant-loop-j
+invariant-loop-j l = (l.j ≤ 32) × (l.none ≡ all l.j (missed l.p l.limit l.inverses l.from))
+
+abbrev pub decreases-loop-j : goal.decreases-loop-j
+decreases-loop-j l = 32 - l.j
