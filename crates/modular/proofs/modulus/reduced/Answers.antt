@@ -7,4 +7,4 @@ unfolding reduced
 returns c =
     let a = c.args in
     let d = c.wrapping_sub_u32 in
-    c.restored.ensures ∙ ap (restored a.p) (lessened_half a.s a.p d.result d.ensures d.type-inv)
+    c.restored.ensures ∙ ap (restored a.p) (lessened_half a.s a.p d.result d.ensures.value d.type_inv)

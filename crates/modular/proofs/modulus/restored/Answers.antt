@@ -9,4 +9,4 @@ overflow_mul-d c =
 
 pub returns : goal.returns
 unfolding restored
-returns c = c.wrapping_add_u32.ensures
+returns c = c.wrapping_add_u32.ensures.value

@@ -10,6 +10,7 @@ use borrow.Author.Tests.{not-true, not-false}
 use Rattle.laws.specs.List.{all_suc, all_not}
 use Rattle.meaning.specs.List.{all, at}
 use Rattle.primality.specs.Blocks.{misses}
+use Rattle.primality.proofs.blocks.none_divides.Goals.{then-not-is_missed, else-not-is_missed}
 use Rattle.primality.proofs.blocks.none_divides.Goals as goal
 
 -- `primality::blocks::none_divides` meets its contract. The loop's invariant: the answer so far is that of the first j inverses.
@@ -17,10 +18,14 @@ all_more : (n : ℕ) (f : ℕ → Bool) → f n ≡ true → all n f ≡ all (n 
 all_more n f e = sym (ap (λ k. all k f) (add-one n) ∙ all_suc n f ∙ ap (λ b. all n f && b) e ∙ and_true (all n f))
   where
     and_true : (b : Bool) → b && true ≡ b
-    and_true b = elim b [ true ↦ refl | false ↦ refl ]
+    and_true b = elim b as (λ b. b && true ≡ b) [ true ↦ refl | false ↦ refl ]
 
 abbrev missed : ℕ → ℕ → List ℕ → ℕ → ℕ → Bool
 missed p limit inverses from k = misses p limit (at inverses (from + k))
+
+pub loop-j-init : goal.loop-j-init
+unfolding all
+loop-j-init c = search rules
 
 pub loop-j-preserved : goal.loop-j-preserved
 loop-j-preserved c =
@@ -29,8 +34,10 @@ loop-j-preserved c =
     let f = missed a.p a.limit a.inverses.now a.from in
     let is = c.is_missed.ensures in (
       omega arith,
-      ⊎_elim (λ w. w.1 ∙ sym (all_not (j + 1) f j (omega arith) (sym is ∙ not-true _ w.0.taken)))
-          (λ w. w.1 ∙ c.loop-j.invariant.1 ∙ all_more j f (sym is ∙ not-false _ w.0.left)) c.if-not-is_missed.branch,
+      elim c.if-not-is_missed.branch [
+        then-not-is_missed w ↦ w.none-is ∙ sym (all_not (j + 1) f j (omega arith) (sym is ∙ w.if-not-is_missed.true))
+        | else-not-is_missed w ↦ w.none-is ∙ c.loop-j.invariant.1 ∙ all_more j f (sym is ∙ w.if-not-is_missed.false)
+      ],
     )
 
 pub returns : goal.returns

@@ -33,7 +33,7 @@ returns-then-not-none_divides c =
     let pre = c.requires in
     let loop = c.loop-i in
     sym (tables_divided pre.0 pre.1 loop.i (omega arith) loop.invariant.1
-    (sym c.none_divides.ensures ∙ not-true _ c.if-not-none_divides.true))
+    (sym c.none_divides.ensures ∙ c.if-not-none_divides.true))
 
 pub loop-i-preserved : goal.loop-i-preserved
 loop-i-preserved c =
@@ -42,7 +42,7 @@ loop-i-preserved c =
       omega arith,
       omega (arith, (tables_block pre.0 pre.1 loop.i (omega arith)).ordered, loop.invariant.1),
       tables_free pre.0 pre.1 loop.i (omega arith) loop.invariant.1
-          (sym c.none_divides.ensures ∙ not-false _ c.if-not-none_divides.false) loop.invariant.2,
+          (sym c.none_divides.ensures ∙ c.if-not-none_divides.false) loop.invariant.2,
     )
 
 pub returns : goal.returns

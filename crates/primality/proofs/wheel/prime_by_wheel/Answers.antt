@@ -28,15 +28,9 @@ returns-then-p-d-eq0 c =
     let l = below _ _ c.loop-d.invariant.0 c.loop-d-test.true in
     sym (is_prime_divided _ _ (omega arith) (omega arith) c.if-p-d-eq0.true)
 
-pub overflow_add-d : goal.overflow_add-d
-overflow_add-d c = omega arith
-
 pub returns-then-p-d-eq0-2 : goal.returns-then-p-d-eq0-2
 returns-then-p-d-eq0-2 c =
     sym (is_prime_divided _ _ (omega arith) (below _ _ c.loop-d.invariant.0 c.loop-d-test.true) c.if-p-d-eq0-2.true)
-
-pub overflow_add-d : goal.overflow_add-d
-overflow_add-d c = omega arith
 
 pub loop-d-smaller : goal.loop-d-smaller
 loop-d-smaller c =

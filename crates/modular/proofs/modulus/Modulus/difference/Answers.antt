@@ -7,4 +7,4 @@ unfolding difference_of
 returns c =
     let a = c.args in
     let d = c.wrapping_sub_u32 in
-    c.restored.ensures ∙ ap (restored a.self.p) (lessened_half a.a a.b d.result d.ensures d.type-inv)
+    c.restored.ensures ∙ ap (restored a.self.p) (lessened_half a.a a.b d.result d.ensures.value d.type_inv)

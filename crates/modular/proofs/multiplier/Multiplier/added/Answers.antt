@@ -7,4 +7,4 @@ unfolding shoup_added
 returns c =
     let at = c.args in
     c.reduced.ensures
-    ∙ ap (reduced at.p) (c.wrapping_add_u32.ensures ∙ ap (λ n. (at.y + n) % 4294967296) c.times.ensures)
+    ∙ ap (reduced at.p) (c.wrapping_add_u32.ensures.value ∙ ap (λ n. (at.y + n) % 4294967296) c.times.ensures)

@@ -4,7 +4,7 @@ use Rattle.modular.specs.Words.{words_fit}
 use Rattle.modular.proofs.multiplier.Multiplier.times.Goals as goal
 
 pub overflow_mul-h : goal.overflow_mul-h
-overflow_mul-h c = record { fits = words_fit (c.times-h.result / 4294967296) c.args.p (omega (arith, c.times-h.type-inv)) (omega arith) }
+overflow_mul-h c = record { fits = words_fit (c.times-h.result / 4294967296) c.args.p (omega (arith, c.times-h.type_inv)) (omega arith) }
 
 pub returns : goal.returns
 unfolding shoup
