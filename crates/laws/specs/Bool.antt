@@ -4,6 +4,7 @@
 --     and_false_left, and_false_right    it is false if one is
 --     or_true_left, or_true_right        a disjunction is true if one is; or_right: one whose left side is false
 --     not_by, not_both                   a test that fails, by an equal one; by two that are equal to its parts
+--     not_as, not_as_both                the same where it is known what the equal tests are
 --     never                              a test that is both proves anything
 --     test_cases                         a test is true or false
 --     same_test                          two tests that are true together are equal
@@ -50,6 +51,12 @@ not_by e h = ap not (sym e) ∙ h
 
 pub not_both : {a b c d : Bool} {t : Bool} → a ≡ c → b ≡ d → not (a && b) ≡ t → not (c && d) ≡ t
 not_both e f h = ap₂ (λ x y. not (x && y)) (sym e) (sym f) ∙ h
+
+pub not_as : {a b : Bool} {t : Bool} → a ≡ b → a ≡ t → not b ≡ not t
+not_as e h = ap not (sym e ∙ h)
+
+pub not_as_both : {a b c d : Bool} {t : Bool} → a ≡ c → b ≡ d → a && b ≡ t → not (c && d) ≡ not t
+not_as_both e f h = ap not (ap₂ (λ x y. x && y) (sym e) (sym f) ∙ h)
 
 pub never : {A : Type 0} (a : Bool) → a ≡ true → a ≡ false → A
 never a e f = absurd (true≢false (sym e ∙ f))

@@ -1,0 +1,12 @@
+use mathlib.Core.Path.{ap}
+use mathlib.Core.Bool.{◌&&◌}
+use Prim.Native.Nat.{◌-◌}
+use lib.ListN.{length}
+use Rattle.meaning.specs.Refusal.{scale_count_taken}
+use borrow.Author.Rules.{rules}
+use Rattle.checks.proofs.shape_taken.Goals as goal
+
+pub returns : goal.returns
+returns c =
+    let a = c.args in
+    ap (λ t. t && scale_count_taken (length a.starts.now - 1) (length a.scales.now)) c.starts_taken.ensures

@@ -1,0 +1,16 @@
+use mathlib.Core.Path.{ap₂}
+use mathlib.Core.Bool.{◌&&◌}
+use lib.Dec.{eqb, leb}
+use lib.ListN.{length}
+use Rattle.meaning.specs.List.{at}
+use Rattle.meaning.specs.Refusal.{starts_taken}
+use borrow.Author.Rules.{rules}
+use Rattle.checks.proofs.starts_taken.Goals as goal
+
+pub returns : goal.returns
+unfolding starts_taken
+returns c =
+    let a = c.args in
+    let entries = length a.columns.now in
+    ap₂ (λ rise last. eqb (at a.starts.now 0) 0 && rise && eqb last entries && eqb entries (length a.values.now) && leb entries 65536)
+    c.rising.ensures c.wide.ensures.0
