@@ -1,0 +1,12 @@
+use Rattle.recurrence.specs.Factor.{product_at, Descending, descending_none, descending_factors, descending_same, descending_more, descending_all}
+use native.Mathlib.Omega.{arith}
+use Prim.Native.Nat.{◌+◌, ◌-◌, ◌≤◌}
+use mathlib.Core.Path.{◌≡◌, ◌∙◌, subst}
+use borrow.Author.Rules.{rules}
+use Rattle.recurrence.proofs.factor.multiply_within.Given as goal
+
+abbrev pub invariant-loop-k : goal.invariant-loop-k
+invariant-loop-k l = (l.k ≤ l.d + l.t + 1) × Descending l.m.p l.initial.work l.d l.f l.t l.k l.work
+
+abbrev pub decreases-loop-k : goal.decreases-loop-k
+decreases-loop-k l = l.k

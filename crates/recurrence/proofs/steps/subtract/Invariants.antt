@@ -1,0 +1,21 @@
+use mathlib.Core.Path.{◌≡◌, ap, ap₂, ◌∙◌}
+use Prim.Native.Nat.{◌+◌, ◌-◌, ◌≤◌}
+use native.Mathlib.Omega.{arith}
+use borrow.Author.Rules.{rules}
+use Rattle.meaning.specs.List.{at}
+use Rattle.meaning.specs.Field.{minus, times}
+use Rattle.laws.specs.Written.{Written, written_more, written_all}
+use Rattle.laws.specs.Recurrence.{times_lt}
+use Rattle.modular.specs.Modulus.{Multiplies, multiplies_of, times_of, difference_of_law}
+use Rattle.recurrence.proofs.steps.subtract.Given as goal
+
+-- `recurrence::steps::subtract` meets its contract: t lies after what is written of q.
+abbrev pub invariant-loop-i : goal.invariant-loop-i
+invariant-loop-i l = (l.i ≤ l.size) × Written l.initial.work l.q l.i (λ j. minus l.m.p (at l.initial.work (l.q + j)) (times l.m.p l.factor (at l.initial.work (l.t + j)))) l.work
+
+abbrev pub decreases-loop-i : goal.decreases-loop-i
+decreases-loop-i l = l.size - l.i
+made : (c : tie.After-of invariant-loop decreases-loop) → let a = c.before.before.args in (c.of.result.constant ≡ a.factor) × Multiplies a.m.p c.of.result
+made c =
+    let start = c.before.before in
+    multiplies_of c.of.result start.args.m start.args.factor c.of.ensures start.requires.0.1 start.requires.0.0

@@ -1,0 +1,13 @@
+use mathlib.Core.Path.{refl}
+use Prim.Native.Nat.{◌+◌, ◌-◌, ◌≤◌}
+use native.Mathlib.Omega.{arith}
+use borrow.Author.Rules.{rules}
+use Rattle.meaning.specs.List.{at}
+use Rattle.laws.specs.Written.{Written, written_more, written_all}
+use Rattle.recurrence.proofs.transfer.Goals as goal
+
+pub loop-i-preserved : goal.loop-i-preserved
+loop-i-preserved c = (omega arith, written_more _ c.loop-i.invariant.1 (omega arith) refl)
+
+pub returns : goal.returns
+returns c = written_all (omega arith) c.loop-i.invariant.1
