@@ -49,10 +49,10 @@ overflow_add-count-2 c = omega arith
 
 pub transfer-requires-2 : goal.transfer-requires-2
 transfer-requires-2 c =
-    let input = taken (goal.at.transfer-requires-2 c).After-recurrence_refusal-number in
-    let kept = c.shortest-degree.auto.1.1.0 in
+    let input = taken (goal.at.transfer-requires-2 c).Else-number-ne0 in
+    let kept = c.shortest-degree.auto.work in
     (omega (arith, input.room, c.transfer.ensures.same_length, kept), omega (arith, input.size))
 
 pub returns : goal.returns
 returns c =
-    recurred_generator (taken (goal.at.returns c).After-recurrence_refusal-number) c.transfer.ensures (modulus (goal.at.returns c).After-slice_known-3-1).0 c.shortest-degree.ensures c.transfer-2.ensures
+    recurred_generator (taken (goal.at.returns c).Else-number-ne0) c.transfer.ensures (modulus (goal.at.returns c).After-of).0 c.shortest-degree.ensures c.transfer-2.ensures

@@ -13,8 +13,8 @@ use borrow.Author.Rules.{rules}
 use Rattle.recurrence.proofs.terms_refusal.Goals as goal
 
 -- the terms as they are lent
-asked : (p count : ℕ) (W : List ℕ) {r t : Bool} → r ≡ elements p (take (count - 0) (drop 0 W)) → not r ≡ t → not (elements p (take count W)) ≡ t
-asked p count W e = not_by (e ∙ ap (elements p) (part_at W 0 (count - 0) 0 count refl (omega arith)))
+asked : (p count : ℕ) (W : List ℕ) {r t : Bool} → r ≡ elements p (take (count - 0) (drop 0 W)) → r ≡ t → not (elements p (take count W)) ≡ not t
+asked p count W e = not_as (e ∙ ap (elements p) (part_at W 0 (count - 0) 0 count refl (omega arith)))
 
 pub returns-then-number-ne0 : goal.returns-then-number-ne0
 unfolding terms_refusal

@@ -4,7 +4,7 @@ use native.Mathlib.Omega.{arith}
 use Rattle.modular.specs.Total.{residue_number}
 use mathlib.Core.Path.{◌∙◌}
 use borrow.Author.Rules.{rules}
-use Rattle.recurrence.proofs.factor.coefficient.Goals.{Joined-k-d}
+use Rattle.recurrence.proofs.factor.coefficient.Goals.{Joined-k-d, then-k-t, else-k-t, then-k-d, else-k-d}
 use Rattle.recurrence.proofs.factor.coefficient.Goals as goal
 
 -- the sum's bounds
@@ -12,10 +12,10 @@ meeting : (c : Joined-k-d) → Meeting c.args.d c.args.t c.args.k c.if-k-t.from 
 meeting c =
     record {
       inside = c.requires.2;
-      start = ⊎_elim (λ w. omega arith) (λ w. omega arith) c.if-k-t.branch;
-      low = ⊎_elim (λ w. omega arith) (λ w. omega arith) c.if-k-d.branch;
-      short = ⊎_elim (λ w. omega arith) (λ w. omega arith) c.if-k-d.branch;
-      end = ⊎_elim (λ w. inl (omega arith)) (λ w. inr (omega arith)) c.if-k-d.branch;
+      start = elim c.if-k-t.branch [ then-k-t w ↦ omega arith | else-k-t w ↦ omega arith ];
+      low = elim c.if-k-d.branch [ then-k-d w ↦ omega arith | else-k-d w ↦ omega arith ];
+      short = elim c.if-k-d.branch [ then-k-d w ↦ omega arith | else-k-d w ↦ omega arith ];
+      end = elim c.if-k-d.branch [ then-k-d w ↦ inl (omega arith) | else-k-d w ↦ inr (omega arith) ];
     }
 
 pub overflow_add-to : goal.overflow_add-to

@@ -17,9 +17,9 @@ use Rattle.recurrence.proofs.factor.factors_refusal.Goals as goal
 
 -- F and f as they are lent
 asked : (p d f t : ℕ) (W : List ℕ) {a b r : Bool} → a ≡ elements p (take (d + 1 - 0) (drop 0 W)) → b ≡ elements p (take (f + (t + 1) - f) (drop f W))
-    → not (a && b) ≡ r → not (elements p (part 0 (d + 1) W) && elements p (part f (t + 1) W)) ≡ r
+    → a && b ≡ r → not (elements p (part 0 (d + 1) W) && elements p (part f (t + 1) W)) ≡ not r
 asked p d f t W e g =
-    not_both (e ∙ ap (elements p) (part_at W 0 (d + 1 - 0) 0 (d + 1) refl (omega arith)))
+    not_as_both (e ∙ ap (elements p) (part_at W 0 (d + 1 - 0) 0 (d + 1) refl (omega arith)))
     (g ∙ ap (elements p) (part_at W f (f + (t + 1) - f) f (t + 1) refl (omega arith)))
 
 -- their places

@@ -17,6 +17,7 @@ use Rattle.recurrence.proofs.factor.multiply.Goals as goal
 -- no check turned the factors down
 none : (c : Else-number-ne0) → let a = c.args in factors_refusal a.p a.work.now a.d a.f a.t ≡ 0
 none c = sym c.factors_refusal-number.ensures ∙ c.if-number-ne0.false
+
 accepted : (c : Else-number-ne0) → let a = c.args in (within 2 2147483647 a.p ≡ true) × Factors a.p a.work.now a.d a.f a.t
 accepted c = let a = c.args in factors_of a.p a.work.now a.d a.f a.t (none c)
 
@@ -24,7 +25,7 @@ accepted c = let a = c.args in factors_of a.p a.work.now a.d a.f a.t (none c)
 modulus : (c : After-of) → (c.of.result.p ≡ c.args.p) × Modular c.of.result
 modulus c =
     let p = c.args.p in
-    let range = (accepted c.Else-number-ne0).0 in
+    let range = ((let a = c.args in factors_of a.p a.work.now a.d a.f a.t ((sym c.factors_refusal-number.ensures ∙ c.if-number-ne0.false)))).0 in
     let low = within_low 2 2147483647 p range in
     modular_of c.of.result p c.of.ensures (omega (arith, low)) (within_high 2 2147483647 p range)
 

@@ -34,6 +34,7 @@ followed c =
     let begun = c.start-fresh.ensures in
     let stay = begun.laid.1 in
     follows_before stay _ (omega arith) (c.make_steps-c.ensures.follows (follows_after stay 0 (omega arith) begun.follows_steps))
+
 stays : (c : After-make_steps-c) → let a = c.args in TermsStay a.count a.work.now c.make_steps-c.new.work
 stays c = stay_both c.start-fresh.ensures.laid.1 c.make_steps-c.ensures.stay
 

@@ -11,7 +11,7 @@ use Rattle.modular.specs.Total.{number, residue_number}
 use Rattle.recurrence.specs.Convolution.{crossing_within}
 use Rattle.recurrence.proofs.Stepping as stepping
 use Rattle.recurrence.proofs.Stepping.{Kept}
-use Rattle.recurrence.proofs.steps.step.Goals.{After-product-quotient, After-residue-d, Joined-longer}
+use Rattle.recurrence.proofs.steps.step.Goals.{After-product-quotient, After-residue-d, Joined-longer, then-longer, else-longer}
 use Rattle.recurrence.proofs.steps.step.Goals as goal
 
 -- `recurrence::steps::step` meets its contract: each way through it is a case of document 01's step.
@@ -23,10 +23,10 @@ KeptAt c =
 
 kept : (c : Joined-longer) → KeptAt c
 kept c =
-    ⊎_elim
-    (λ w. (_, stepping.kept_copied w.6 (w.3.ensures.copied (stepping.copying c.requires.0))))
-    (λ w. (_, stepping.kept_same w.1))
-    c.if-longer.branch
+    elim c.if-longer.branch [
+      then-longer w ↦ (_, stepping.kept_copied w.work-is (w.copy_within.ensures.copied (stepping.copying c.requires.0)))
+      | else-longer w ↦ (_, stepping.kept_same w.work-is)
+    ]
 
 -- a test comes out one way
 one_way : {b : Bool} {A : Type 0} → b ≡ true → b ≡ false → A
@@ -112,13 +112,13 @@ shape_of-work-then-longer-2 c = c.subtract.ensures.same_length ∙ (kept (goal.a
 pub returns-then-longer-2 : goal.returns-then-longer-2
 returns-then-longer-2 c =
     let longer = c.if-longer-2.true in
-    ⊎_elim
-    (λ w. stepping.after_grow c.requires.0 c.crossed.result c.residue-d.result c.crossed.ensures (found (goal.at.returns-then-longer-2 c).After-residue-d)
-    c.if-d-eq0.false (stepping.kept_copied w.6 (w.3.ensures.copied (stepping.copying c.requires.0)))
-    c.product-quotient.result (factor (goal.at.returns-then-longer-2 c).After-product-quotient) c.subtract.ensures refl (ltb-true (2 * c.args.before.L) c.args.r longer)
-    c.inverse_modulo.result c.inverse_modulo.ensures)
-    (λ w. one_way longer w.0.left)
-    c.if-longer.branch
+    elim c.if-longer.branch [
+      then-longer w ↦ stepping.after_grow c.requires.0 c.crossed.result c.residue-d.result c.crossed.ensures (found (goal.at.returns-then-longer-2 c).After-residue-d)
+    c.if-d-eq0.false (stepping.kept_copied w.work-is (w.copy_within.ensures.copied (stepping.copying c.requires.0)))
+    c.product-quotient.result (factor (goal.at.returns-then-longer-2 c).After-product-quotient) c.subtract.ensures refl longer
+    c.inverse_modulo.result c.inverse_modulo.ensures
+      | else-longer w ↦ absurd (omega arith)
+    ]
 
 pub shape_of-work-else-longer-2 : goal.shape_of-work-else-longer-2
 shape_of-work-else-longer-2 c = c.subtract.ensures.same_length ∙ (kept (goal.at.shape_of-work-else-longer-2 c).Joined-longer).1.copied.same_length
@@ -127,4 +127,4 @@ pub returns-else-longer-2 : goal.returns-else-longer-2
 returns-else-longer-2 c =
     stepping.after_stay c.requires.0 c.crossed.result c.residue-d.result c.crossed.ensures (found (goal.at.returns-else-longer-2 c).After-residue-d)
     c.if-d-eq0.false (kept (goal.at.returns-else-longer-2 c).Joined-longer).1 c.product-quotient.result (factor (goal.at.returns-else-longer-2 c).After-product-quotient) c.subtract.ensures
-    (ltb-false (2 * c.args.before.L) c.args.r c.if-longer-2.false)
+    c.if-longer-2.false

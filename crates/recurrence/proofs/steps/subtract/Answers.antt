@@ -7,8 +7,12 @@ use Rattle.meaning.specs.Field.{minus, times}
 use Rattle.laws.specs.Written.{Written, written_more, written_all}
 use Rattle.laws.specs.Recurrence.{times_lt}
 use Rattle.modular.specs.Modulus.{Multiplies, multiplies_of, times_of, difference_of_law}
-use Rattle.recurrence.proofs.steps.subtract.Goals.{After-times}
+use Rattle.recurrence.proofs.steps.subtract.Goals.{After-of-k, After-times}
 use Rattle.recurrence.proofs.steps.subtract.Goals as goal
+
+made : (c : After-of-k) → let a = c.args in (c.of-k.result.constant ≡ a.factor) × Multiplies a.m.p c.of-k.result
+made c =
+    multiplies_of c.of-k.result c.args.m c.args.factor c.of-k.ensures c.requires.factor_lt_p.1 c.requires.factor_lt_p.0
 
 -- the coefficient's multiple
 multiple : (c : After-times)
@@ -19,8 +23,8 @@ multiple c =
     let a = c.args in
     let l = c.loop-i in
     let x = at l.work (a.t + l.i) in
-    c.times.ensures ∙ times_of a.m.p c.of-k.result (made c.After-of-k).1 x (omega (arith, c.slice_known-in-loop-i-2-1.given (a.t + l.i)))
-    ∙ ap (λ n. times a.m.p n x) (made c.After-of-k).0
+    c.times.ensures ∙ times_of a.m.p c.of-k.result ((multiplies_of c.of-k.result c.args.m c.args.factor c.of-k.ensures c.requires.factor_lt_p.1 c.requires.factor_lt_p.0)).1 x (omega (arith, c.slice_known-in-loop-i-2-1.given (a.t + l.i)))
+    ∙ ap (λ n. times a.m.p n x) ((multiplies_of c.of-k.result c.args.m c.args.factor c.of-k.ensures c.requires.factor_lt_p.1 c.requires.factor_lt_p.0)).0
 
 pub overflow_add-q : goal.overflow_add-q
 overflow_add-q c = omega arith

@@ -15,7 +15,3 @@ invariant-loop-i l = (l.i ≤ l.size) × Written l.initial.work l.q l.i (λ j. m
 
 abbrev pub decreases-loop-i : goal.decreases-loop-i
 decreases-loop-i l = l.size - l.i
-made : (c : tie.After-of invariant-loop decreases-loop) → let a = c.before.before.args in (c.of.result.constant ≡ a.factor) × Multiplies a.m.p c.of.result
-made c =
-    let start = c.before.before in
-    multiplies_of c.of.result start.args.m start.args.factor c.of.ensures start.requires.0.1 start.requires.0.0
