@@ -10,4 +10,3 @@ pub mod Answer  -- the text of an answer and of a refusal
 pub mod Inverses  -- the table of inverses modulo 251, and what its program prints
 pub mod Refusal  -- the checks with their numbers, and which is first
 pub mod Calls  -- what each call refuses, answers and leaves in its slices
-pub mod Rows  -- document 01's cases, proved by computation
