@@ -171,7 +171,7 @@ pub(crate) fn term(
     area[3 * n + i] = value;
 }
 
-// The 2 × left terms u·r, typeof.u.Ar, typeof.u.A²r, .. where the recurrence begins; the answer is the products that they took.
+// The 2 × left terms u·r, u·Ar, u·A²r, .. where the recurrence begins; the answer is the products that they took.
 fn terms(
     m: Modulus,
     starts: &[u32],

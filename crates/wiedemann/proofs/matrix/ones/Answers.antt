@@ -1,0 +1,44 @@
+use mathlib.Core.Path.{◌≡◌}
+use Prim.Native.Nat.{◌-◌, ◌≤◌}
+use native.Mathlib.Omega.{arith}
+use Rattle.modular.specs.Sums.{Summed, summed_none, summed_one}
+use Rattle.checks.specs.Valid.{term}
+use borrow.Author.Rules.{rules}
+use Rattle.wiedemann.proofs.matrix.ones.Goals as goal
+
+pub loop-k-init : goal.loop-k-init
+loop-k-init c =
+    let at = c.args in (
+      omega arith,
+      c.requires.from_le_to.0,
+      summed_none at.total at.from (term at.columns.now at.values.now at.v.now) (omega (arith, c.well_formed)) c.requires.from_le_to.2,
+    )
+
+pub entry-requires : goal.entry-requires
+entry-requires c = let pre = c.requires in record { entries = pre.entries; k_in_bounds = omega (arith, c.loop-k-test.true, pre.from_le_to.1) }
+
+pub overflow_add-k : goal.overflow_add-k
+overflow_add-k c =
+    omega (arith, c.loop-k-test.true, c.requires.from_le_to.1, c.requires.entries.few)
+
+pub loop-k-smaller : goal.loop-k-smaller
+loop-k-smaller c = omega (arith, c.loop-k-test.true)
+
+pub loop-k-preserved : goal.loop-k-preserved
+loop-k-preserved c =
+    let at = c.args in
+    let loop = c.loop-k in
+    let test = c.loop-k-test.true in
+    let f = term at.columns.now at.values.now at.v.now in (
+      omega (arith, loop.invariant.0),
+      omega (arith, test),
+      summed_one at.total loop.sum c.add-sum.result at.from loop.k f c.entry.result loop.invariant.0
+          (omega (arith, test, c.requires.from_le_to.1, c.requires.entries.few)) loop.invariant.2 c.entry.type_inv c.entry.ensures.0 c.add-sum.ensures,
+    )
+
+pub returns : goal.returns
+returns c =
+    let at = c.args in
+    let loop = c.loop-k in
+    let end : loop.k ≡ at.to = omega (arith, loop.invariant.1, c.loop-k-test.false) in
+    rw (← end) loop.invariant.2

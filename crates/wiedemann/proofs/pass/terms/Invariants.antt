@@ -1,0 +1,24 @@
+use Rattle.wiedemann.specs.Turns.{seat_low, region_at, region_first, vector_power, Iterated, iterated_none, iterated_more, iterated_from, iterated_all}
+use Rattle.wiedemann.specs.Horner.{vector_step}
+use Rattle.laws.specs.Part.{part}
+use Rattle.checks.specs.Valid.{valid_scaled, Vector}
+use Rattle.meaning.specs.Solver.{dot, projections}
+use Rattle.meaning.specs.Matrix.{matrix, scaled}
+use Rattle.checks.specs.declared.Products.{Products}
+use Rattle.checks.specs.Products.{products_with, products_none, products_next, products_few}
+use mathlib.Core.List.{[]}
+use lib.ListN.{length, get_or, set}
+use native.Mathlib.Omega.{arith}
+use Prim.Native.Nat.{◌+◌, ◌-◌, ◌*◌, ◌≤◌}
+use mathlib.Core.Path.{◌≡◌, refl, sym, ap, ◌∙◌, subst}
+use borrow.Author.Rules.{rules}
+use Rattle.wiedemann.proofs.pass.terms.Given as goal
+
+abbrev pub invariant-loop-done : goal.invariant-loop-done
+invariant-loop-done l =
+    (l.done.made + 1 ≤ 2 * l.left) × (3 * l.n + 2 * l.left ≤ length l.initial.area) × Vector l.m.p l.n (part 0 l.n l.initial.area)
+    × Iterated l.m.p (scaled l.m.p (matrix l.starts l.columns l.values) l.scales) (get_or (projections l.m.p l.n l.words) l.u.index []) l.initial.area l.done.made (region_at l.n l.done.made) l.area
+    × (l.done ≡ products_with l.done.made (scaled l.m.p (matrix l.starts l.columns l.values) l.scales))
+
+abbrev pub decreases-loop-done : goal.decreases-loop-done
+decreases-loop-done l = 2 * l.left - l.done.made
