@@ -27,6 +27,7 @@ fn put_lines(out: &mut [u8]) -> usize
 }
 
 // Puts the lines at the front of a slice of at least 2,500 bytes and answers their length; a shorter slice stays as it is, and the answer is 0.
+#[tactic(auto, using(crate::specs::Printed::printed_short))]
 pub fn output(out: &mut [u8]) -> usize
     ensures { Printed out.old result out.new }
 {

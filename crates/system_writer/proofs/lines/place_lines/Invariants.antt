@@ -1,0 +1,14 @@
+use Prim.Native.Nat.{◌-◌, ◌≤◌}
+use lib.ListN.{length}
+use Rattle.meaning.specs.List.{flat, table}
+use Rattle.line_writer.specs.Written.{last, Wrote}
+use Rattle.system_writer.specs.Writes.{place_line}
+use Rattle.system_writer.proofs.lines.place_lines.Given as goal
+
+-- `lines::place_lines` meets its contract. The invariant: the lines of the elements below i are written.
+abbrev pub invariant-loop-i : goal.invariant-loop-i
+invariant-loop-i l =
+    (l.i ≤ length l.v) × (l.next ≤ last) × Wrote l.initial.out l.at (flat (table l.i (place_line l.letter l.v))) l.next l.out
+
+abbrev pub decreases-loop-i : goal.decreases-loop-i
+decreases-loop-i l = length l.v - l.i
