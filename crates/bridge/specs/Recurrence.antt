@@ -8,7 +8,7 @@
 --     recurs_to, recurs_from   what recurs tests
 --     generator_shortest       f is the theory's shortest recurrence of the list's terms
 --     is_shortest               document 01's sentence: the least L, f recurs, and where 2 × L ≤ N no other does
-use Rattle.std.specs.Prelude.{◌≡◌, refl, ◌≢◌, true, ◌&&◌, List, ◌∷◌, length}
+use Rattle.std.specs.Prelude.{◌≡◌, refl, ◌≢◌, true, List, ◌∷◌, length}
 use Rattle.std.proofs.Math.Path.{sym, ap}
 use Rattle.std.proofs.Common.{ap₂, ◌∙◌, mod-lt, mod-eq_of_lt, add-one, arith}
 use Prim.Native.Nat.{ℕ, zero, suc, ◌+◌, ◌-◌, ◌*◌, ◌%◌, ◌≤◌, ◌<◌, max}

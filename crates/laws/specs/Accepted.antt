@@ -25,7 +25,7 @@ use Rattle.meaning.specs.Refusal.{check, first, elements, rows_taken, size_taken
 use Rattle.meaning.specs.Calls.{system_checks, run_checks, solver_refusal}
 use Rattle.laws.specs.Bool.{and_left, and_right, and_both, and_five, or_right, test_cases}
 use Rattle.laws.specs.List.{all_at, all_of, every_nil, every_at, every_of, length_table, get_or_table}
-use Rattle.laws.specs.Refusal.{first_nil, first_passed, first_pass, first_append_none, first_append_zero, numbered_scaled, numbered_matrix, numbered_system, numbered_run}
+use Rattle.laws.specs.Refusal.{first_nil, first_passed, first_pass, first_append_zero, numbered_scaled, numbered_matrix, numbered_system, numbered_run}
 
 pub modulus_low : (p : ℕ) → is_modulus p ≡ true → 2 ≤ p
 unfolding is_modulus is_prime

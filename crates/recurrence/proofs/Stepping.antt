@@ -18,7 +18,7 @@ use native.Mathlib.Nat.{zero-add, mod-eq_of_lt}
 use native.Mathlib.Omega.{arith}
 use lib.ListN.{length, take, set, length-set}
 use lib.Seq.{get_or-take, take-take, take-set-le, get_or-set_same, get_or-set_other}
-use Rattle.meaning.specs.List.{at, sum, sum_from}
+use Rattle.meaning.specs.List.{at, sum_from}
 use Rattle.meaning.specs.Field.{minus, times, inverse}
 use Rattle.meaning.specs.Recurrence.{Steps, start, discrepancy, update, step, steps}
 use Rattle.laws.specs.List.{sum_ext}

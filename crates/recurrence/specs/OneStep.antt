@@ -13,7 +13,6 @@ use Rattle.std.specs.Prelude.{◌≡◌, refl, ◌≢◌, ◌⊎◌, Bool, true,
 use Rattle.std.proofs.Common.{sym, ap, ◌∙◌, subst, inl, inr, arith, get_or-take, length-take-le, eqb-true, eq-eqb, ltb-true, lt-ltb, leb-true, le-leb}
 use Rattle.std.proofs.Math.Decide.{dec_lt}
 use Rattle.meaning.specs.List.{at}
-use Rattle.meaning.specs.Field.{inverse}
 use Rattle.meaning.specs.Refusal.{check, first, within, elements}
 use Rattle.laws.specs.Bool.{and_left, and_right, and_both, and_five, or_true_left, or_true_right, or_right, test_cases, same_test}
 use Rattle.laws.specs.Part.{part, length_part, at_part}

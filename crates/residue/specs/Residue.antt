@@ -8,7 +8,7 @@
 --     mk_zero, mk_one, mk_modulus, mk_mod, mk_add, mk_mul, mk_neg, mk_sub, mk_inv, mk_euclid      an operation on numbers as one on residues
 --     mk-laws          those of them that always apply: `simp (mk-laws, ring-laws)` proves equations modulo p
 --     The inverse of zero is zero here, where the meaning's `inverse p 0` is p: mk_inv holds for every number.
-use Rattle.std.specs.Prelude.{◌≡◌, ◌≢◌, ◌↔◌, ℕ, zero, ◌+◌, ◌*◌, ◌-◌, ◌%◌, ◌<◌}
+use Rattle.std.specs.Prelude.{◌≡◌, ◌≢◌, ◌↔◌, ℕ, ◌+◌, ◌*◌, ◌-◌, ◌%◌, ◌<◌}
 use Rattle.std.proofs.Math.Path.{refl, sym, ap}
 use Rattle.std.proofs.Common.{◌∙◌, mod-lt, mod-eq_of_lt, add_comm, add_assoc, add-zero, le_of_lt, mul_comm, mul_assoc, mul-add, mul-one, pos_of_ne-zero, arith}
 use mathlib.Core.HLevel.{Σ_prop_path}

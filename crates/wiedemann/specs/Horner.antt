@@ -24,7 +24,7 @@ use Rattle.std.proofs.Math.Seq.{drop-length}
 use Rattle.meaning.specs.List.{at, sum, sum_from, table}
 use Rattle.meaning.specs.Field.{times}
 use Rattle.meaning.specs.Matrix.{Matrix, size, product, power, apply, scale_at, scaled, diagonal}
-use Rattle.laws.specs.List.{sum_zero, sum_suc, sum_ext, sum_zeros, sum_add, sum_mod, sum_mod_ext, length_table, get_or_table, table_ext}
+use Rattle.laws.specs.List.{sum_zero, sum_suc, sum_ext, sum_zeros, sum_add, sum_mod_ext, length_table, get_or_table, table_ext}
 use Rattle.residue.specs.Numbers.{mul_mod_mod}
 use Rattle.bridge.specs.Scaled.{row_scaled, scaled_none}
 use Rattle.meaning.specs.Refusal.{unless_refused}

@@ -1,13 +1,11 @@
 use mathlib.Core.Path.{◌≡◌, sym, ap, ◌∙◌}
 use mathlib.Core.Bool.{◌&&◌}
-use Prim.Native.Nat.{◌-◌, ◌≤◌}
 use native.Mathlib.Omega.{arith}
 use lib.Dec.{eqb}
 use lib.ListN.{length, get_or}
 use Rattle.meaning.specs.List.{all}
 use Rattle.laws.specs.List.{all_zero, every_all}
 use Rattle.checks.specs.Matrix.{all_more}
-use borrow.Author.Rules.{rules}
 use Rattle.checks.proofs.all_ones.Goals as goal
 
 pub loop-i-init : goal.loop-i-init

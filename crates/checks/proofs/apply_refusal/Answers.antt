@@ -4,7 +4,6 @@ use native.Mathlib.Omega.{arith}
 use Rattle.laws.specs.Bool.{not_as_both}
 use Rattle.laws.specs.Refusal.{numbered_scaled, first_stops, first_past, first_nil, leading_refused, leading_passed}
 use Rattle.checks.specs.Matrix.{scaled_sized, scaled_apply_refusal}
-use borrow.Author.Rules.{rules}
 use Rattle.checks.proofs.apply_refusal.Goals as goal
 
 pub returns-then-number-ne0 : goal.returns-then-number-ne0

@@ -1,10 +1,8 @@
 use mathlib.Core.Path.{◌≡◌, sym, ap, ◌∙◌}
 use mathlib.Core.Bool.{◌&&◌}
-use Prim.Native.Nat.{◌-◌, ◌≤◌}
 use native.Mathlib.Omega.{arith}
 use Rattle.meaning.specs.List.{all_from}
 use Rattle.checks.specs.Matrix.{rises, all_from_none, all_from_more}
-use borrow.Author.Rules.{rules}
 use Rattle.checks.proofs.columns_rise.Goals as goal
 
 pub loop-k-init : goal.loop-k-init

@@ -1,10 +1,7 @@
-use mathlib.Core.Path.{◌≡◌, sym, ap, ◌∙◌}
-use mathlib.Core.Bool.{◌&&◌}
+use mathlib.Core.Path.{◌≡◌}
 use Prim.Native.Nat.{◌-◌, ◌≤◌}
-use native.Mathlib.Omega.{arith}
 use Rattle.meaning.specs.List.{all_from}
-use Rattle.checks.specs.Matrix.{rises, all_from_none, all_from_more}
-use borrow.Author.Rules.{rules}
+use Rattle.checks.specs.Matrix.{rises}
 use Rattle.checks.proofs.columns_rise.Given as goal
 
 abbrev pub invariant-loop-k : goal.invariant-loop-k

@@ -3,7 +3,6 @@ use native.Mathlib.Omega.{arith}
 use Rattle.laws.specs.Refusal.{numbered_scaled, leading_refused, leading_passed}
 use Rattle.checks.specs.Matrix.{scaled_sized}
 use Rattle.checks.specs.Pass.{pass_refusal}
-use borrow.Author.Rules.{rules}
 use Rattle.checks.proofs.pass_refusal.Goals as goal
 
 pub returns-then-number-ne0 : goal.returns-then-number-ne0

@@ -4,7 +4,6 @@ use native.Mathlib.Omega.{arith}
 use borrow.Author.Tests.{eq-eqb, ne_eqb}
 use Rattle.laws.specs.Refusal.{first_stops, first_past, first_nil}
 use Rattle.checks.specs.Matrix.{system_sized, product_refused, product_passed}
-use borrow.Author.Rules.{rules}
 use Rattle.checks.proofs.product_refusal.Goals as goal
 
 pub returns-then-number-ne0 : goal.returns-then-number-ne0

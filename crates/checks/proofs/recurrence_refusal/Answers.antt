@@ -4,7 +4,6 @@ use borrow.Author.Tests.{lt-leb, le-leb}
 use Rattle.meaning.specs.Calls.{recurrence_refusal}
 use Rattle.laws.specs.Bool.{not_as}
 use Rattle.laws.specs.Refusal.{first_stops, first_past, first_nil}
-use borrow.Author.Rules.{rules}
 use Rattle.checks.proofs.recurrence_refusal.Goals as goal
 
 pub returns-then-not-is_modulus : goal.returns-then-not-is_modulus

@@ -1,13 +1,8 @@
-use mathlib.Core.Path.{◌≡◌, sym, ap, ◌∙◌}
-use mathlib.Core.Bool.{◌&&◌}
+use mathlib.Core.Path.{◌≡◌}
 use Prim.Native.Nat.{◌+◌, ◌-◌, ◌≤◌}
-use native.Mathlib.Omega.{arith}
 use lib.Dec.{leb}
 use lib.ListN.{length}
 use Rattle.meaning.specs.List.{at, all}
-use Rattle.laws.specs.List.{all_zero}
-use Rattle.checks.specs.Matrix.{all_more}
-use borrow.Author.Rules.{rules}
 use Rattle.checks.proofs.rising.Given as goal
 
 abbrev pub invariant-loop-i : goal.invariant-loop-i

@@ -4,7 +4,6 @@ use native.Mathlib.Omega.{arith}
 use lib.Dec.{ltb}
 use Rattle.meaning.specs.List.{all_from}
 use Rattle.checks.specs.Matrix.{column_taken, all_from_none, row_last}
-use borrow.Author.Rules.{rules}
 use Rattle.checks.proofs.row_taken.Goals as goal
 
 pub returns-then-from-end : goal.returns-then-from-end

@@ -1,12 +1,10 @@
 use mathlib.Core.Path.{sym, ◌∙◌}
 use native.Mathlib.Omega.{arith}
 use Rattle.meaning.specs.Refusal.{size_taken, columns_taken, scaled_checks}
-use borrow.Author.Tests.{not-false}
 use Rattle.laws.specs.Bool.{and_left, not_as}
 use Rattle.laws.specs.Refusal.{first_stops, first_past, first_nil}
 use Rattle.laws.specs.Accepted.{size_known}
 use Rattle.checks.specs.Matrix.{ordered}
-use borrow.Author.Rules.{rules}
 use Rattle.checks.proofs.scaled_refusal.Goals as goal
 
 pub returns-then-not-is_modulus : goal.returns-then-not-is_modulus

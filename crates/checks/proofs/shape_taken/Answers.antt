@@ -3,7 +3,6 @@ use mathlib.Core.Bool.{◌&&◌}
 use Prim.Native.Nat.{◌-◌}
 use lib.ListN.{length}
 use Rattle.meaning.specs.Refusal.{scale_count_taken}
-use borrow.Author.Rules.{rules}
 use Rattle.checks.proofs.shape_taken.Goals as goal
 
 pub returns : goal.returns

@@ -8,7 +8,6 @@ use Rattle.meaning.specs.Refusal.{window_taken}
 use Rattle.laws.specs.Refusal.{first_stops, first_past, first_nil}
 use Rattle.checks.specs.Matrix.{system_sized}
 use Rattle.checks.specs.Solver.{solver_refused, solver_passed}
-use borrow.Author.Rules.{rules}
 use Rattle.checks.proofs.solver_refusal.Goals.{Else-number-ne0, Else-window-gt64}
 use Rattle.checks.proofs.solver_refusal.Goals as goal
 

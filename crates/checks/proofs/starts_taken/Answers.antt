@@ -4,7 +4,6 @@ use lib.Dec.{eqb, leb}
 use lib.ListN.{length}
 use Rattle.meaning.specs.List.{at}
 use Rattle.meaning.specs.Refusal.{starts_taken}
-use borrow.Author.Rules.{rules}
 use Rattle.checks.proofs.starts_taken.Goals as goal
 
 pub returns : goal.returns

@@ -1,15 +1,12 @@
 use Rattle.checks.specs.Pass.{residual_at, held_elements, state_8, state_10, state_11, state_9, state_0}
 use Rattle.laws.specs.Lent.{part_at}
 use Rattle.meaning.specs.Refusal.{elements, words_taken}
-use Rattle.laws.specs.Bool.{not_as_both}
 use lib.ListN.{length, take, drop}
 use native.Mathlib.Omega.{arith}
 use Prim.Native.Nat.{ℕ, ◌+◌, ◌-◌, ◌*◌, ◌≤◌, ◌<◌}
-use mathlib.Core.Bool.{Bool, true, not, ◌&&◌}
+use mathlib.Core.Bool.{Bool, true, ◌&&◌}
 use mathlib.Core.List.{List}
 use mathlib.Core.Path.{◌≡◌, refl, sym, ap, ap₂, ◌∙◌}
-use borrow.Author.Tests.{not-true, not-false}
-use borrow.Author.Rules.{rules}
 use Rattle.checks.proofs.state_refusal.Goals as goal
 
 -- F's part and r's, as they are lent

@@ -6,7 +6,6 @@ use Rattle.meaning.specs.Calls.{system_checks}
 use Rattle.laws.specs.Bool.{not_as}
 use Rattle.laws.specs.Refusal.{numbered_scaled, first_stops, first_past, first_nil, leading_refused, leading_passed}
 use Rattle.checks.specs.Matrix.{scaled_sized}
-use borrow.Author.Rules.{rules}
 use Rattle.checks.proofs.system_refusal.Goals as goal
 
 pub returns-then-number-ne0 : goal.returns-then-number-ne0

@@ -5,7 +5,6 @@ use Rattle.meaning.specs.Calls.{takes_refusal}
 use Rattle.laws.specs.Bool.{not_as_both}
 use Rattle.laws.specs.Refusal.{numbered_matrix, first_stops, first_past, first_nil, leading_refused, leading_passed}
 use Rattle.checks.specs.Matrix.{matrix_sized}
-use borrow.Author.Rules.{rules}
 use Rattle.checks.proofs.takes_refusal.Goals as goal
 
 pub returns-then-number-ne0 : goal.returns-then-number-ne0

@@ -1,13 +1,11 @@
 use mathlib.Core.Path.{◌≡◌, sym, ap, ◌∙◌}
 use mathlib.Core.Bool.{◌&&◌}
-use Prim.Native.Nat.{◌-◌, ◌≤◌}
 use native.Mathlib.Omega.{arith}
 use lib.ListN.{length, get_or}
 use Rattle.meaning.specs.List.{all}
 use Rattle.meaning.specs.Refusal.{value_taken}
 use Rattle.laws.specs.List.{all_zero, every_all}
 use Rattle.checks.specs.Matrix.{all_more}
-use borrow.Author.Rules.{rules}
 use Rattle.checks.proofs.values_taken.Goals as goal
 
 pub loop-k-init : goal.loop-k-init

@@ -1,13 +1,8 @@
-use mathlib.Core.Path.{◌≡◌, sym, ap, ◌∙◌}
-use mathlib.Core.Bool.{◌&&◌}
+use mathlib.Core.Path.{◌≡◌}
 use Prim.Native.Nat.{◌-◌, ◌≤◌}
-use native.Mathlib.Omega.{arith}
 use lib.ListN.{length, get_or}
 use Rattle.meaning.specs.List.{all}
 use Rattle.meaning.specs.Refusal.{value_taken}
-use Rattle.laws.specs.List.{all_zero, every_all}
-use Rattle.checks.specs.Matrix.{all_more}
-use borrow.Author.Rules.{rules}
 use Rattle.checks.proofs.values_taken.Given as goal
 
 abbrev pub invariant-loop-k : goal.invariant-loop-k

@@ -1,6 +1,5 @@
 use Rattle.checks.specs.Solver.{words_none, words_multiple, words_broken}
 use native.Mathlib.Nat.{pos_of_ne-zero}
-use borrow.Author.Rules.{rules}
 use Rattle.checks.proofs.words_taken.Goals as goal
 
 pub returns-then-n-eq0 : goal.returns-then-n-eq0

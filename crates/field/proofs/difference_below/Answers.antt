@@ -2,7 +2,6 @@ use mathlib.Core.Path.{sym}
 use native.Mathlib.Omega.{arith}
 use Rattle.meaning.specs.Field.{minus}
 use Rattle.residue.specs.Numbers.{sub_mod_le, sub_mod_lt}
-use borrow.Author.Rules.{rules}
 use Rattle.field.proofs.difference_below.Goals as goal
 
 pub returns-then-b-a : goal.returns-then-b-a

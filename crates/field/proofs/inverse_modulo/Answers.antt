@@ -1,6 +1,5 @@
 use mathlib.Core.Path.{sym, ap, ◌∙◌}
 use Rattle.meaning.specs.Field.{inverse}
-use borrow.Author.Rules.{rules}
 use Rattle.field.proofs.inverse_modulo.Goals as goal
 
 pub returns-then-p-eq251 : goal.returns-then-p-eq251

@@ -1,6 +1,5 @@
 use mathlib.Core.Path.{sym, ◌∙◌}
 use Rattle.field.proofs.Refusals.{inverse_operation, inverse_of_zero, inverse_taken}
-use borrow.Author.Rules.{rules}
 use Rattle.field.proofs.inverse_refusal.Goals as goal
 
 pub returns-then-number-ne0 : goal.returns-then-number-ne0

@@ -1,7 +1,5 @@
 use mathlib.Core.Path.{sym, ◌∙◌}
-use borrow.Author.Tests.{not-true, not-false}
 use Rattle.field.proofs.Refusals.{operation_modulus, operation_operand, operation_taken}
-use borrow.Author.Rules.{rules}
 use Rattle.field.proofs.operation_refusal.Goals as goal
 
 pub returns-then-not-prime : goal.returns-then-not-prime

@@ -4,7 +4,6 @@ use native.Mathlib.Nat.{mul-le-mul, mod-lt}
 use native.Mathlib.Omega.{arith}
 use Rattle.meaning.specs.Field.{times}
 use Rattle.residue.specs.Prime.{isModulus-le}
-use borrow.Author.Rules.{rules}
 use Rattle.field.proofs.product_below.Goals as goal
 
 -- `field::product_below` meets its contract: the product of two numbers below 2³¹ fits 64 bits, and its remainder is below p.

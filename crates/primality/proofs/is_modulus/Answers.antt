@@ -3,7 +3,6 @@ use mathlib.Core.Bool.{true}
 use Prim.Native.Nat.{ℕ, ◌≤◌, ◌<◌}
 use native.Mathlib.Nat.{mul-le-mul}
 use native.Mathlib.Omega.{arith}
-use borrow.Author.Rules.{rules}
 use Rattle.meaning.specs.Field.{is_prime}
 use Rattle.residue.specs.Prime.{up_to_root, is_prime_Prime, is_prime_small, is_prime_divided, is_modulus_small, is_modulus_large}
 use Rattle.primality.proofs.is_modulus.Goals as goal

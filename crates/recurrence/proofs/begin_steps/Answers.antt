@@ -1,7 +1,6 @@
 use mathlib.Core.Path.{sym}
 use Rattle.laws.specs.Refusal.{zero_by}
 use Rattle.recurrence.specs.OneStep.{Started, answers_made, answers_refused, room_ready}
-use borrow.Author.Rules.{rules}
 use Rattle.recurrence.proofs.begin_steps.Goals as goal
 
 pub returns-then-number-ne0 : goal.returns-then-number-ne0

@@ -3,7 +3,6 @@ use native.Mathlib.Omega.{arith}
 use Rattle.modular.specs.Modulus.{Modular, modular_of}
 use Rattle.recurrence.specs.Recurrence.{Ready, terms_ready}
 use Rattle.recurrence.proofs.Recurred.{same_modulus, generates_degree, generates_refused}
-use borrow.Author.Rules.{rules}
 use Rattle.recurrence.proofs.generate.Goals.{After-of, Else-number-ne0}
 use Rattle.recurrence.proofs.generate.Goals as goal
 

@@ -5,7 +5,6 @@ use Rattle.laws.specs.Refusal.{zero_by}
 use Rattle.modular.specs.Modulus.{Modular, modular_of}
 use Rattle.recurrence.specs.Steps.{FirstTerms, Sound, BeforeStep, MakesStep}
 use Rattle.recurrence.specs.OneStep.{makes_modulus, makes_one, answers_made, answers_refused, step_asked}
-use borrow.Author.Rules.{rules}
 use Rattle.recurrence.proofs.make_step.Goals.{After-of, Else-number-ne0}
 use Rattle.recurrence.proofs.make_step.Goals as goal
 

@@ -1,6 +1,5 @@
 use mathlib.Core.Path.{◌≡◌, sym, ◌∙◌}
 use native.Mathlib.Omega.{arith}
-use borrow.Author.Rules.{rules}
 use Rattle.checks.specs.Recurrence.{Accepted, accepted}
 use Rattle.modular.specs.Modulus.{Modular, modular_of}
 use Rattle.recurrence.proofs.Recurred.{recurred_refused, modulus_range, ready, recurred_generator}

@@ -2,7 +2,6 @@ use mathlib.Core.Path.{sym}
 use Prim.Native.Nat.{◌-◌, ◌≤◌, ◌<◌}
 use native.Mathlib.Omega.{arith}
 use Rattle.recurrence.specs.OneStep.{fits_not, fits_by}
-use borrow.Author.Rules.{rules}
 use Rattle.recurrence.proofs.register_fits.Goals.{Else-c-r-3}
 use Rattle.recurrence.proofs.register_fits.Goals as goal
 
@@ -30,14 +29,13 @@ returns-then-c-r-3 c =
 known : (c : Else-c-r-3)
     → let a = c.args in
     (0 < a.r) × (a.r ≤ a.count) × (a.c.L < a.r) × (a.c.shift < a.r) × (a.c.held < a.r - a.c.shift)
-known c =
-    (
-      omega (arith, c.if-r-lt1.false),
-      omega (arith, c.if-r-count.false),
-      omega (arith, c.if-c-r.false),
-      omega (arith, c.if-c-r-2.false),
-      omega (arith, c.if-c-r-3.false),
-    )
+known c = (
+  omega (arith, c.if-r-lt1.false),
+  omega (arith, c.if-r-count.false),
+  omega (arith, c.if-c-r.false),
+  omega (arith, c.if-c-r-2.false),
+  omega (arith, c.if-c-r-3.false),
+)
 
 pub overflow_add-result : goal.overflow_add-result
 overflow_add-result c =

@@ -3,7 +3,6 @@ use mathlib.Core.Bool.{not}
 use borrow.Author.Tests.{lt-leb, le-leb}
 use Rattle.laws.specs.Refusal.{first_stops, first_past, first_nil}
 use Rattle.recurrence.specs.Recurrence.{room_checks}
-use borrow.Author.Rules.{rules}
 use Rattle.recurrence.proofs.room_refusal.Goals as goal
 
 pub returns-then-not-p : goal.returns-then-not-p

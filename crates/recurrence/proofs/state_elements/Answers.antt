@@ -10,7 +10,6 @@ use Rattle.laws.specs.Part.{part}
 use Rattle.laws.specs.Lent.{part_at}
 use Rattle.recurrence.specs.declared.steps.Register.{Register}
 use Rattle.recurrence.specs.OneStep.{state_elements}
-use borrow.Author.Rules.{rules}
 use Rattle.recurrence.proofs.state_elements.Goals as goal
 
 -- the terms, q and what is above it as they are lent

@@ -1,12 +1,10 @@
 use mathlib.Core.Path.{sym, ◌∙◌}
 use native.Mathlib.Omega.{arith}
-use borrow.Author.Tests.{not-false}
 use Rattle.laws.specs.Bool.{not_as}
 use Rattle.laws.specs.Refusal.{first_stops, first_past, first_nil, zero_by, leading_refused, leading_passed}
 use Rattle.recurrence.specs.Steps.{FirstTerms}
 use Rattle.recurrence.specs.Recurrence.{numbered_room}
 use Rattle.recurrence.specs.OneStep.{step_refusal, fits_of, room_ready}
-use borrow.Author.Rules.{rules}
 use Rattle.recurrence.proofs.step_refusal.Goals.{Else-number-ne0}
 use Rattle.recurrence.proofs.step_refusal.Goals as goal
 

@@ -9,7 +9,6 @@ use Rattle.laws.specs.Bool.{not_as}
 use Rattle.laws.specs.Lent.{part_at}
 use Rattle.laws.specs.Refusal.{first_stops, first_past, first_nil, zero_by, leading_refused, leading_passed}
 use Rattle.recurrence.specs.Recurrence.{terms_refusal, numbered_room, room_of}
-use borrow.Author.Rules.{rules}
 use Rattle.recurrence.proofs.terms_refusal.Goals as goal
 
 -- the terms as they are lent

@@ -1,9 +1,6 @@
-use mathlib.Core.Path.{refl}
 use Prim.Native.Nat.{◌+◌, ◌-◌, ◌≤◌}
-use native.Mathlib.Omega.{arith}
-use borrow.Author.Rules.{rules}
 use Rattle.meaning.specs.List.{at}
-use Rattle.laws.specs.Written.{Written, written_more, written_all}
+use Rattle.laws.specs.Written.{Written}
 use Rattle.recurrence.proofs.transfer.Given as goal
 
 abbrev pub invariant-loop-i : goal.invariant-loop-i

@@ -1,10 +1,9 @@
-use Rattle.laws.specs.Written.{Written, written_none, written_all}
+use Rattle.laws.specs.Written.{written_none, written_all}
 use Rattle.laws.specs.Part.{written_next, written_table}
 use lib.ListN.{length}
 use native.Mathlib.Omega.{arith}
-use Prim.Native.Nat.{◌-◌, ◌≤◌, ◌<◌}
+use Prim.Native.Nat.{◌<◌}
 use mathlib.Core.Path.{refl}
-use borrow.Author.Rules.{rules}
 use Rattle.slices.proofs.clear.Goals as goal
 
 pub loop-i-init : goal.loop-i-init

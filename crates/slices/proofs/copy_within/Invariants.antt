@@ -1,11 +1,6 @@
-use mathlib.Core.Logic.{⊎_elim}
 use Prim.Native.Nat.{◌+◌, ◌-◌, ◌≤◌}
-use native.Mathlib.Omega.{arith}
-use lib.ListN.{length}
 use Rattle.meaning.specs.List.{at}
-use Rattle.laws.specs.Written.{Written, written_none, written_more, written_all}
-use Rattle.slices.specs.Copy.{CopyFits, copies_none, copies_all, not_inside, overlap}
-use borrow.Author.Rules.{rules}
+use Rattle.laws.specs.Written.{Written}
 use Rattle.slices.proofs.copy_within.Given as goal
 
 abbrev pub invariant-loop-i : goal.invariant-loop-i

@@ -3,11 +3,8 @@ use Rattle.laws.specs.List.{every_not, is_zero_of}
 use borrow.Author.Count.{below_more}
 use borrow.Author.Tests.{ne_eqb}
 use Rattle.meaning.specs.List.{at}
-use lib.ListN.{length}
 use native.Mathlib.Omega.{arith}
-use Prim.Native.Nat.{ℕ, ◌-◌, ◌≤◌, ◌<◌}
-use mathlib.Core.Path.{◌≡◌, sym}
-use borrow.Author.Rules.{rules}
+use mathlib.Core.Path.{sym}
 use Rattle.slices.proofs.is_zero.Goals as goal
 
 pub loop-i-init : goal.loop-i-init

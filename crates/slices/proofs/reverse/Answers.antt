@@ -1,8 +1,6 @@
-use Prim.Native.Nat.{◌-◌, ◌/◌}
 use native.Mathlib.Omega.{arith}
 use lib.ListN.{length-set}
-use borrow.Author.Rules.{rules}
-use Rattle.slices.proofs.Reversing.{Reversing, reversing_none, reversing_more, reversing_all}
+use Rattle.slices.proofs.Reversing.{reversing_none, reversing_more, reversing_all}
 use Rattle.slices.proofs.reverse.Goals as goal
 
 pub loop-i-init : goal.loop-i-init

@@ -1,8 +1,5 @@
 use Prim.Native.Nat.{◌-◌, ◌/◌}
-use native.Mathlib.Omega.{arith}
-use lib.ListN.{length-set}
-use borrow.Author.Rules.{rules}
-use Rattle.slices.proofs.Reversing.{Reversing, reversing_none, reversing_more, reversing_all}
+use Rattle.slices.proofs.Reversing.{Reversing}
 use Rattle.slices.proofs.reverse.Given as goal
 
 -- `slices::reverse` meets its contract: the places outside the middle are in reverse order.

@@ -1,11 +1,7 @@
-use Rattle.laws.specs.Written.{Written, written_none, written_all}
-use Rattle.laws.specs.Part.{written_next, written_table}
+use Rattle.laws.specs.Written.{Written}
 use Rattle.meaning.specs.List.{at}
 use lib.ListN.{length}
-use native.Mathlib.Omega.{arith}
-use Prim.Native.Nat.{◌-◌, ◌≤◌, ◌<◌}
-use mathlib.Core.Path.{refl}
-use borrow.Author.Rules.{rules}
+use Prim.Native.Nat.{◌-◌, ◌≤◌}
 use Rattle.slices.proofs.write_padded.Given as goal
 
 abbrev pub invariant-loop-i : goal.invariant-loop-i

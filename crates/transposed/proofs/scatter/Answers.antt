@@ -1,12 +1,11 @@
 use mathlib.Core.Path.{◌≡◌, refl, sym, ap, ap₂, ◌∙◌, subst}
-use Prim.Native.Nat.{◌-◌, ◌≤◌, ◌<◌}
+use Prim.Native.Nat.{◌<◌}
 use native.Mathlib.Omega.{arith}
 use lib.ListN.{length, get_or, set}
 use Rattle.meaning.specs.Field.{plus, times}
 use Rattle.checks.specs.Valid.{Vector}
 use Rattle.transposed.specs.Transposed.{scattered, scattered_none, scattered_more, vector_scattered}
 use Rattle.modular.specs.Modulus.{Multiplies, multiplies_of, added_of}
-use borrow.Author.Rules.{rules}
 use Rattle.transposed.proofs.scatter.Goals.{After-of-multiplier, After-wide-j, At-loop-k}
 use Rattle.transposed.proofs.scatter.Goals as goal
 

@@ -1,12 +1,7 @@
-use mathlib.Core.Path.{◌≡◌, refl, sym, ap, ap₂, ◌∙◌, subst}
-use Prim.Native.Nat.{◌-◌, ◌≤◌, ◌<◌}
-use native.Mathlib.Omega.{arith}
-use lib.ListN.{length, get_or, set}
-use Rattle.meaning.specs.Field.{plus, times}
-use Rattle.checks.specs.Valid.{Vector}
-use Rattle.transposed.specs.Transposed.{scattered, scattered_none, scattered_more, vector_scattered}
-use Rattle.modular.specs.Modulus.{Multiplies, multiplies_of, added_of}
-use borrow.Author.Rules.{rules}
+use mathlib.Core.Path.{◌≡◌}
+use Prim.Native.Nat.{◌-◌, ◌≤◌}
+use lib.ListN.{get_or}
+use Rattle.transposed.specs.Transposed.{scattered}
 use Rattle.transposed.proofs.scatter.Given as goal
 
 -- the loop's invariant: out has the entries passed added at their columns.

@@ -7,7 +7,6 @@ use Rattle.checks.specs.Matrix.{Accepted, product_accepted}
 use Rattle.checks.specs.Valid.{Valid, Vector}
 use Rattle.modular.specs.Modulus.{Modular, modular_of}
 use Rattle.checks.specs.Answers.{writes_refused, writes_done}
-use borrow.Author.Rules.{rules}
 use Rattle.transposed.proofs.transposed.Goals.{After-of-m, Else-number-ne0}
 use Rattle.transposed.proofs.transposed.Goals as goal
 
@@ -26,11 +25,11 @@ accepted c =
 pub returns-then-number-ne0 : goal.returns-then-number-ne0
 returns-then-number-ne0 c =
     let both =
-        let at = c.args in
-        let A = matrix at.starts.now at.columns.now at.values.now in
-        let number = c.product_refusal-number in
-        writes_refused number.result (product_refusal at.field.p A at.v.now at.out.now) (transposed at.field.p A at.v.now)
-        at.out.now number.ensures c.if-number-ne0.true
+    let at = c.args in
+    let A = matrix at.starts.now at.columns.now at.values.now in
+    let number = c.product_refusal-number in
+    writes_refused number.result (product_refusal at.field.p A at.v.now at.out.now) (transposed at.field.p A at.v.now)
+    at.out.now number.ensures c.if-number-ne0.true
     in record { writes = both.0; out_after = both.1 }
 
 -- the modulus that was made
@@ -51,9 +50,9 @@ transposed_into-done-requires c =
 pub returns : goal.returns
 returns c =
     let both =
-        let at = c.args in
-        let A = matrix at.starts.now at.columns.now at.values.now in
-        let made = c.transposed_into-done in
-        writes_done (product_refusal at.field.p A at.v.now at.out.now) (transposed at.field.p A at.v.now) at.out.now
-        made.new.out (none (goal.at.returns c).Else-number-ne0) made.ensures.0 (made.ensures.1 ∙ ap (λ p. transposed p A at.v.now) (modulus (goal.at.returns c).After-of-m).0)
+    let at = c.args in
+    let A = matrix at.starts.now at.columns.now at.values.now in
+    let made = c.transposed_into-done in
+    writes_done (product_refusal at.field.p A at.v.now at.out.now) (transposed at.field.p A at.v.now) at.out.now
+    made.new.out (none (goal.at.returns c).Else-number-ne0) made.ensures.0 (made.ensures.1 ∙ ap (λ p. transposed p A at.v.now) (modulus (goal.at.returns c).After-of-m).0)
     in record { writes = both.0; out_after = both.1 }

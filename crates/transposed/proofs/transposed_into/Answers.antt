@@ -1,13 +1,12 @@
 use mathlib.Core.Path.{◌≡◌, refl, sym, ap, ◌∙◌, subst}
-use Prim.Native.Nat.{◌-◌, ◌≤◌, ◌<◌}
+use Prim.Native.Nat.{◌-◌, ◌<◌}
 use native.Mathlib.Omega.{arith}
-use lib.ListN.{length, get_or}
+use lib.ListN.{length}
 use Rattle.meaning.specs.List.{zeros}
 use Rattle.meaning.specs.Matrix.{matrix}
 use Rattle.checks.specs.Products.{product_ended, row_behind}
 use Rattle.checks.specs.Valid.{Vector, row_bounds}
 use Rattle.transposed.specs.Transposed.{gathered, gathered_none, gathered_next, gathered_all, vector_gathered}
-use borrow.Author.Rules.{rules}
 use Rattle.transposed.proofs.transposed_into.Goals.{At-loop-i, In-loop-i}
 use Rattle.transposed.proofs.transposed_into.Goals as goal
 
@@ -53,7 +52,8 @@ scatter-requires c =
     let to = c.wide-to in
     let bounds = row_bounds (matrix at.starts.now at.columns.now at.values.now) loop.i loop.from to.result loop.invariant.1 to.ensures.0 known within in
     let before = vector (goal.at.scatter-requires c).At-loop-i in
-    let v = c.requires.out_len.1 in record { i_in_bounds = (
+    let v = c.requires.out_len.1 in record {
+      i_in_bounds = (
         omega (arith, within, v.places),
         record { places = v.places ∙ sym before.places; below = λ j l. v.below j (omega (arith, l, before.places)) },
         c.requires.valid.1,
@@ -61,7 +61,9 @@ scatter-requires c =
         bounds.1,
         known.paired,
         record { places = refl; below = λ j l. before.below j (omega (arith, l, before.places)) },
-      ); by_index = λ k l. omega (arith, known.column k l, before.places) }
+      );
+      by_index = λ k l. omega (arith, known.column k l, before.places);
+    }
 
 pub overflow_add-i-in-loop-i : goal.overflow_add-i-in-loop-i
 overflow_add-i-in-loop-i c = omega (arith, inside (goal.at.overflow_add-i-in-loop-i c).In-loop-i, c.requires.valid.0.sized)

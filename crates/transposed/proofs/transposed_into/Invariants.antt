@@ -1,13 +1,8 @@
-use mathlib.Core.Path.{◌≡◌, refl, sym, ap, ◌∙◌, subst}
-use Prim.Native.Nat.{◌-◌, ◌≤◌, ◌<◌}
-use native.Mathlib.Omega.{arith}
+use mathlib.Core.Path.{◌≡◌}
+use Prim.Native.Nat.{◌-◌, ◌≤◌}
 use lib.ListN.{length, get_or}
-use Rattle.meaning.specs.List.{zeros}
 use Rattle.meaning.specs.Matrix.{matrix}
-use Rattle.checks.specs.Products.{product_ended, row_behind}
-use Rattle.checks.specs.Valid.{Vector, row_bounds}
-use Rattle.transposed.specs.Transposed.{gathered, gathered_none, gathered_next, gathered_all, vector_gathered}
-use borrow.Author.Rules.{rules}
+use Rattle.transposed.specs.Transposed.{gathered}
 use Rattle.transposed.proofs.transposed_into.Given as goal
 
 abbrev pub invariant-loop-i : goal.invariant-loop-i

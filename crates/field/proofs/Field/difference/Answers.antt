@@ -1,7 +1,6 @@
 use mathlib.Core.Path.{sym, ◌∙◌}
 use Rattle.meaning.specs.Field.{minus}
 use Rattle.field.proofs.Refusals.{operation_accepted, gives_element, gives_refused}
-use borrow.Author.Rules.{rules}
 use Rattle.field.proofs.Field.difference.Goals as goal
 
 pub difference_below-requires : goal.difference_below-requires

@@ -1,6 +1,5 @@
 use Rattle.meaning.specs.Field.{inverse}
 use Rattle.field.proofs.Refusals.{gives_element, gives_refused}
-use borrow.Author.Rules.{rules}
 use Rattle.field.proofs.Field.inverse.Goals as goal
 
 pub returns-then-number-eq0 : goal.returns-then-number-eq0

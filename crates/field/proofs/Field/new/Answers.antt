@@ -1,7 +1,6 @@
 use mathlib.Core.Path.{refl, sym, ◌∙◌}
 use native.Mathlib.Omega.{arith}
 use Rattle.field.proofs.Refusals.{field_taken, field_refused}
-use borrow.Author.Rules.{rules}
 use Rattle.field.proofs.Field.new.Goals as goal
 
 pub returns-then-is_modulus : goal.returns-then-is_modulus

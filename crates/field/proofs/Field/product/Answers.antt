@@ -1,7 +1,6 @@
 use mathlib.Core.Path.{sym, ◌∙◌}
 use Rattle.meaning.specs.Field.{times}
 use Rattle.field.proofs.Refusals.{operation_accepted, gives_element, gives_refused}
-use borrow.Author.Rules.{rules}
 use Rattle.field.proofs.Field.product.Goals as goal
 
 pub product_below-requires : goal.product_below-requires

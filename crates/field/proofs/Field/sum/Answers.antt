@@ -1,7 +1,6 @@
 use mathlib.Core.Path.{sym, ◌∙◌}
 use Rattle.meaning.specs.Field.{plus}
 use Rattle.field.proofs.Refusals.{operation_accepted, gives_element, gives_refused}
-use borrow.Author.Rules.{rules}
 use Rattle.field.proofs.Field.sum.Goals as goal
 
 pub sum_below-requires : goal.sum_below-requires

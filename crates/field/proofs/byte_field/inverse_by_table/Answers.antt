@@ -4,7 +4,6 @@ use native.Mathlib.Nat.{mod-lt}
 use native.Mathlib.Omega.{arith}
 use Rattle.meaning.specs.Field.{inverse}
 use Rattle.residue.specs.Inverse.{inverse_mod, inverse_zero}
-use borrow.Author.Rules.{rules}
 use Rattle.field.proofs.byte_field.inverse_by_table.Goals as goal
 
 -- `byte_field::inverse_by_table` meets its contract: a may be reduced first, and the table agrees with the inverse.

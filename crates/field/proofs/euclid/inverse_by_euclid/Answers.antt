@@ -4,8 +4,7 @@ use native.Mathlib.Nat.{mod-lt}
 use native.Mathlib.Omega.{arith}
 use Rattle.meaning.specs.Field.{inverse}
 use Rattle.residue.specs.Inverse.{inverse_none}
-use Rattle.field.proofs.Cofactors.{Euclid, start, turn_low, turn_high, low_fits, high_fits, found_low, found_high, none_low, none_high}
-use borrow.Author.Rules.{rules}
+use Rattle.field.proofs.Cofactors.{start, turn_low, turn_high, low_fits, high_fits, found_low, found_high, none_low, none_high}
 use Rattle.field.proofs.euclid.inverse_by_euclid.Goals as goal
 
 -- modulo 0 and 1 nothing is 1

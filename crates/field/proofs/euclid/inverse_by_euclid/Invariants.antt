@@ -1,11 +1,5 @@
-use mathlib.Core.Path.{◌≡◌, sym}
-use Prim.Native.Nat.{ℕ, ◌*◌, ◌%◌, ◌<◌}
-use native.Mathlib.Nat.{mod-lt}
-use native.Mathlib.Omega.{arith}
-use Rattle.meaning.specs.Field.{inverse}
-use Rattle.residue.specs.Inverse.{inverse_none}
-use Rattle.field.proofs.Cofactors.{Euclid, start, turn_low, turn_high, low_fits, high_fits, found_low, found_high, none_low, none_high}
-use borrow.Author.Rules.{rules}
+use Prim.Native.Nat.{◌<◌}
+use Rattle.field.proofs.Cofactors.{Euclid}
 use Rattle.field.proofs.euclid.inverse_by_euclid.Given as goal
 
 -- `field::euclid::inverse_by_euclid` meets its contract. The loop's invariant is the Euclidean algorithm's (proofs/Cofactors.antt), with u above 1; the measure

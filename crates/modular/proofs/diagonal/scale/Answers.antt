@@ -1,6 +1,6 @@
-use Rattle.std.proofs.Common.{◌≡◌, ◌-◌, ◌*◌, ◌<◌, ◌≤◌, length, sym, refl, ap, ◌∙◌, arith, rules}
+use Rattle.std.proofs.Common.{◌*◌, ◌<◌, length, sym, refl, ap, ◌∙◌, arith}
 use Rattle.meaning.specs.List.{at}
-use Rattle.laws.specs.Written.{Written, written_none, written_all}
+use Rattle.laws.specs.Written.{written_none, written_all}
 use Rattle.laws.specs.Part.{written_next, written_table}
 use Rattle.modular.specs.Modulus.{barrett}
 use Rattle.modular.specs.Diagonal.{scaled_none, scaled_all}

@@ -1,9 +1,7 @@
-use Rattle.std.proofs.Common.{◌≡◌, ◌-◌, ◌*◌, ◌<◌, ◌≤◌, length, sym, refl, ap, ◌∙◌, arith, rules}
+use Rattle.std.proofs.Common.{◌≡◌, ◌-◌, ◌*◌, ◌≤◌, length}
 use Rattle.meaning.specs.List.{at}
-use Rattle.laws.specs.Written.{Written, written_none, written_all}
-use Rattle.laws.specs.Part.{written_next, written_table}
+use Rattle.laws.specs.Written.{Written}
 use Rattle.modular.specs.Modulus.{barrett}
-use Rattle.modular.specs.Diagonal.{scaled_none, scaled_all}
 use Rattle.modular.proofs.diagonal.scale.Given as goal
 
 abbrev pub invariant-loop-i : goal.invariant-loop-i

@@ -1,5 +1,4 @@
 use Rattle.modular.specs.Modulus.{lessened_word}
-use Rattle.std.proofs.Common.{rules}
 use Rattle.modular.proofs.modulus.lessened.Goals as goal
 
 pub returns : goal.returns

@@ -1,4 +1,4 @@
-use Rattle.std.proofs.Common.{ap, ◌∙◌, rules}
+use Rattle.std.proofs.Common.{ap, ◌∙◌}
 use Rattle.modular.specs.Modulus.{restored, lessened_half, reduced}
 use Rattle.modular.proofs.modulus.reduced.Goals as goal
 

@@ -1,4 +1,4 @@
-use Rattle.std.proofs.Common.{◌/◌, ◌≤◌, mul-le-mul, arith, rules}
+use Rattle.std.proofs.Common.{◌/◌, ◌≤◌, mul-le-mul, arith}
 use Rattle.modular.specs.Modulus.{restored}
 use Rattle.modular.proofs.modulus.restored.Goals as goal
 

@@ -1,4 +1,4 @@
-use Rattle.std.proofs.Common.{◌%◌, sym, ap, ◌∙◌, mod-eq_of_lt, arith, rules}
+use Rattle.std.proofs.Common.{◌%◌, sym, ap, ◌∙◌, mod-eq_of_lt, arith}
 use native.Mathlib.Nat.{mod_self}
 use Rattle.modular.proofs.modulus.successor.Goals as goal
 

@@ -1,4 +1,3 @@
-use Rattle.std.proofs.Common.{rules}
 use Rattle.modular.specs.Words.{words_fit}
 use Rattle.modular.proofs.sums.times.Goals as goal
 

@@ -1,12 +1,10 @@
 use mathlib.Core.Path.{◌≡◌, refl, sym, ap, ◌∙◌}
 use mathlib.Core.Bool.{Bool, true, false, ◌&&◌}
 use mathlib.Core.List.{List}
-use mathlib.Core.Logic.{⊎_elim}
-use Prim.Native.Nat.{ℕ, ◌+◌, ◌-◌, ◌≤◌}
+use Prim.Native.Nat.{ℕ, ◌+◌}
 use native.Mathlib.Omega.{arith}
 use native.Mathlib.Numerals.{add-one}
 use borrow.Author.Rules.{rules}
-use borrow.Author.Tests.{not-true, not-false}
 use Rattle.laws.specs.List.{all_suc, all_not}
 use Rattle.meaning.specs.List.{all, at}
 use Rattle.primality.specs.Blocks.{misses}
@@ -35,7 +33,7 @@ loop-j-preserved c =
     let is = c.is_missed.ensures in (
       omega arith,
       elim c.if-not-is_missed.branch [
-        then-not-is_missed w ↦ w.none-is ∙ sym (all_not (j + 1) f j (omega arith) (sym is ∙ w.if-not-is_missed.true))
+        | then-not-is_missed w ↦ w.none-is ∙ sym (all_not (j + 1) f j (omega arith) (sym is ∙ w.if-not-is_missed.true))
         | else-not-is_missed w ↦ w.none-is ∙ c.loop-j.invariant.1 ∙ all_more j f (sym is ∙ w.if-not-is_missed.false)
       ],
     )

@@ -1,10 +1,8 @@
 use mathlib.Core.Path.{◌≡◌, sym, subst, ◌∙◌}
-use Prim.Native.Nat.{◌-◌, ◌≤◌}
+use Prim.Native.Nat.{◌≤◌}
 use native.Mathlib.Nat.{mul-le-mul}
 use native.Mathlib.Omega.{arith}
 use lib.ListN.{length}
-use borrow.Author.Rules.{rules}
-use borrow.Author.Tests.{not-true, not-false}
 use Rattle.meaning.specs.List.{at}
 use Rattle.residue.specs.Prime.{is_prime_Prime}
 use Rattle.primality.proofs.Walk.{Free, free_five, free_end, tables_block, tables_free, tables_divided}

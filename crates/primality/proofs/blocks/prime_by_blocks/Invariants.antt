@@ -1,13 +1,7 @@
-use mathlib.Core.Path.{◌≡◌, sym, subst, ◌∙◌}
 use Prim.Native.Nat.{◌-◌, ◌≤◌}
-use native.Mathlib.Nat.{mul-le-mul}
-use native.Mathlib.Omega.{arith}
 use lib.ListN.{length}
-use borrow.Author.Rules.{rules}
-use borrow.Author.Tests.{not-true, not-false}
 use Rattle.meaning.specs.List.{at}
-use Rattle.residue.specs.Prime.{is_prime_Prime}
-use Rattle.primality.proofs.Walk.{Free, free_five, free_end, tables_block, tables_free, tables_divided}
+use Rattle.primality.proofs.Walk.{Free}
 use Rattle.primality.proofs.blocks.prime_by_blocks.Given as goal
 
 -- `primality::blocks::prime_by_blocks` meets its contract. The loop's invariant: no number from 2 up to the start of block i divides p.

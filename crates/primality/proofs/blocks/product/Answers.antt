@@ -1,6 +1,5 @@
 use native.Mathlib.Nat.{mul-le-mul}
 use native.Mathlib.Omega.{arith}
-use borrow.Author.Rules.{rules}
 use Rattle.primality.proofs.blocks.product.Goals as goal
 
 -- `primality::blocks::product` meets its contract: a product of two numbers below 2³² fits 64 bits.

@@ -1,9 +1,9 @@
 use mathlib.Core.Path.{◌≡◌, sym}
-use Prim.Native.Nat.{ℕ, ◌+◌, ◌*◌, ◌-◌, ◌%◌, ◌≤◌, ◌<◌}
+use Prim.Native.Nat.{ℕ, ◌+◌, ◌*◌, ◌%◌, ◌≤◌, ◌<◌}
 use native.Mathlib.Nat.{mul-le-mul, mul-le-mul_left}
 use native.Mathlib.Decide.{dec_le}
 use native.Mathlib.Omega.{arith}
-use Rattle.residue.specs.Prime.{WheelFree, wheel_start, wheel_turn, wheel_end, is_prime_Prime, is_prime_divided}
+use Rattle.residue.specs.Prime.{wheel_start, wheel_turn, wheel_end, is_prime_Prime, is_prime_divided}
 use Rattle.primality.proofs.wheel.prime_by_wheel.Goals as goal
 
 root : (d p : ℕ) → d * d ≤ p → p ≤ 2147483647 → d ≤ 46340

@@ -1,9 +1,8 @@
 use mathlib.Core.Path.{◌≡◌, sym, ◌∙◌, subst}
-use Prim.Native.Nat.{◌+◌, ◌-◌, ◌%◌, ◌≤◌}
+use Prim.Native.Nat.{◌+◌}
 use native.Mathlib.Omega.{arith}
 use Rattle.modular.specs.Sums.{Summed, summed_none, summed_more, sum_from_one}
 use Rattle.recurrence.specs.Convolution.{cross, crossing_within, nothing}
-use borrow.Author.Rules.{rules}
 use Rattle.recurrence.proofs.convolution.crossed.Goals as goal
 
 pub overflow_sub-middle : goal.overflow_sub-middle

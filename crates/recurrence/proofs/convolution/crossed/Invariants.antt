@@ -1,9 +1,7 @@
-use mathlib.Core.Path.{◌≡◌, sym, ◌∙◌, subst}
-use Prim.Native.Nat.{◌+◌, ◌-◌, ◌%◌, ◌≤◌}
-use native.Mathlib.Omega.{arith}
-use Rattle.modular.specs.Sums.{Summed, summed_none, summed_more, sum_from_one}
-use Rattle.recurrence.specs.Convolution.{cross, crossing_within, nothing}
-use borrow.Author.Rules.{rules}
+use mathlib.Core.Path.{◌≡◌}
+use Prim.Native.Nat.{◌-◌, ◌%◌, ◌≤◌}
+use Rattle.modular.specs.Sums.{Summed}
+use Rattle.recurrence.specs.Convolution.{cross, nothing}
 use Rattle.recurrence.proofs.convolution.crossed.Given as goal
 
 -- in both loops the total is the sum up to i.

@@ -1,7 +1,6 @@
 use mathlib.Core.Path.{sym, subst}
 use Prim.Native.Nat.{◌+◌, ◌-◌, ◌≤◌}
 use native.Mathlib.Omega.{arith}
-use borrow.Author.Rules.{rules}
 use Rattle.meaning.specs.List.{at}
 use Rattle.modular.specs.Words.{residues_fit}
 use Rattle.recurrence.proofs.convolution.pair.Goals as goal

@@ -1,9 +1,8 @@
 use Rattle.recurrence.specs.Factor.{Meeting, crossing, coefficient}
-use mathlib.Core.Logic.{inl, inr, ⊎_elim}
+use mathlib.Core.Logic.{inl, inr}
 use native.Mathlib.Omega.{arith}
 use Rattle.modular.specs.Total.{residue_number}
 use mathlib.Core.Path.{◌∙◌}
-use borrow.Author.Rules.{rules}
 use Rattle.recurrence.proofs.factor.coefficient.Goals.{Joined-k-d, then-k-t, else-k-t, then-k-d, else-k-d}
 use Rattle.recurrence.proofs.factor.coefficient.Goals as goal
 

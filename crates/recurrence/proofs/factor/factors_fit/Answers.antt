@@ -1,7 +1,6 @@
 use mathlib.Core.Path.{sym}
 use native.Mathlib.Omega.{arith}
 use Rattle.recurrence.specs.Factor.{fits_not, fits_by}
-use borrow.Author.Rules.{rules}
 use Rattle.recurrence.proofs.factor.factors_fit.Goals as goal
 
 pub returns-then-d-gt8192 : goal.returns-then-d-gt8192

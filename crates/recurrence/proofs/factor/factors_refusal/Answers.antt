@@ -4,14 +4,12 @@ use mathlib.Core.List.{List}
 use Prim.Native.Nat.{ℕ, ◌+◌, ◌-◌, ◌≤◌, ◌<◌}
 use native.Mathlib.Omega.{arith}
 use lib.ListN.{length, take, drop}
-use borrow.Author.Tests.{not-false}
 use Rattle.meaning.specs.Refusal.{elements}
 use Rattle.laws.specs.Bool.{not_as, not_as_both}
 use Rattle.laws.specs.Lent.{part_at}
 use Rattle.laws.specs.Part.{part}
 use Rattle.laws.specs.Refusal.{first_stops, first_past, first_nil}
 use Rattle.recurrence.specs.Factor.{factors_refusal, fits_of}
-use borrow.Author.Rules.{rules}
 use Rattle.recurrence.proofs.factor.factors_refusal.Goals.{Else-not-factors_fit}
 use Rattle.recurrence.proofs.factor.factors_refusal.Goals as goal
 

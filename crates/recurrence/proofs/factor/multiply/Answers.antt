@@ -10,7 +10,6 @@ use Rattle.laws.specs.Bool.{and_left, and_right}
 use Rattle.laws.specs.Refusal.{within_low, within_high}
 use Rattle.modular.specs.Modulus.{Modular, modular_of}
 use Rattle.recurrence.specs.Factor.{Factors, factors_refusal, factors_of, product_given, product_one, product_refused, same_product}
-use borrow.Author.Rules.{rules}
 use Rattle.recurrence.proofs.factor.multiply.Goals.{After-of, Else-number-ne0}
 use Rattle.recurrence.proofs.factor.multiply.Goals as goal
 

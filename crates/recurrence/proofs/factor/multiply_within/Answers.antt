@@ -2,7 +2,6 @@ use Rattle.recurrence.specs.Factor.{product_at, Descending, descending_none, des
 use native.Mathlib.Omega.{arith}
 use Prim.Native.Nat.{◌+◌, ◌-◌, ◌≤◌}
 use mathlib.Core.Path.{◌≡◌, ◌∙◌, subst}
-use borrow.Author.Rules.{rules}
 use Rattle.recurrence.proofs.factor.multiply_within.Goals as goal
 
 pub loop-k-init : goal.loop-k-init

@@ -1,8 +1,5 @@
-use Rattle.recurrence.specs.Factor.{product_at, Descending, descending_none, descending_factors, descending_same, descending_more, descending_all}
-use native.Mathlib.Omega.{arith}
-use Prim.Native.Nat.{◌+◌, ◌-◌, ◌≤◌}
-use mathlib.Core.Path.{◌≡◌, ◌∙◌, subst}
-use borrow.Author.Rules.{rules}
+use Rattle.recurrence.specs.Factor.{Descending}
+use Prim.Native.Nat.{◌+◌, ◌≤◌}
 use Rattle.recurrence.proofs.factor.multiply_within.Given as goal
 
 abbrev pub invariant-loop-k : goal.invariant-loop-k

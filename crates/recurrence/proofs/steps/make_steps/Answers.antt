@@ -1,6 +1,5 @@
 use native.Mathlib.Omega.{arith}
-use Prim.Native.Nat.{◌-◌, ◌≤◌}
-use Rattle.recurrence.proofs.Stepping.{Between, before_step, between_begin, between_next, between_end}
+use Rattle.recurrence.proofs.Stepping.{before_step, between_begin, between_next, between_end}
 use Rattle.recurrence.proofs.steps.make_steps.Goals as goal
 
 pub loop-r-init : goal.loop-r-init

@@ -1,6 +1,5 @@
-use native.Mathlib.Omega.{arith}
 use Prim.Native.Nat.{◌-◌, ◌≤◌}
-use Rattle.recurrence.proofs.Stepping.{Between, before_step, between_begin, between_next, between_end}
+use Rattle.recurrence.proofs.Stepping.{Between}
 use Rattle.recurrence.proofs.steps.make_steps.Given as goal
 
 -- `recurrence::steps::make_steps` meets its contract. The loop's invariant says what stands after each r: if d, q, t, L and e were those of document

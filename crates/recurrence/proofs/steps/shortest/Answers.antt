@@ -7,7 +7,6 @@ use Rattle.recurrence.specs.Steps.{FollowsSteps, represented, TermsStay, sound_f
 use Rattle.recurrence.proofs.Represented.{follows_within, follows_before, follows_after, stay_both}
 use Rattle.recurrence.proofs.Stepping.{first_terms, still}
 use Rattle.recurrence.proofs.HoldsGenerator.{holds_generator}
-use borrow.Author.Rules.{rules}
 use Rattle.recurrence.proofs.steps.shortest.Goals.{After-make_steps-c}
 use Rattle.recurrence.proofs.steps.shortest.Goals as goal
 

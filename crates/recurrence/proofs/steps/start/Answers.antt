@@ -7,7 +7,6 @@ use Rattle.laws.specs.Written.{written_all}
 use Rattle.laws.specs.Part.{length_part}
 use Rattle.laws.specs.Lent.{written_lent}
 use Rattle.recurrence.proofs.Stepping.{start_follows, start_laid}
-use borrow.Author.Rules.{rules}
 use Rattle.recurrence.proofs.steps.start.Goals as goal
 
 pub returns : goal.returns

@@ -1,10 +1,7 @@
 use mathlib.Core.Path.{◌≡◌, refl, ◌∙◌}
-use mathlib.Core.Logic.{⊎_elim}
 use mathlib.Core.Bool.{Bool, true, false}
-use Prim.Native.Nat.{ℕ, ◌*◌, ◌%◌}
+use Prim.Native.Nat.{ℕ, ◌%◌}
 use native.Mathlib.Omega.{arith}
-use borrow.Author.Rules.{rules}
-use borrow.Author.Tests.{ltb-true, ltb-false}
 use Rattle.meaning.specs.Field.{times}
 use Rattle.modular.specs.Modulus.{product_of}
 use Rattle.modular.specs.Total.{number, residue_number}
@@ -24,7 +21,7 @@ KeptAt c =
 kept : (c : Joined-longer) → KeptAt c
 kept c =
     elim c.if-longer.branch [
-      then-longer w ↦ (_, stepping.kept_copied w.work-is (w.copy_within.ensures.copied (stepping.copying c.requires.0)))
+      | then-longer w ↦ (_, stepping.kept_copied w.work-is (w.copy_within.ensures.copied (stepping.copying c.requires.0)))
       | else-longer w ↦ (_, stepping.kept_same w.work-is)
     ]
 
@@ -113,10 +110,10 @@ pub returns-then-longer-2 : goal.returns-then-longer-2
 returns-then-longer-2 c =
     let longer = c.if-longer-2.true in
     elim c.if-longer.branch [
-      then-longer w ↦ stepping.after_grow c.requires.0 c.crossed.result c.residue-d.result c.crossed.ensures (found (goal.at.returns-then-longer-2 c).After-residue-d)
-    c.if-d-eq0.false (stepping.kept_copied w.work-is (w.copy_within.ensures.copied (stepping.copying c.requires.0)))
-    c.product-quotient.result (factor (goal.at.returns-then-longer-2 c).After-product-quotient) c.subtract.ensures refl longer
-    c.inverse_modulo.result c.inverse_modulo.ensures
+      | then-longer w ↦ stepping.after_grow c.requires.0 c.crossed.result c.residue-d.result c.crossed.ensures (found (goal.at.returns-then-longer-2 c).After-residue-d)
+          c.if-d-eq0.false (stepping.kept_copied w.work-is (w.copy_within.ensures.copied (stepping.copying c.requires.0)))
+          c.product-quotient.result (factor (goal.at.returns-then-longer-2 c).After-product-quotient) c.subtract.ensures refl longer
+          c.inverse_modulo.result c.inverse_modulo.ensures
       | else-longer w ↦ absurd (omega arith)
     ]
 

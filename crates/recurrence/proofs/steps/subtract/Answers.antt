@@ -1,10 +1,9 @@
 use mathlib.Core.Path.{◌≡◌, ap, ap₂, ◌∙◌}
-use Prim.Native.Nat.{◌+◌, ◌-◌, ◌≤◌}
+use Prim.Native.Nat.{◌+◌}
 use native.Mathlib.Omega.{arith}
-use borrow.Author.Rules.{rules}
 use Rattle.meaning.specs.List.{at}
 use Rattle.meaning.specs.Field.{minus, times}
-use Rattle.laws.specs.Written.{Written, written_more, written_all}
+use Rattle.laws.specs.Written.{written_more, written_all}
 use Rattle.laws.specs.Recurrence.{times_lt}
 use Rattle.modular.specs.Modulus.{Multiplies, multiplies_of, times_of, difference_of_law}
 use Rattle.recurrence.proofs.steps.subtract.Goals.{After-of-k, After-times}

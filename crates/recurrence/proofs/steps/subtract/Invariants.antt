@@ -1,12 +1,7 @@
-use mathlib.Core.Path.{◌≡◌, ap, ap₂, ◌∙◌}
 use Prim.Native.Nat.{◌+◌, ◌-◌, ◌≤◌}
-use native.Mathlib.Omega.{arith}
-use borrow.Author.Rules.{rules}
 use Rattle.meaning.specs.List.{at}
 use Rattle.meaning.specs.Field.{minus, times}
-use Rattle.laws.specs.Written.{Written, written_more, written_all}
-use Rattle.laws.specs.Recurrence.{times_lt}
-use Rattle.modular.specs.Modulus.{Multiplies, multiplies_of, times_of, difference_of_law}
+use Rattle.laws.specs.Written.{Written}
 use Rattle.recurrence.proofs.steps.subtract.Given as goal
 
 -- `recurrence::steps::subtract` meets its contract: t lies after what is written of q.

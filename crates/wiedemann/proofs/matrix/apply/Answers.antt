@@ -1,11 +1,10 @@
-use mathlib.Core.Path.{◌≡◌, sym, ap, ◌∙◌, subst}
+use mathlib.Core.Path.{sym, ◌∙◌, subst}
 use Prim.Native.Nat.{◌-◌}
 use lib.ListN.{length}
 use Rattle.meaning.specs.Matrix.{matrix}
 use Rattle.checks.specs.Matrix.{apply_plain}
 use Rattle.checks.specs.Answers.{Writes}
 use Rattle.wiedemann.specs.Horner.{after_plain}
-use borrow.Author.Rules.{rules}
 use Rattle.wiedemann.proofs.matrix.apply.Goals as goal
 
 pub returns : goal.returns

@@ -9,7 +9,6 @@ use Rattle.checks.specs.Products.{products_scaled}
 use Rattle.checks.specs.Answers.{writes_refused, writes_done}
 use Rattle.laws.specs.Part.{length_part}
 use Rattle.modular.specs.Modulus.{Modular, modular_of}
-use borrow.Author.Rules.{rules}
 use Rattle.wiedemann.proofs.matrix.apply_scaled.Goals.{After-of, Else-number-ne0}
 use Rattle.wiedemann.proofs.matrix.apply_scaled.Goals as goal
 

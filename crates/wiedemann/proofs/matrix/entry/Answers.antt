@@ -3,7 +3,6 @@ use Prim.Native.Nat.{◌*◌, ◌<◌}
 use native.Mathlib.Omega.{arith}
 use lib.ListN.{length, get_or}
 use Rattle.modular.specs.Words.{residues_fit}
-use borrow.Author.Rules.{rules}
 use Rattle.wiedemann.proofs.matrix.entry.Goals as goal
 
 pub bounds-v-j : goal.bounds-v-j

@@ -1,9 +1,8 @@
 use mathlib.Core.Path.{◌≡◌}
-use Prim.Native.Nat.{◌+◌, ◌-◌, ◌%◌, ◌≤◌}
+use Prim.Native.Nat.{◌+◌}
 use native.Mathlib.Omega.{arith}
-use Rattle.modular.specs.Sums.{Summed, summed_none, summed_more}
+use Rattle.modular.specs.Sums.{summed_none, summed_more}
 use Rattle.checks.specs.Valid.{term}
-use borrow.Author.Rules.{rules}
 use Rattle.wiedemann.proofs.matrix.fours.Goals as goal
 
 pub loop-k-init : goal.loop-k-init

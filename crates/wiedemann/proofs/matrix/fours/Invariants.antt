@@ -1,9 +1,7 @@
 use mathlib.Core.Path.{◌≡◌}
-use Prim.Native.Nat.{◌+◌, ◌-◌, ◌%◌, ◌≤◌}
-use native.Mathlib.Omega.{arith}
-use Rattle.modular.specs.Sums.{Summed, summed_none, summed_more}
+use Prim.Native.Nat.{◌-◌, ◌%◌, ◌≤◌}
+use Rattle.modular.specs.Sums.{Summed}
 use Rattle.checks.specs.Valid.{term}
-use borrow.Author.Rules.{rules}
 use Rattle.wiedemann.proofs.matrix.fours.Given as goal
 
 abbrev pub invariant-loop-k : goal.invariant-loop-k

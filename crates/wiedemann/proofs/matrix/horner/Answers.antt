@@ -1,13 +1,12 @@
 use mathlib.Core.Path.{◌≡◌, sym, ap, ◌∙◌}
-use mathlib.Core.Logic.{⊎_elim}
-use Prim.Native.Nat.{◌+◌, ◌-◌}
+use Prim.Native.Nat.{◌-◌}
 use native.Mathlib.Omega.{arith}
 use lib.ListN.{length, drop}
 use Rattle.meaning.specs.Matrix.{matrix, apply, scaled}
 use Rattle.checks.specs.Valid.{valid_scaled}
 use Rattle.checks.specs.declared.Products.{Products}
 use Rattle.checks.specs.Products.{products_with, added, products_none, products_next, products_few}
-use Rattle.wiedemann.specs.Horner.{Turn, turn_even, turn_odd, turn_work, turn_out, turn_to_even, turn_to_odd}
+use Rattle.wiedemann.specs.Horner.{turn_even, turn_odd, turn_work, turn_out, turn_to_even, turn_to_odd}
 use Rattle.wiedemann.proofs.matrix.horner.Goals.{then-i-eq0, else-i-eq0}
 use Rattle.wiedemann.proofs.matrix.horner.Goals as goal
 
@@ -44,7 +43,7 @@ loop-i-init c =
     let i = length a.g.now - 1 in (
       omega arith,
       elim c.if-i-eq0.branch [
-        then-i-eq0 w ↦ turn_even a.m.p A a.g.now a.v.now pre.modular.3.places pre.modular.4 w.if-i-eq0.true (ap length w.work-is ∙ pre.modular.2) (w.out-is ∙ w.multiple.ensures)
+        | then-i-eq0 w ↦ turn_even a.m.p A a.g.now a.v.now pre.modular.3.places pre.modular.4 w.if-i-eq0.true (ap length w.work-is ∙ pre.modular.2) (w.out-is ∙ w.multiple.ensures)
         | else-i-eq0 w ↦ turn_odd a.m.p A a.g.now a.v.now pre.modular.3.places pre.modular.4 w.if-i-eq0.false (ap length w.out-is ∙ pre.modular.1) (w.work-is ∙ w.multiple-else-i-eq0.ensures)
       ],
       products_none A,

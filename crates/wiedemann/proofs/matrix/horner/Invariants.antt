@@ -1,13 +1,9 @@
-use mathlib.Core.Path.{◌≡◌, sym, ap, ◌∙◌}
-use mathlib.Core.Logic.{⊎_elim}
+use mathlib.Core.Path.{◌≡◌}
 use Prim.Native.Nat.{◌+◌, ◌-◌}
-use native.Mathlib.Omega.{arith}
-use lib.ListN.{length, drop}
-use Rattle.meaning.specs.Matrix.{matrix, apply, scaled}
-use Rattle.checks.specs.Valid.{valid_scaled}
-use Rattle.checks.specs.declared.Products.{Products}
-use Rattle.checks.specs.Products.{products_with, added, products_none, products_next, products_few}
-use Rattle.wiedemann.specs.Horner.{Turn, turn_even, turn_odd, turn_work, turn_out, turn_to_even, turn_to_odd}
+use lib.ListN.{length}
+use Rattle.meaning.specs.Matrix.{matrix, scaled}
+use Rattle.checks.specs.Products.{products_with}
+use Rattle.wiedemann.specs.Horner.{Turn}
 use Rattle.wiedemann.proofs.matrix.horner.Given as goal
 
 abbrev pub invariant-loop-i : goal.invariant-loop-i

@@ -1,12 +1,10 @@
 use mathlib.Core.Path.{◌≡◌, ap, ◌∙◌}
-use Prim.Native.Nat.{◌-◌, ◌≤◌}
 use native.Mathlib.Omega.{arith}
 use lib.ListN.{length, get_or}
 use Rattle.meaning.specs.Field.{times}
-use Rattle.laws.specs.Written.{Written, written_none, written_all}
+use Rattle.laws.specs.Written.{written_none, written_all}
 use Rattle.laws.specs.Part.{written_next, written_table}
 use Rattle.modular.specs.Modulus.{Multiplies, multiplies_of, times_of}
-use borrow.Author.Rules.{rules}
 use Rattle.wiedemann.proofs.matrix.multiple.Goals.{After-of-multiplier}
 use Rattle.wiedemann.proofs.matrix.multiple.Goals as goal
 
@@ -29,8 +27,7 @@ pub loop-i-preserved : goal.loop-i-preserved
 loop-i-preserved c =
     let at = c.args in
     let test = c.loop-i-test.true in
-    let loop = c.loop-i in
-    (
+    let loop = c.loop-i in (
       omega (arith, test),
       written_next c.times.result loop.invariant.1 (omega (arith, test, c.requires.2))
           (c.times.ensures

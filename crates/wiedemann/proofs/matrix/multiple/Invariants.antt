@@ -1,12 +1,7 @@
-use mathlib.Core.Path.{◌≡◌, ap, ◌∙◌}
 use Prim.Native.Nat.{◌-◌, ◌≤◌}
-use native.Mathlib.Omega.{arith}
 use lib.ListN.{length, get_or}
 use Rattle.meaning.specs.Field.{times}
-use Rattle.laws.specs.Written.{Written, written_none, written_all}
-use Rattle.laws.specs.Part.{written_next, written_table}
-use Rattle.modular.specs.Modulus.{Multiplies, multiplies_of, times_of}
-use borrow.Author.Rules.{rules}
+use Rattle.laws.specs.Written.{Written}
 use Rattle.wiedemann.proofs.matrix.multiple.Given as goal
 
 abbrev pub invariant-loop-i : goal.invariant-loop-i

@@ -1,9 +1,7 @@
 use mathlib.Core.Path.{◌≡◌}
-use Prim.Native.Nat.{◌-◌, ◌≤◌}
 use native.Mathlib.Omega.{arith}
-use Rattle.modular.specs.Sums.{Summed, summed_none, summed_one}
+use Rattle.modular.specs.Sums.{summed_none, summed_one}
 use Rattle.checks.specs.Valid.{term}
-use borrow.Author.Rules.{rules}
 use Rattle.wiedemann.proofs.matrix.ones.Goals as goal
 
 pub loop-k-init : goal.loop-k-init

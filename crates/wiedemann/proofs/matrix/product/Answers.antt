@@ -7,7 +7,6 @@ use Rattle.checks.specs.Matrix.{Accepted, product_accepted}
 use Rattle.checks.specs.Answers.{writes_refused, writes_done}
 use Rattle.wiedemann.specs.Horner.{step_made}
 use Rattle.modular.specs.Modulus.{Modular, modular_of}
-use borrow.Author.Rules.{rules}
 use Rattle.wiedemann.proofs.matrix.product.Goals.{After-of, Else-number-ne0}
 use Rattle.wiedemann.proofs.matrix.product.Goals as goal
 
@@ -32,11 +31,11 @@ modulus c =
 pub returns-then-number-ne0 : goal.returns-then-number-ne0
 returns-then-number-ne0 c =
     let both =
-        let at = c.args in
-        let A = matrix at.starts.now at.columns.now at.values.now in
-        let number = c.product_refusal-number in
-        writes_refused number.result (product_refusal at.field.p A at.v.now at.out.now) (product at.field.p A at.v.now) at.out.now
-        number.ensures c.if-number-ne0.true
+    let at = c.args in
+    let A = matrix at.starts.now at.columns.now at.values.now in
+    let number = c.product_refusal-number in
+    writes_refused number.result (product_refusal at.field.p A at.v.now at.out.now) (product at.field.p A at.v.now) at.out.now
+    number.ensures c.if-number-ne0.true
     in record { writes = both.0; out_after = both.1 }
 
 pub step-done-requires : goal.step-done-requires
@@ -50,10 +49,10 @@ step-done-requires c =
 pub returns : goal.returns
 returns c =
     let both =
-        let at = c.args in
-        let A = matrix at.starts.now at.columns.now at.values.now in
-        let left = c.step-done.new.out in
-        writes_done (product_refusal at.field.p A at.v.now at.out.now) (product at.field.p A at.v.now) at.out.now left
-        (none (goal.at.returns c).Else-number-ne0) c.step-done.ensures.0
-        (step_made at.field.p c.of.result.p (modulus (goal.at.returns c).After-of).0 A at.v.now at.v.now left c.step-done.ensures.1)
+    let at = c.args in
+    let A = matrix at.starts.now at.columns.now at.values.now in
+    let left = c.step-done.new.out in
+    writes_done (product_refusal at.field.p A at.v.now at.out.now) (product at.field.p A at.v.now) at.out.now left
+    (none (goal.at.returns c).Else-number-ne0) c.step-done.ensures.0
+    (step_made at.field.p c.of.result.p (modulus (goal.at.returns c).After-of).0 A at.v.now at.v.now left c.step-done.ensures.1)
     in record { writes = both.0; out_after = both.1 }

@@ -6,7 +6,6 @@ use Rattle.bridge.specs.Scaled.{length_diagonal}
 use Rattle.checks.specs.Valid.{Vector}
 use Rattle.checks.specs.Products.{products_scaled}
 use Rattle.wiedemann.specs.Horner.{step, step_scaled, scaled_vector, vector_diagonal}
-use borrow.Author.Rules.{rules}
 use Rattle.wiedemann.proofs.matrix.scaled_step.Goals.{After-scale}
 use Rattle.wiedemann.proofs.matrix.scaled_step.Goals as goal
 
@@ -21,13 +20,16 @@ pub step-requires : goal.step-requires
 step-requires c =
     let a = c.args in
     let pre = c.requires in
-    let v = a.v.now in record { valid = pre.valid_scaled.valid; modular = (
+    let v = a.v.now in record {
+      valid = pre.valid_scaled.valid;
+      modular = (
         pre.modular.0,
         pre.modular.1,
         pre.modular.2,
         subst (Vector a.m.p (length a.starts.now - 1)) (sym (scaled (goal.at.step-requires c).After-scale))
             (vector_diagonal a.m.p a.scales.now v pre.valid_scaled.valid.positive pre.modular.3),
-      ) }
+      );
+    }
 
 pub returns : goal.returns
 returns c =

@@ -1,16 +1,15 @@
 use mathlib.Core.Path.{◌≡◌, refl, sym, ◌∙◌}
-use Prim.Native.Nat.{◌*◌, ◌-◌, ◌≤◌}
+use Prim.Native.Nat.{◌*◌, ◌-◌}
 use native.Mathlib.Omega.{arith}
 use lib.ListN.{length, get_or}
 use Rattle.meaning.specs.Matrix.{matrix}
 use Rattle.checks.specs.Products.{product_ended, row_behind}
 use Rattle.checks.specs.Valid.{valid_entries}
-use Rattle.laws.specs.Written.{Written, written_none, written_all}
+use Rattle.laws.specs.Written.{written_none, written_all}
 use Rattle.laws.specs.Part.{written_next, written_table}
 use Rattle.wiedemann.specs.Horner.{step_at, table_step, row_reduced}
 use Rattle.checks.specs.Valid.{row_bounds}
 use Rattle.modular.specs.Total.{residue_number}
-use borrow.Author.Rules.{rules}
 use Rattle.wiedemann.proofs.matrix.step.Goals as goal
 
 pub overflow_sub-rows : goal.overflow_sub-rows

@@ -1,7 +1,7 @@
 use mathlib.Core.Path.{◌≡◌, refl, sym, ap, ap₂, ◌∙◌}
 use mathlib.Core.Bool.{Bool, ◌&&◌}
 use mathlib.Core.List.{List}
-use Prim.Native.Nat.{ℕ, ◌-◌, ◌%◌, ◌≤◌}
+use Prim.Native.Nat.{ℕ, ◌-◌, ◌%◌}
 use native.Mathlib.Nat.{zero-add}
 use native.Mathlib.Omega.{arith}
 use lib.Dec.{eqb}
@@ -15,7 +15,6 @@ use Rattle.checks.specs.Matrix.{all_more}
 use Rattle.wiedemann.specs.Horner.{at_product, row_reduced}
 use Rattle.checks.specs.Valid.{row_bounds}
 use Rattle.modular.specs.Total.{residue_number}
-use borrow.Author.Rules.{rules}
 use Rattle.wiedemann.proofs.offered.agrees.Goals.{After-element}
 use Rattle.wiedemann.proofs.offered.agrees.Goals as goal
 

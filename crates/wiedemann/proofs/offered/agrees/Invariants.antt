@@ -1,21 +1,11 @@
-use mathlib.Core.Path.{◌≡◌, refl, sym, ap, ap₂, ◌∙◌}
-use mathlib.Core.Bool.{Bool, ◌&&◌}
+use mathlib.Core.Path.{◌≡◌}
+use mathlib.Core.Bool.{Bool}
 use mathlib.Core.List.{List}
-use Prim.Native.Nat.{ℕ, ◌-◌, ◌%◌, ◌≤◌}
-use native.Mathlib.Nat.{zero-add}
-use native.Mathlib.Omega.{arith}
+use Prim.Native.Nat.{ℕ, ◌-◌, ◌≤◌}
 use lib.Dec.{eqb}
-use lib.ListN.{length, get_or}
+use lib.ListN.{get_or}
 use Rattle.meaning.specs.List.{all}
 use Rattle.meaning.specs.Matrix.{Matrix, matrix, product}
-use Rattle.laws.specs.List.{all_zero}
-use Rattle.checks.specs.Products.{rows_ended, row_behind}
-use Rattle.checks.specs.Valid.{row_product, valid_entries}
-use Rattle.checks.specs.Matrix.{all_more}
-use Rattle.wiedemann.specs.Horner.{at_product, row_reduced}
-use Rattle.checks.specs.Valid.{row_bounds}
-use Rattle.modular.specs.Total.{residue_number}
-use borrow.Author.Rules.{rules}
 use Rattle.wiedemann.proofs.offered.agrees.Given as goal
 
 abbrev pub agreement : ℕ → Matrix → List ℕ → List ℕ → ℕ → Bool

@@ -9,7 +9,6 @@ use Rattle.checks.specs.Matrix.{Accepted, system_accepted}
 use Rattle.laws.specs.Refusal.{unless_refused_none}
 use Rattle.wiedemann.specs.Answers.{decides_refused}
 use Rattle.modular.specs.Modulus.{Modular, modular_of}
-use borrow.Author.Rules.{rules}
 use Rattle.wiedemann.proofs.offered.is_null.Goals.{After-of, After-vanishes-found, Else-number-ne0}
 use Rattle.wiedemann.proofs.offered.is_null.Goals as goal
 
@@ -70,17 +69,15 @@ vanishes-found-requires c =
     record { valid = known.valid; modular = ((modulus (goal.at.vanishes-found-requires c).After-of).1, known.vector) }
 
 pub returns-then-is_zero : goal.returns-then-is_zero
-returns-then-is_zero c =
-    (
-      none (goal.at.returns-then-is_zero c).Else-number-ne0,
-      answer (goal.at.returns-then-is_zero c).Else-number-ne0 ∙ ap₂ (λ s t. not s && t) (sym c.is_zero.ensures ∙ c.if-is_zero.true) (vanished (goal.at.returns-then-is_zero c).After-vanishes-found),
-      c.vanishes-found.ensures.0,
-    )
+returns-then-is_zero c = (
+  none (goal.at.returns-then-is_zero c).Else-number-ne0,
+  answer (goal.at.returns-then-is_zero c).Else-number-ne0 ∙ ap₂ (λ s t. not s && t) (sym c.is_zero.ensures ∙ c.if-is_zero.true) (vanished (goal.at.returns-then-is_zero c).After-vanishes-found),
+  c.vanishes-found.ensures.0,
+)
 
 pub returns : goal.returns
-returns c =
-    (
-      none (goal.at.returns c).Else-number-ne0,
-      answer (goal.at.returns c).Else-number-ne0 ∙ ap₂ (λ s t. not s && t) (sym c.is_zero.ensures ∙ c.if-is_zero.false) (vanished (goal.at.returns c).After-vanishes-found),
-      c.vanishes-found.ensures.0,
-    )
+returns c = (
+  none (goal.at.returns c).Else-number-ne0,
+  answer (goal.at.returns c).Else-number-ne0 ∙ ap₂ (λ s t. not s && t) (sym c.is_zero.ensures ∙ c.if-is_zero.false) (vanished (goal.at.returns c).After-vanishes-found),
+  c.vanishes-found.ensures.0,
+)

@@ -10,7 +10,6 @@ use Rattle.laws.specs.Refusal.{unless_refused_none}
 use Rattle.wiedemann.specs.Answers.{decides_refused}
 use Rattle.wiedemann.specs.Offered.{takes_tested}
 use Rattle.modular.specs.Modulus.{Modular, modular_of}
-use borrow.Author.Rules.{rules}
 use Rattle.wiedemann.proofs.offered.takes.Goals.{After-agrees-found, After-of, Else-number-ne0}
 use Rattle.wiedemann.proofs.offered.takes.Goals as goal
 

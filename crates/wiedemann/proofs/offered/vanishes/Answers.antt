@@ -3,7 +3,6 @@ use lib.ListN.{length}
 use Rattle.meaning.specs.Matrix.{matrix, product}
 use Rattle.wiedemann.specs.Horner.{vector_product}
 use Rattle.wiedemann.specs.Offered.{zero_tested}
-use borrow.Author.Rules.{rules}
 use Rattle.wiedemann.proofs.offered.vanishes.Goals as goal
 
 pub returns : goal.returns

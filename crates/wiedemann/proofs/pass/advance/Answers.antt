@@ -1,12 +1,10 @@
-use mathlib.Core.Path.{◌≡◌, refl, sym, ap, ◌∙◌, subst}
-use native.Mathlib.Omega.{arith}
+use mathlib.Core.Path.{ap, ◌∙◌}
 use Prim.Native.Nat.{◌-◌}
 use lib.ListN.{length}
 use Rattle.meaning.specs.Matrix.{matrix}
 use Rattle.checks.specs.declared.Products.{Products}
 use Rattle.checks.specs.Products.{added, products_scaled}
-use Rattle.wiedemann.specs.Turns.{Prepared, region_at, prepared_none, prepared_turning, advanced_scaled}
-use borrow.Author.Rules.{rules}
+use Rattle.wiedemann.specs.Turns.{Prepared, prepared_none, prepared_turning, advanced_scaled}
 use Rattle.wiedemann.proofs.pass.advance.Goals.{After-region-from}
 use Rattle.wiedemann.proofs.pass.advance.Goals as goal
 

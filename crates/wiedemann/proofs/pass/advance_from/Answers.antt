@@ -1,12 +1,11 @@
 use mathlib.Core.Path.{◌≡◌, refl, sym, ap, ◌∙◌, subst}
 use native.Mathlib.Omega.{arith}
-use Prim.Native.Nat.{◌+◌, ◌-◌, ◌*◌}
+use Prim.Native.Nat.{◌-◌, ◌*◌}
 use lib.ListN.{length}
 use Rattle.meaning.specs.Matrix.{matrix}
 use Rattle.checks.specs.declared.Products.{Products}
 use Rattle.checks.specs.Products.{products_with, added, products_few}
 use Rattle.wiedemann.specs.Turns.{Other, region_at, regions, advanced, advanced_at}
-use borrow.Author.Rules.{rules}
 use Rattle.wiedemann.proofs.pass.advance_from.Goals.{After-region-to}
 use Rattle.wiedemann.proofs.pass.advance_from.Goals as goal
 

@@ -1,10 +1,8 @@
-use mathlib.Core.Path.{◌≡◌, ap, ◌∙◌}
-use native.Mathlib.Omega.{arith}
+use mathlib.Core.Path.{ap, ◌∙◌}
 use Rattle.meaning.specs.Matrix.{matrix}
 use Rattle.checks.specs.declared.Products.{Products}
 use Rattle.checks.specs.Products.{added, products_scaled}
 use Rattle.wiedemann.specs.Turns.{prepared_turning, advanced_scaled}
-use borrow.Author.Rules.{rules}
 use Rattle.wiedemann.proofs.pass.advance_scaled.Goals as goal
 
 pub prepare-from-requires : goal.prepare-from-requires

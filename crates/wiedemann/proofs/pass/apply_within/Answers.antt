@@ -10,7 +10,6 @@ use lib.ListN.{length}
 use native.Mathlib.Omega.{arith}
 use Prim.Native.Nat.{◌+◌, ◌-◌, ◌*◌}
 use mathlib.Core.Path.{◌≡◌, refl, sym, ap, ◌∙◌, subst}
-use borrow.Author.Rules.{rules}
 use Rattle.wiedemann.proofs.pass.apply_within.Goals as goal
 
 pub loop-i-init : goal.loop-i-init
@@ -34,7 +33,9 @@ advance-done-requires c =
     let a = c.args in
     let pre = c.requires in
     let loop = c.loop-i in
-    let A = scaled a.m.p (matrix a.starts.now a.columns.now a.values.now) a.scales.now in record { valid_scaled = pre.valid_scaled; modular = (
+    let A = scaled a.m.p (matrix a.starts.now a.columns.now a.values.now) a.scales.now in record {
+      valid_scaled = pre.valid_scaled;
+      modular = (
         pre.modular.0,
         record {
           seat = loop.invariant.1.seat;
@@ -42,7 +43,8 @@ advance-done-requires c =
           elements = rw loop.invariant.1.holds (vector_apply a.m.p A _ _ pre.valid_scaled.valid.positive);
         },
         products_few (valid_scaled _ pre.valid_scaled.valid) (omega (arith, loop.invariant.0, pre.modular.1)) loop.invariant.2,
-      ) }
+      );
+    }
 
 pub loop-i-smaller : goal.loop-i-smaller
 loop-i-smaller c = omega (arith, c.loop-i-test.true)

@@ -1,16 +1,9 @@
-use Rattle.checks.specs.Valid.{valid_scaled}
-use Rattle.wiedemann.specs.Turns.{seat_low, region_at, region_first, Applying, applying_none, applying_more, applied_all}
-use mathlib.Core.Logic.{inl}
-use Rattle.wiedemann.specs.Horner.{vector_apply}
+use Rattle.wiedemann.specs.Turns.{region_at, Applying}
 use Rattle.meaning.specs.Matrix.{matrix, scaled}
-use Rattle.checks.specs.declared.Products.{Products}
-use Rattle.checks.specs.Products.{products_with, products_none, products_next, products_few}
-use Rattle.laws.specs.Part.{length_part}
+use Rattle.checks.specs.Products.{products_with}
 use lib.ListN.{length}
-use native.Mathlib.Omega.{arith}
-use Prim.Native.Nat.{◌+◌, ◌-◌, ◌*◌}
-use mathlib.Core.Path.{◌≡◌, refl, sym, ap, ◌∙◌, subst}
-use borrow.Author.Rules.{rules}
+use Prim.Native.Nat.{◌+◌, ◌-◌}
+use mathlib.Core.Path.{◌≡◌}
 use Rattle.wiedemann.proofs.pass.apply_within.Given as goal
 
 abbrev pub invariant-loop-i : goal.invariant-loop-i

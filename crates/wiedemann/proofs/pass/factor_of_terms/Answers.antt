@@ -13,7 +13,6 @@ use native.Mathlib.Omega.{arith}
 use mathlib.Core.List.{[]}
 use Prim.Native.Nat.{◌+◌, ◌-◌, ◌*◌}
 use mathlib.Core.Path.{refl, sym, ap, ◌∙◌, subst}
-use borrow.Author.Rules.{rules}
 use Rattle.wiedemann.proofs.pass.factor_of_terms.Goals as goal
 
 pub terms-first-requires : goal.terms-first-requires
@@ -39,7 +38,9 @@ apply_within-more-requires c =
     let done = c.terms-first.ensures.1 in
     let found = c.recurrence_of_terms-t.ensures in
     let room = pre.left_in_bounds.0 in
-    let long = done.same_length in record { valid_scaled = pre.valid_scaled.0; modular = (
+    let long = done.same_length in record {
+      valid_scaled = pre.valid_scaled.0;
+      modular = (
         pre.modular.0,
         omega (arith, found.short, pre.modular.2),
         record {
@@ -50,7 +51,8 @@ apply_within-more-requires c =
               subst (λ l. Vector a.m.p n l) {x = part 0 n a.area.now}
               (sym {b = part 0 n a.area.now} (◌∙◌ {c = part 0 n a.area.now} (same_take 0 n (3 * n) _ _ (omega arith) (omega (arith, long, room)) found.same_length found.before) done.front)) pre.left_in_bounds.1;
         },
-      ) }
+      );
+    }
 
 pub plus-done-requires : goal.plus-done-requires
 plus-done-requires c =

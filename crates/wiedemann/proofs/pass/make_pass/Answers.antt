@@ -9,7 +9,6 @@ use lib.ListN.{length}
 use Prim.Native.Nat.{◌-◌}
 use mathlib.Core.Bool.{true}
 use mathlib.Core.Path.{◌≡◌, refl, sym, ◌∙◌, subst}
-use borrow.Author.Rules.{rules}
 use Rattle.wiedemann.proofs.pass.make_pass.Goals.{After-of-m, Else-number-ne0}
 use Rattle.wiedemann.proofs.pass.make_pass.Goals as goal
 

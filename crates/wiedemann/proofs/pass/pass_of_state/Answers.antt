@@ -13,7 +13,6 @@ use native.Mathlib.Omega.{arith}
 use Prim.Native.Nat.{ℕ, ◌+◌, ◌-◌, ◌*◌, ◌≤◌}
 use mathlib.Core.List.{List, []}
 use mathlib.Core.Path.{refl, sym, subst, ◌∙◌}
-use borrow.Author.Rules.{rules}
 use Rattle.wiedemann.proofs.pass.pass_of_state.Goals.{After-slice_known-2-1}
 use Rattle.wiedemann.proofs.pass.pass_of_state.Goals as goal
 
@@ -72,11 +71,15 @@ take_factor-q-requires c =
     let room = s.room in
     let below = s.below in
     let fits : first + m ≤ length W = omega (arith, room) in
-    let long = length_part first m W fits in record { valid_scaled = (pre.valid_scaled.0, pre.valid_scaled.1); modular = (pre.valid_scaled.2, omega (arith, below), omega (arith, pre.valid_scaled.0.valid.sized), words_of n a.words.now (omega (arith, below)) s.words_taken_law); left_in_bounds = (
-          omega (arith, long, room, below),
-          subst (λ l. Vector a.m.p n l)
-              (sym (part_of_part (3 * n) n first m W (omega (arith, room)) fits ∙ part_at W (first + 3 * n) n (residual_at n) n (omega arith) refl)) s.residual,
-        ) }
+    let long = length_part first m W fits in record {
+      valid_scaled = (pre.valid_scaled.0, pre.valid_scaled.1);
+      modular = (pre.valid_scaled.2, omega (arith, below), omega (arith, pre.valid_scaled.0.valid.sized), words_of n a.words.now (omega (arith, below)) s.words_taken_law);
+      left_in_bounds = (
+        omega (arith, long, room, below),
+        subst (λ l. Vector a.m.p n l)
+            (sym (part_of_part (3 * n) n first m W (omega (arith, room)) fits ∙ part_at W (first + 3 * n) n (residual_at n) n (omega arith) refl)) s.residual,
+      );
+    }
 
 pub generator_at-f-requires : goal.generator_at-f-requires
 generator_at-f-requires c =

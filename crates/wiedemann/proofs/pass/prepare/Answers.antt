@@ -7,7 +7,6 @@ use Rattle.meaning.specs.List.{at}
 use Rattle.laws.specs.Written.{Written}
 use Rattle.checks.specs.Valid.{Vector}
 use Rattle.wiedemann.specs.Turns.{Turning, region_at, region_first, seat_low, prepared_other, copied_part, prepared_first}
-use borrow.Author.Rules.{rules}
 use Rattle.wiedemann.proofs.pass.prepare.Goals.{After-copy_within}
 use Rattle.wiedemann.proofs.pass.prepare.Goals as goal
 

@@ -1,7 +1,6 @@
 use mathlib.Core.Path.{sym, ap, ◌∙◌}
 use native.Mathlib.Omega.{arith}
 use Rattle.wiedemann.specs.Turns.{region_at, region_first, region_odd, region_even}
-use borrow.Author.Rules.{rules}
 use Rattle.wiedemann.proofs.pass.region.Goals as goal
 
 pub returns-then-i-eq0 : goal.returns-then-i-eq0

@@ -1,14 +1,10 @@
-use mathlib.Core.Path.{◌≡◌, refl, ap, ◌∙◌}
+use mathlib.Core.Path.{◌≡◌, ap, ◌∙◌}
 use Prim.Native.Nat.{◌+◌, ◌-◌}
 use native.Mathlib.Omega.{arith}
-use lib.ListN.{length}
-use Rattle.meaning.specs.Matrix.{diagonal}
 use Rattle.modular.specs.Diagonal.{scaled_by}
 use Rattle.laws.specs.Part.{part}
 use Rattle.laws.specs.Lent.{lent}
 use Rattle.wiedemann.specs.Horner.{scaled_vector}
-use borrow.Author.Rules.{rules}
-use Rattle.modular.proofs.diagonal.scale.Reads as scale-reads
 use Rattle.wiedemann.proofs.pass.scale_part.Goals as goal
 
 pub returns : goal.returns

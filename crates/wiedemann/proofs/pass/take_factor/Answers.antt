@@ -6,7 +6,6 @@ use Rattle.laws.specs.Part.{length_part}
 use Rattle.laws.specs.Lent.{part_at, part_of_part}
 use Rattle.checks.specs.Valid.{Vector}
 use Rattle.wiedemann.specs.Pass.{shortened_lent, shortened_window}
-use borrow.Author.Rules.{rules}
 use Rattle.wiedemann.proofs.pass.take_factor.Goals as goal
 
 pub factor_of_terms-requires : goal.factor_of_terms-requires
@@ -35,7 +34,7 @@ returns-then-window-eq0 c =
 pub factor_by_window-requires : goal.factor_by_window-requires
 factor_by_window-requires c =
     let both =
-        c.requires
+    c.requires
     in record { valid_scaled = both.valid_scaled; modular = both.modular; left_in_bounds = both.left_in_bounds }
 
 pub returns : goal.returns

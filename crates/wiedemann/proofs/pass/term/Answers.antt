@@ -6,7 +6,6 @@ use lib.ListN.{length, get_or, set, take, drop}
 use Rattle.laws.specs.Lent.{part_at}
 use Rattle.laws.specs.Part.{part, length_part}
 use Rattle.meaning.specs.Solver.{dot, projections}
-use borrow.Author.Rules.{rules}
 use Rattle.wiedemann.proofs.pass.term.Goals as goal
 
 -- the vector's part, as it is lent

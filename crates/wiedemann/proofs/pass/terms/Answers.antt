@@ -9,9 +9,8 @@ use Rattle.checks.specs.Products.{products_with, products_none, products_next, p
 use mathlib.Core.List.{[]}
 use lib.ListN.{length, get_or, set}
 use native.Mathlib.Omega.{arith}
-use Prim.Native.Nat.{◌+◌, ◌-◌, ◌*◌, ◌≤◌}
+use Prim.Native.Nat.{◌+◌, ◌-◌, ◌*◌}
 use mathlib.Core.Path.{◌≡◌, refl, sym, ap, ◌∙◌, subst}
-use borrow.Author.Rules.{rules}
 use Rattle.wiedemann.proofs.pass.terms.Goals.{After-advance-done, After-term}
 use Rattle.wiedemann.proofs.pass.terms.Goals as goal
 
@@ -70,7 +69,9 @@ advance-done-requires c =
     let pre = c.requires in
     let A = scaled a.m.p (matrix a.starts.now a.columns.now a.values.now) a.scales.now in
     let loop = c.loop-done in
-    let n = length a.starts.now - 1 in record { valid_scaled = pre.valid_scaled; modular = (
+    let n = length a.starts.now - 1 in record {
+      valid_scaled = pre.valid_scaled;
+      modular = (
         pre.modular.0,
         record {
           seat = loop.invariant.3.seat;
@@ -78,7 +79,8 @@ advance-done-requires c =
           elements = rw loop.invariant.3.holds (vector_power a.m.p A loop.done.made _ pre.valid_scaled.valid.positive loop.invariant.2);
         },
         products_few (valid_scaled _ pre.valid_scaled.valid) (omega (arith, loop.invariant.0, pre.modular.2)) loop.invariant.4,
-      ) }
+      );
+    }
 
 pub region-requires-in-loop-done : goal.region-requires-in-loop-done
 region-requires-in-loop-done c = c.requires.valid_scaled.valid.sized

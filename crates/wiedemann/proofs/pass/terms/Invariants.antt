@@ -1,17 +1,13 @@
-use Rattle.wiedemann.specs.Turns.{seat_low, region_at, region_first, vector_power, Iterated, iterated_none, iterated_more, iterated_from, iterated_all}
-use Rattle.wiedemann.specs.Horner.{vector_step}
+use Rattle.wiedemann.specs.Turns.{region_at, Iterated}
 use Rattle.laws.specs.Part.{part}
-use Rattle.checks.specs.Valid.{valid_scaled, Vector}
-use Rattle.meaning.specs.Solver.{dot, projections}
+use Rattle.checks.specs.Valid.{Vector}
+use Rattle.meaning.specs.Solver.{projections}
 use Rattle.meaning.specs.Matrix.{matrix, scaled}
-use Rattle.checks.specs.declared.Products.{Products}
-use Rattle.checks.specs.Products.{products_with, products_none, products_next, products_few}
+use Rattle.checks.specs.Products.{products_with}
 use mathlib.Core.List.{[]}
-use lib.ListN.{length, get_or, set}
-use native.Mathlib.Omega.{arith}
+use lib.ListN.{length, get_or}
 use Prim.Native.Nat.{◌+◌, ◌-◌, ◌*◌, ◌≤◌}
-use mathlib.Core.Path.{◌≡◌, refl, sym, ap, ◌∙◌, subst}
-use borrow.Author.Rules.{rules}
+use mathlib.Core.Path.{◌≡◌}
 use Rattle.wiedemann.proofs.pass.terms.Given as goal
 
 abbrev pub invariant-loop-done : goal.invariant-loop-done

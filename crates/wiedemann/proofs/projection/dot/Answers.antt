@@ -3,13 +3,12 @@ use Rattle.wiedemann.specs.Projection.{word_term, dot_words}
 use Rattle.modular.specs.Sums.{sum_from_zero}
 use Rattle.modular.specs.declared.sums.Total.{Total}
 use Rattle.modular.specs.Sums.{summed_both}
-use Rattle.meaning.specs.List.{sum, sum_from}
+use Rattle.meaning.specs.List.{sum_from}
 use lib.ListN.{length}
 use native.Mathlib.Omega.{arith}
 use Prim.Native.Nat.{◌-◌, ◌%◌}
 use mathlib.Core.Path.{refl, sym, ap, ◌∙◌}
 use Rattle.modular.specs.Total.{residue_number}
-use borrow.Author.Rules.{rules}
 use Rattle.wiedemann.proofs.projection.dot.Goals as goal
 
 pub twos-most-requires : goal.twos-most-requires

@@ -1,7 +1,6 @@
 use Rattle.modular.specs.Words.{word_fits}
 use lib.ListN.{get_or}
 use native.Mathlib.Omega.{arith}
-use borrow.Author.Rules.{rules}
 use Rattle.wiedemann.proofs.projection.product.Goals as goal
 
 pub returns : goal.returns

@@ -10,7 +10,6 @@ use Rattle.meaning.specs.Solver.{dot}
 use Rattle.laws.specs.List.{table_ext}
 use Rattle.laws.specs.Solver.{projection_words}
 use Rattle.wiedemann.specs.Projection.{Raw, projection_past}
-use borrow.Author.Rules.{rules}
 use Rattle.wiedemann.proofs.projection.projected.Goals.{Then-j-vectors}
 use Rattle.wiedemann.proofs.projection.projected.Goals as goal
 

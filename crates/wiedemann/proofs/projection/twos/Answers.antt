@@ -1,9 +1,8 @@
 use Rattle.wiedemann.specs.Projection.{word_term}
-use Rattle.modular.specs.Sums.{Summed, summed_none, summed_more}
+use Rattle.modular.specs.Sums.{summed_none, summed_more}
 use native.Mathlib.Omega.{arith}
-use Prim.Native.Nat.{◌+◌, ◌-◌, ◌%◌, ◌≤◌}
+use Prim.Native.Nat.{◌+◌}
 use mathlib.Core.Path.{◌≡◌}
-use borrow.Author.Rules.{rules}
 use Rattle.wiedemann.proofs.projection.twos.Goals as goal
 
 pub loop-i-init : goal.loop-i-init

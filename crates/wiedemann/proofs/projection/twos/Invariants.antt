@@ -1,9 +1,7 @@
 use Rattle.wiedemann.specs.Projection.{word_term}
-use Rattle.modular.specs.Sums.{Summed, summed_none, summed_more}
-use native.Mathlib.Omega.{arith}
-use Prim.Native.Nat.{◌+◌, ◌-◌, ◌%◌, ◌≤◌}
+use Rattle.modular.specs.Sums.{Summed}
+use Prim.Native.Nat.{◌-◌, ◌%◌, ◌≤◌}
 use mathlib.Core.Path.{◌≡◌}
-use borrow.Author.Rules.{rules}
 use Rattle.wiedemann.proofs.projection.twos.Given as goal
 
 abbrev pub invariant-loop-i : goal.invariant-loop-i

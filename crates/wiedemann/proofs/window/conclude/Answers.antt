@@ -1,12 +1,10 @@
 use mathlib.Core.Path.{◌≡◌}
 use Prim.Native.Nat.{◌+◌, ◌-◌}
 use native.Mathlib.Omega.{arith}
-use lib.ListN.{length}
 use Rattle.meaning.specs.Matrix.{matrix, scaled}
 use Rattle.laws.specs.Lent.{lent}
 use Rattle.recurrence.specs.Recurrence.{Reversed, reversed_lent}
 use Rattle.wiedemann.specs.Window.{turned_leading}
-use borrow.Author.Rules.{rules}
 use Rattle.wiedemann.proofs.window.conclude.Goals.{After-reverse}
 use Rattle.wiedemann.proofs.window.conclude.Goals as goal
 

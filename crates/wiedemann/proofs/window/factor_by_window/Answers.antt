@@ -11,7 +11,6 @@ use Rattle.checks.specs.Products.{products_with, products_none, products_add, pr
 use Rattle.residue.specs.Prime.{is_modulus_Prime}
 use Rattle.wiedemann.specs.declared.pass.Pass.{Pass}
 use Rattle.wiedemann.specs.Window as window
-use borrow.Author.Rules.{rules}
 use Rattle.wiedemann.proofs.window.factor_by_window.Goals.{After-listen_until_due-heard}
 use Rattle.wiedemann.proofs.window.factor_by_window.Goals as goal
 
@@ -23,11 +22,15 @@ listen_until_due-heard-requires c =
     let B = a.area.now in
     let m = length B - 3 * n in
     let fits : 3 * n + m ≤ length B = omega (arith, pre.left_in_bounds.0) in
-    let long = length_part (3 * n) m B fits in record { valid_scaled = pre.valid_scaled; modular = pre.modular; room = (
-          record { sized = pre.valid_scaled.0.valid.sized; low = pre.modular.2; room = omega (arith, long, pre.left_in_bounds.0) },
-          subst (λ v. Vector a.m.p n v)
-              (sym (part_of_part 0 n (3 * n) m B (omega (arith, pre.left_in_bounds.0)) fits ∙ part_at B (3 * n + 0) n (3 * n) n (omega arith) refl)) pre.left_in_bounds.1,
-        ) }
+    let long = length_part (3 * n) m B fits in record {
+      valid_scaled = pre.valid_scaled;
+      modular = pre.modular;
+      room = (
+        record { sized = pre.valid_scaled.0.valid.sized; low = pre.modular.2; room = omega (arith, long, pre.left_in_bounds.0) },
+        subst (λ v. Vector a.m.p n v)
+            (sym (part_of_part 0 n (3 * n) m B (omega (arith, pre.left_in_bounds.0)) fits ∙ part_at B (3 * n + 0) n (3 * n) n (omega arith) refl)) pre.left_in_bounds.1,
+      );
+    }
 
 -- the part from r on was lent, and has come back
 lent_again : (c : After-listen_until_due-heard)

@@ -11,7 +11,6 @@ use Rattle.checks.specs.declared.Products.{Products}
 use Rattle.checks.specs.Products.{products_with, products_add, products_few}
 use Rattle.wiedemann.specs.declared.pass.Pass.{Pass}
 use Rattle.wiedemann.specs.Window.{room_as, listening_low, listening_one, listened_all, unasked_none, finished}
-use borrow.Author.Rules.{rules}
 use Rattle.wiedemann.proofs.window.finish.Goals.{After-plus-first}
 use Rattle.wiedemann.proofs.window.finish.Goals as goal
 
@@ -37,13 +36,16 @@ conclude-more-requires c =
     let all = c.listen-all.ensures in
     let held = all.listening.iterated in
     let room = room_as held.same_length pre.room.0 in
-    let low = listening_low prime room all.listening in record { valid_scaled = (pre.valid_scaled.0, pre.modular.0, omega (arith, low, all.listening.high, pre.modular.2)); starts_bound = (
+    let low = listening_low prime room all.listening in record {
+      valid_scaled = (pre.valid_scaled.0, pre.modular.0, omega (arith, low, all.listening.high, pre.modular.2));
+      starts_bound = (
         omega arith,
         omega (arith, room.room, low, all.listening.high),
         omega (arith, room.sized, room.low),
         listening_one prime room all.listening,
         subst (Vector a.m.p n) (sym held.front) pre.room.1,
-      ) }
+      );
+    }
 
 pub plus-first-requires : goal.plus-first-requires
 plus-first-requires c =

@@ -2,7 +2,6 @@ use mathlib.Core.Path.{ap}
 use mathlib.Core.Bool.{not, ◌&&◌}
 use Prim.Native.Nat.{◌*◌}
 use lib.Dec.{ltb}
-use borrow.Author.Rules.{rules}
 use Rattle.wiedemann.proofs.window.goes_on.Goals as goal
 
 pub returns : goal.returns

@@ -1,5 +1,5 @@
 use mathlib.Core.Path.{refl, ap, ◌∙◌}
-use Prim.Native.Nat.{ℕ, ◌+◌, ◌-◌, ◌*◌}
+use Prim.Native.Nat.{ℕ, ◌+◌, ◌*◌}
 use native.Mathlib.Omega.{arith}
 use mathlib.Core.List.{[]}
 use lib.ListN.{get_or, set, length-set}
@@ -8,7 +8,6 @@ use Rattle.laws.specs.Part.{part}
 use Rattle.residue.specs.Prime.{is_modulus_Prime}
 use Rattle.wiedemann.specs.Turns.{seat_low, region_at}
 use Rattle.wiedemann.specs.Window.{ToStep, dot_below, room_as, to_step, hears}
-use borrow.Author.Rules.{rules}
 use Rattle.wiedemann.proofs.window.hear.Goals.{After-step-arg-1}
 use Rattle.wiedemann.proofs.window.hear.Goals as goal
 

@@ -13,7 +13,7 @@ use Rattle.laws.specs.Bool.{and_left, and_right}
 use Rattle.laws.specs.Part.{part}
 use Rattle.checks.specs.Valid.{Vector}
 use Rattle.residue.specs.Prime.{is_modulus_Prime}
-use Rattle.wiedemann.specs.Window.{due_by, Listening, Unasked, room_as, listening_from, listening_due, unasked_more}
+use Rattle.wiedemann.specs.Window.{due_by, room_as, listening_from, listening_due, unasked_more}
 use Rattle.wiedemann.proofs.window.listen.Goals.{In-loop-m}
 use Rattle.wiedemann.proofs.window.listen.Goals as goal
 

@@ -1,19 +1,11 @@
-use mathlib.Core.Path.{◌≡◌, sym, ◌∙◌, subst}
-use Prim.Native.Nat.{◌-◌, ◌*◌, ◌<◌}
-use native.Mathlib.Omega.{arith}
+use Prim.Native.Nat.{◌-◌, ◌*◌}
 use lib.ListN.{length}
-use mathlib.Core.Bool.{true, false, not, ◌&&◌}
 use mathlib.Core.List.{[]}
-use lib.Dec.{ltb}
 use lib.ListN.{get_or}
-use borrow.Author.Tests.{ltb-true, not-true}
 use Rattle.meaning.specs.Matrix.{matrix, scaled}
 use Rattle.meaning.specs.Solver.{projections}
-use Rattle.laws.specs.Bool.{and_left, and_right}
 use Rattle.laws.specs.Part.{part}
-use Rattle.checks.specs.Valid.{Vector}
-use Rattle.residue.specs.Prime.{is_modulus_Prime}
-use Rattle.wiedemann.specs.Window.{due_by, Listening, Unasked, room_as, listening_from, listening_due, unasked_more}
+use Rattle.wiedemann.specs.Window.{Listening, Unasked}
 use Rattle.wiedemann.proofs.window.listen.Given as goal
 
 abbrev pub invariant-loop-m : goal.invariant-loop-m

@@ -1,9 +1,7 @@
 use mathlib.Core.Path.{refl}
-use Prim.Native.Nat.{◌-◌}
 use Rattle.meaning.specs.Matrix.{matrix, scaled}
 use Rattle.checks.specs.Products.{products_none}
 use Rattle.wiedemann.specs.Window.{room_as, begun_to_hear, listening_first}
-use borrow.Author.Rules.{rules}
 use Rattle.wiedemann.proofs.window.listen_first.Goals as goal
 
 pub start_steps-fresh-requires : goal.start_steps-fresh-requires

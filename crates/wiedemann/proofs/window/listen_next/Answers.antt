@@ -1,9 +1,7 @@
 use Rattle.checks.specs.Valid.{valid_scaled}
-use Prim.Native.Nat.{◌-◌}
 use native.Mathlib.Omega.{arith}
 use Rattle.checks.specs.Products.{products_few}
 use Rattle.wiedemann.specs.Window.{room_as, listening_turning, listening_to_hear, listening_next}
-use borrow.Author.Rules.{rules}
 use Rattle.wiedemann.proofs.window.listen_next.Goals as goal
 
 pub advance_scaled-done-requires : goal.advance_scaled-done-requires

@@ -6,13 +6,12 @@ use Rattle.meaning.specs.Matrix.{matrix, scaled}
 use Rattle.meaning.specs.Solver.{projections}
 use Rattle.checks.specs.Valid.{Vector}
 use Rattle.wiedemann.specs.Window.{room_as, listening_from, unasked_first, listened_from}
-use borrow.Author.Rules.{rules}
 use Rattle.wiedemann.proofs.window.listen_until_due.Goals as goal
 
 pub listen_first-first-requires : goal.listen_first-first-requires
 listen_first-first-requires c =
     let both =
-        c.requires
+    c.requires
     in record { valid_scaled = both.valid_scaled; modular = both.modular; room = both.room }
 
 pub listen-requires : goal.listen-requires

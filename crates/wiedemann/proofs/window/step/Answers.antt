@@ -4,7 +4,6 @@ use native.Mathlib.Omega.{arith}
 use lib.ListN.{length}
 use Rattle.laws.specs.Part.{length_part}
 use Rattle.wiedemann.specs.Window.{step_lent, step_never}
-use borrow.Author.Rules.{rules}
 use Rattle.wiedemann.proofs.window.step.Goals.{In-Refused}
 use Rattle.wiedemann.proofs.window.step.Goals as goal
 

@@ -10,7 +10,6 @@ use Rattle.laws.specs.Lent.{part_at}
 use Rattle.laws.specs.Written.{Written}
 use Rattle.recurrence.specs.Recurrence.{reversed_lent}
 use Rattle.wiedemann.specs.Window.{copied_one, copied_vector, tried_zero, tried_again}
-use borrow.Author.Rules.{rules}
 use Rattle.wiedemann.proofs.window.test.Goals.{After-copy_within, After-is_zero}
 use Rattle.wiedemann.proofs.window.test.Goals as goal
 

@@ -1,4 +1,4 @@
-use Rattle.std.proofs.Common.{ap, ◌∙◌, rules}
+use Rattle.std.proofs.Common.{ap, ◌∙◌}
 use Rattle.modular.specs.Modulus.{restored, lessened_half, difference_of}
 use Rattle.modular.proofs.modulus.Modulus.difference.Goals as goal
 

@@ -1,4 +1,4 @@
-use Rattle.std.proofs.Common.{◌≡◌, ℕ, ◌+◌, ◌%◌, ◌<◌, ◌≤◌, sym, ◌∙◌, mod-lt, mod-eq_of_lt, arith, rules}
+use Rattle.std.proofs.Common.{◌≡◌, ℕ, ◌+◌, ◌%◌, ◌<◌, ◌≤◌, sym, ◌∙◌, mod-lt, mod-eq_of_lt, arith}
 use native.Mathlib.Nat.{mod-add-mod}
 use Rattle.modular.proofs.modulus.Modulus.of.Goals as goal
 

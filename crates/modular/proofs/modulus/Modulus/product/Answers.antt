@@ -1,4 +1,4 @@
-use Rattle.std.proofs.Common.{ap, ◌∙◌, rules}
+use Rattle.std.proofs.Common.{ap, ◌∙◌}
 use Rattle.modular.specs.Modulus.{barrett}
 use Rattle.modular.proofs.modulus.Modulus.product.Goals as goal
 

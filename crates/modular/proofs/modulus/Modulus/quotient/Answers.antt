@@ -1,4 +1,4 @@
-use Rattle.std.proofs.Common.{◌≡◌, ◌+◌, ◌*◌, ◌/◌, ◌%◌, cond, ltb, sym, ap, ◌∙◌, ap₂, ⊎_elim, arith, rules, le-ltb, lt-ltb}
+use Rattle.std.proofs.Common.{◌≡◌, ◌+◌, ◌*◌, ◌/◌, ◌%◌, cond, ltb, sym, ap, ◌∙◌, ap₂, arith, le-ltb, lt-ltb}
 use Rattle.modular.specs.Modulus.{lessened, quotient_of}
 use Rattle.modular.specs.Words.{words_fit}
 use Rattle.modular.proofs.modulus.Modulus.quotient.Goals.{Joined-rest-self, then-rest-self, else-rest-self}
@@ -9,7 +9,7 @@ more c =
     let r = c.lessened-rest.result in
     let p = c.args.self.p in
     elim c.if-rest-self.branch [
-      then-rest-self w ↦ w.more-is ∙ sym (ap (λ t. cond t 0 1) (lt-ltb r p w.if-rest-self.true))
+      | then-rest-self w ↦ w.more-is ∙ sym (ap (λ t. cond t 0 1) (lt-ltb r p w.if-rest-self.true))
       | else-rest-self w ↦ w.more-is ∙ sym (ap (λ t. cond t 0 1) (le-ltb r p w.if-rest-self.false))
     ]
 

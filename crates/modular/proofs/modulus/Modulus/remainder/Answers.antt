@@ -1,4 +1,4 @@
-use Rattle.std.proofs.Common.{◌*◌, ◌%◌, ap, ◌∙◌, arith, rules}
+use Rattle.std.proofs.Common.{◌*◌, ◌%◌, ap, ◌∙◌, arith}
 use Rattle.residue.specs.Numbers.{mod_mul_mod}
 use Rattle.modular.specs.Modulus.{reduced, lessened, lessened_mod, barrett}
 use Rattle.modular.specs.Words.{words_fit}

@@ -1,4 +1,4 @@
-use Rattle.std.proofs.Common.{◌+◌, ◌%◌, ap, ◌∙◌, rules}
+use Rattle.std.proofs.Common.{◌+◌, ◌%◌, ap, ◌∙◌}
 use Rattle.modular.specs.Modulus.{reduced, shoup_added}
 use Rattle.modular.proofs.multiplier.Multiplier.added.Goals as goal
 

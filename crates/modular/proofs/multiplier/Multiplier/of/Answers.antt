@@ -1,4 +1,3 @@
-use Rattle.std.proofs.Common.{rules}
 use Rattle.modular.proofs.multiplier.Multiplier.of.Goals as goal
 
 pub returns : goal.returns

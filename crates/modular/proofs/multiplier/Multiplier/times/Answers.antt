@@ -1,4 +1,4 @@
-use Rattle.std.proofs.Common.{◌*◌, ◌/◌, ap, ◌∙◌, ap₂, arith, rules}
+use Rattle.std.proofs.Common.{◌*◌, ◌/◌, ap, ◌∙◌, ap₂, arith}
 use Rattle.modular.specs.Modulus.{reduced, lessened, shoup}
 use Rattle.modular.specs.Words.{words_fit}
 use Rattle.modular.proofs.multiplier.Multiplier.times.Goals as goal

@@ -1,4 +1,4 @@
-use Rattle.std.proofs.Common.{◌≡◌, ◌+◌, ◌/◌, ◌%◌, ap, ◌∙◌, ⊎_elim, arith, rules}
+use Rattle.std.proofs.Common.{◌≡◌, ◌+◌, ◌/◌, ◌%◌, ap, ◌∙◌, arith}
 use Rattle.modular.specs.Total.{added}
 use Rattle.modular.proofs.sums.Total.add.Goals.{Joined-low-x, then-low-x, else-low-x}
 use Rattle.modular.proofs.sums.Total.add.Goals as goal

@@ -1,4 +1,4 @@
-use Rattle.std.proofs.Common.{◌≡◌, ℕ, ◌+◌, ◌*◌, ◌/◌, ◌<◌, ap, ◌∙◌, ap₂, lt_of_le_of_lt, mod-eq_of_lt, zero-add, le-add_left, arith, rules}
+use Rattle.std.proofs.Common.{◌≡◌, ℕ, ◌+◌, ◌*◌, ◌/◌, ◌<◌, ap, ◌∙◌, ap₂, lt_of_le_of_lt, mod-eq_of_lt, zero-add, le-add_left, arith}
 use Rattle.modular.specs.Modulus.{barrett}
 use Rattle.modular.specs.Total.{added, folded, carry_le, high_fits, fold_fits, residue_of}
 use Rattle.modular.proofs.sums.Total.residue.Goals.{After-add-sum}
