@@ -6,8 +6,8 @@ use mathlib.Core.Logic.{⊎_elim}
 use Prim.Native.Nat.{ℕ, ◌+◌, ◌-◌, ◌*◌, ◌%◌, ◌<◌}
 use mathlib.Core.Path.{◌≡◌, sym, ap, ◌∙◌}
 use borrow.Author.Rules.{rules}
-use Rattle.solver.proofs.quotient.Statement.{statement}
-use Rattle.solver.proofs.quotient.Tie as tie
+use Rattle.solver.proofs.quotient.Goals.{then-w-eq0, else-w-eq0}
+use Rattle.solver.proofs.quotient.Goals as goal
 
 zero : (p w : ℕ) → w ≡ 0 → 0 ≡ (0 + (p - w)) % p
 zero p w e = sym (ap (λ x. x % p) (omega (arith, e)) ∙ mod_self p)
@@ -15,24 +15,17 @@ zero p w e = sym (ap (λ x. x % p) (omega (arith, e)) ∙ mod_self p)
 other : (p w : ℕ) → 0 < w → w < p → p - w ≡ (0 + (p - w)) % p
 other p w e l = sym (ap (λ x. x % p) (zero-add (p - w)) ∙ mod-eq_of_lt (omega (arith, e, l)))
 
-sub-negative : tie.Need-overflow-sub-negative
-sub-negative c = search rules
-
-times-requires : tie.Need-times-requires
-times-requires c κs = search rules
-
-returns : tie.Need-returns
+pub returns : goal.returns
 unfolding times minus
 returns c =
-    let a = c.before.before.args in
-    let pre = c.before.before.requires in
-    let x = c.before.if1.negative in
-    let small : x < 4294967296 = ⊎_elim (λ w. omega arith) (λ w. omega (arith, pre.0, pre.1.small)) c.before.if1.branch in
+    let a = c.args in
+    let pre = c.requires in
+    let x = c.if-w-eq0.negative in
+    let small : x < 4294967296 = elim c.if-w-eq0.branch [ then-w-eq0 w ↦ omega arith | else-w-eq0 w ↦ omega (arith, pre.0, pre.1.small) ] in
     let negative : x ≡ (0 + (a.p - a.w)) % a.p =
-    ⊎_elim (λ w. let e : a.w ≡ 0 = omega arith in omega (arith, zero a.p a.w e))
-    (λ w. let e : 0 < a.w = omega arith in omega (arith, other a.p a.w e pre.0)) c.before.if1.branch in
+    elim c.if-w-eq0.branch [
+      then-w-eq0 w ↦ (let e : a.w ≡ 0 = omega arith in omega (arith, zero a.p a.w e))
+      | else-w-eq0 w ↦ (let e : 0 < a.w = omega arith in omega (arith, other a.p a.w e pre.0))
+    ] in
     c.times.ensures ∙ times_of a.p a.k pre.1 x small ∙ ap (λ y. y % a.p) (mul_comm a.k.constant x)
     ∙ ap (λ y. y * a.k.constant % a.p) negative
-
-pub quotient-spec : {M : Type 1} → statement M
-quotient-spec = tie.close (tie.spec sub-negative times-requires returns)

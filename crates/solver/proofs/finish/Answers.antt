@@ -1,0 +1,161 @@
+use Rattle.solver.specs.declared.Counts.{Counts}
+use Rattle.solver.specs.Verdict.{closing, closing_none, divisor, constant, coefficients, taken_in}
+use Rattle.wiedemann.specs.Horner.{vector_apply}
+use Rattle.laws.specs.Lent.{part_at}
+use Rattle.laws.specs.List.{length_table}
+use Rattle.laws.specs.Part.{part, length_part}
+use Rattle.bridge.specs.ThirdCondition.{verdict_zero, verdict_singular, verdict_solved}
+use Rattle.checks.specs.declared.Products.{Products}
+use Rattle.checks.specs.Products.{products_with, products_few}
+use Rattle.checks.specs.Valid.{Vector, valid_scaled}
+use Rattle.meaning.specs.Field.{minus, times, inverse}
+use Rattle.meaning.specs.List.{at, table, padded}
+use Rattle.meaning.specs.Matrix.{matrix, apply, scaled}
+use Rattle.meaning.specs.Solver.{Kind}
+use Rattle.checks.specs.Matrix.{scaled_apply_refusal}
+use lib.ListN.{length, take, drop, length-drop}
+use native.Mathlib.Nat.{sub_self}
+use native.Mathlib.Omega.{arith}
+use Prim.Native.Nat.{ℕ, ◌+◌, ◌-◌}
+use mathlib.Core.List.{List, []}
+use mathlib.Core.Path.{◌≡◌, refl, sym, ap, ap₂, ◌∙◌, subst}
+use borrow.Author.Rules.{rules}
+use Rattle.solver.proofs.finish.Goals.{After-apply_to_b-done, After-write_padded}
+use Rattle.solver.proofs.finish.Goals as goal
+
+-- a vector by its own length
+whole : {p n : ℕ} {v : List ℕ} → Vector p n v → Vector p (length v) v
+whole h = record { places = refl; below = λ i l. h.below i (omega (arith, l, h.places)) }
+
+-- F in the polynomial slice
+factor : (c : After-write_padded)
+    → let a = c.args in
+    c.write_padded.new.out ≡ padded (length a.starts.now - 1 + 1) (part 0 (a.c.degree + 1) a.work.now)
+factor c =
+    let a = c.args in
+    let d = a.c.degree in
+    c.write_padded.ensures ∙ ap₂ padded c.requires.vector_len.1 (part_at a.work.now 0 (d + 1 - 0) 0 (d + 1) refl (omega arith))
+
+-- G(A)b in the vector slice, and the products that it took
+image : (c : After-apply_to_b-done)
+    → let a = c.args in
+    let A = scaled a.field.p (matrix a.starts.now a.columns.now a.values.now) a.scales.now in
+    (c.apply_to_b-done.result ≡ products_with (a.c.degree - 1) A)
+    × (c.apply_to_b-done.new.vector ≡ apply a.field.p A (drop 1 (part 0 (a.c.degree + 1) a.work.now)) a.b.now)
+image c =
+    let a = c.args in
+    let pre = c.requires in
+    let A = scaled a.field.p (matrix a.starts.now a.columns.now a.values.now) a.scales.now in
+    let d = a.c.degree in
+    let P = c.write_padded.new.out in
+    let written = (let a = c.args in let d = a.c.degree in c.write_padded.ensures ∙ ap₂ padded c.requires.vector_len.1 (part_at a.work.now 0 (d + 1 - 0) 0 (d + 1) refl (omega arith))) in
+    let G = coefficients pre.checked_system pre.closable P written in
+    let same : part 1 (d + 1 - 1) P ≡ drop 1 (part 0 (d + 1) a.work.now) = part_at P 1 (d + 1 - 1) 1 d refl (omega arith) ∙ G in
+    let fewer : length (drop 1 (part 0 (d + 1) a.work.now)) - 1 ≡ d - 1 =
+    omega (arith, length-drop 1 (part 0 (d + 1) a.work.now), length_part 0 (d + 1) a.work.now (omega (arith, pre.closable.found, pre.closable.room))) in (
+      c.apply_to_b-done.ensures.0 ∙ ap {B = Products} (λ k. products_with k A) (ap (λ g. length g - 1) same ∙ fewer),
+      c.apply_to_b-done.ensures.1 ∙ ap (λ g. apply a.field.p A g a.b.now) same,
+    )
+
+pub returns-then-d-eq0 : goal.returns-then-d-eq0
+returns-then-d-eq0 c =
+    let a = c.args in
+    let pre = c.requires in
+    let A = scaled a.field.p (matrix a.starts.now a.columns.now a.values.now) a.scales.now in
+    let d = a.c.degree in
+    let F = part 0 (d + 1) a.work.now in
+    let zero = c.if-d-eq0.true in
+    let said = verdict_zero a.field.p A a.b.now F d zero in
+    let none : take (length a.b.now - length a.b.now) (drop (length a.b.now) a.b.now) ≡ [] =
+    ap (λ k. take k (drop (length a.b.now) a.b.now)) (sub_self (length a.b.now)) in
+    record {
+      ends = (ap (λ (y : Kind × List ℕ). y.0) said, closing_none A a.c zero);
+      vector_is = c.write_padded-then-d-eq0.ensures ∙ ap₂ padded pre.vector_len.0 none ∙ sym (ap (λ (y : Kind × List ℕ). y.1) said);
+      polynomial_is = factor (goal.at.returns-then-d-eq0 c).After-write_padded;
+    }
+
+pub apply_to_b-done-requires : goal.apply_to_b-done-requires
+apply_to_b-done-requires c =
+    let a = c.args in
+    let pre = c.requires in
+    let A = scaled a.field.p (matrix a.starts.now a.columns.now a.values.now) a.scales.now in
+    let P = c.write_padded.new.out in
+    let written = factor (goal.at.apply_to_b-done-requires c).After-write_padded in
+    let d = a.c.degree in
+    let same : d ≡ d + 1 - 1 = omega arith in
+    subst (λ m. scaled_apply_refusal a.field.p (matrix a.starts.now a.columns.now a.values.now) a.scales.now (part 1 m P) a.b.now a.vector.now a.work.now ≡ 0) same
+    (taken_in pre.checked_system pre.closable P written c.if-d-eq0.false a.vector.now a.work.now pre.vector_len.0 refl)
+
+pub bounds-polynomial-front : goal.bounds-polynomial-front
+bounds-polynomial-front c =
+    let a = c.args in
+    omega (arith, ap length (factor (goal.at.bounds-polynomial-front c).After-write_padded), length_table (length a.starts.now - 1 + 1) (λ i. at (part 0 (a.c.degree + 1) a.work.now) i))
+
+pub closed-requires : goal.closed-requires
+closed-requires c =
+    let pre = c.requires in
+    let counts = pre.closable.few in
+    let done = products_few (valid_scaled _ pre.checked_system.valid.valid) (omega (arith, pre.closable.found, pre.checked_system.valid.valid.sized)) (image (goal.at.closed-requires c).After-apply_to_b-done).0 in (
+      record { applications_low = omega (arith, counts.applications_low, pre.checked_system.accepted.size_b, pre.checked_system.valid.valid.sized); multiplied_low = omega (arith, counts.multiplied_low) },
+      record { made_low = omega (arith, done.made_low); multiplied_low = omega (arith, done.multiplied_low) },
+    )
+
+pub returns-then-constant-eq0 : goal.returns-then-constant-eq0
+returns-then-constant-eq0 c =
+    let a = c.args in
+    let pre = c.requires in
+    let A = scaled a.field.p (matrix a.starts.now a.columns.now a.values.now) a.scales.now in
+    let F = part 0 (a.c.degree + 1) a.work.now in
+    let P = c.write_padded.new.out in
+    let written = factor (goal.at.returns-then-constant-eq0 c).After-write_padded in
+    let done = image (goal.at.returns-then-constant-eq0 c).After-apply_to_b-done in
+    let said = verdict_singular a.field.p A a.b.now F a.c.degree c.if-d-eq0.false (sym (constant pre.checked_system pre.closable P written) ∙ c.if-constant-eq0.true) in
+    record {
+      ends = (ap (λ (y : Kind × List ℕ). y.0) said, c.closed.ensures ∙ ap {B = Counts} (closing a.c) done.0);
+      vector_is = done.1 ∙ sym (ap (λ (y : Kind × List ℕ). y.1) said);
+      polynomial_is = written;
+    }
+
+pub divide-requires : goal.divide-requires
+divide-requires c =
+    let a = c.args in
+    let pre = c.requires in
+    let A = scaled a.field.p (matrix a.starts.now a.columns.now a.values.now) a.scales.now in
+    let F = part 0 (a.c.degree + 1) a.work.now in
+    let P = c.write_padded.new.out in
+    let written = factor (goal.at.divide-requires c).After-write_padded in (
+      divisor pre.checked_system pre.closable P written c.inverse_modulo.ensures c.if-constant-eq0.false,
+      pre.checked_system.valid.valid.small,
+      subst (λ v. Vector a.field.p (length v) v) (sym (image (goal.at.divide-requires c).After-apply_to_b-done).1) (whole (vector_apply a.field.p A (drop 1 F) a.b.now pre.checked_system.valid.valid.positive)),
+    )
+
+pub closed-requires-2 : goal.closed-requires-2
+closed-requires-2 c =
+    let pre = c.requires in
+    let counts = pre.closable.few in
+    let done = products_few (valid_scaled _ pre.checked_system.valid.valid) (omega (arith, pre.closable.found, pre.checked_system.valid.valid.sized)) (image (goal.at.closed-requires-2 c).After-apply_to_b-done).0 in (
+      record { applications_low = omega (arith, counts.applications_low, pre.checked_system.accepted.size_b, pre.checked_system.valid.valid.sized); multiplied_low = omega (arith, counts.multiplied_low) },
+      record { made_low = omega (arith, done.made_low); multiplied_low = omega (arith, done.multiplied_low) },
+    )
+
+pub returns : goal.returns
+returns c =
+    let a = c.args in
+    let pre = c.requires in
+    let A = scaled a.field.p (matrix a.starts.now a.columns.now a.values.now) a.scales.now in
+    let F = part 0 (a.c.degree + 1) a.work.now in
+    let P = c.write_padded.new.out in
+    let written = factor (goal.at.returns c).After-write_padded in
+    let done = image (goal.at.returns c).After-apply_to_b-done in
+    let first = constant pre.checked_system pre.closable P written in
+    let said = verdict_solved a.field.p A a.b.now F a.c.degree c.if-d-eq0.false (λ z. c.if-constant-eq0.false (first ∙ z)) in
+    let w = apply a.field.p A (drop 1 F) a.b.now in
+    record {
+      ends = (ap (λ (y : Kind × List ℕ). y.0) said, c.closed-2.ensures ∙ ap {B = Counts} (closing a.c) done.0);
+      vector_is =
+          c.divide.ensures
+          ∙ ap₂ (λ v i. table (length v) (λ k. times a.field.p (minus a.field.p 0 (at v k)) i)) done.1 (c.inverse_modulo.ensures ∙ ap (inverse a.field.p) first)
+          ∙ ap (λ m. table m (λ k. times a.field.p (minus a.field.p 0 (at w k)) (inverse a.field.p (at F 0)))) (vector_apply a.field.p A (drop 1 F) a.b.now pre.checked_system.valid.valid.positive).places
+          ∙ sym (ap (λ (y : Kind × List ℕ). y.1) said);
+      polynomial_is = written;
+    }
