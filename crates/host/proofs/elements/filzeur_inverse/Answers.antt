@@ -1,0 +1,5 @@
+use borrow.Author.Rules.{rules}
+use Rattle.host.proofs.elements.filzeur_inverse.Goals as goal
+
+pub returns : goal.returns
+returns c = c.numbers_of.ensures _ _ c.inverse.ensures
