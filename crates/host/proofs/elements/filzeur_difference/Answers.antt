@@ -1,4 +1,3 @@
-use borrow.Author.Rules.{rules}
 use Rattle.host.proofs.elements.filzeur_difference.Goals as goal
 
 pub returns : goal.returns

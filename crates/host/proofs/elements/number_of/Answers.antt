@@ -1,6 +1,5 @@
 use mathlib.Core.Path.{sym, subst}
 use Rattle.field.specs.Answer.{Makes}
-use borrow.Author.Rules.{rules}
 use Rattle.host.proofs.elements.number_of.Goals as goal
 
 pub returns-in-Field : goal.returns-in-Field

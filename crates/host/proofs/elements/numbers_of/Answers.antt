@@ -1,7 +1,6 @@
 use mathlib.Core.Path.{sym, ap₂, subst}
 use Rattle.field.specs.Answer.{Gives}
 use Rattle.host.specs.Answers.{element_of}
-use borrow.Author.Rules.{rules}
 use Rattle.host.proofs.elements.numbers_of.Goals as goal
 
 pub returns-in-Element : goal.returns-in-Element

@@ -3,7 +3,6 @@ use Rattle.meaning.specs.Matrix.{matrix, entry_count}
 use Rattle.meaning.specs.Refusal.{unless_refused}
 use Rattle.laws.specs.Products.{takes_by_entry}
 use Rattle.host.specs.declared.offered.Yes.{Yes}
-use borrow.Author.Rules.{rules}
 use Rattle.host.proofs.offered.filzeur_takes.Goals as goal
 
 pub returns : goal.returns

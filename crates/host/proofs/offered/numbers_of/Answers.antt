@@ -6,7 +6,6 @@ use Rattle.laws.specs.Refusal.{unless_refused_none, unless_refused_some}
 use Rattle.wiedemann.specs.Answers.{Decides}
 use Rattle.host.specs.declared.offered.Yes.{Yes}
 use Rattle.host.specs.Answers.{yes_of}
-use borrow.Author.Rules.{rules}
 use Rattle.host.proofs.offered.numbers_of.Goals as goal
 
 -- a truth value as a number

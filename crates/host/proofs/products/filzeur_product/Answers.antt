@@ -3,7 +3,6 @@ use Rattle.meaning.specs.Matrix.{matrix, entry_count}
 use Rattle.meaning.specs.Refusal.{unless_refused}
 use Rattle.laws.specs.Products.{product_by_entry}
 use Rattle.host.specs.declared.products.Written.{Written}
-use borrow.Author.Rules.{rules}
 use Rattle.host.proofs.products.filzeur_product.Goals as goal
 
 pub returns : goal.returns

@@ -4,7 +4,6 @@ use Rattle.laws.specs.Refusal.{unless_refused_none, unless_refused_some}
 use Rattle.checks.specs.declared.Products.{Products}
 use Rattle.checks.specs.Answers.{Writes}
 use Rattle.host.specs.Answers.{written_of}
-use borrow.Author.Rules.{rules}
 use Rattle.host.proofs.products.numbers_of.Goals as goal
 
 pub returns-in-Done : goal.returns-in-Done

@@ -7,7 +7,6 @@ use Rattle.recurrence.specs.Recurrence.{GivesDegree}
 use Rattle.host.specs.declared.recurrences.Degree.{Degree}
 use Rattle.host.proofs.Laid.{degree_answered}
 use Rattle.host.proofs.Small.{degree_small}
-use borrow.Author.Rules.{rules}
 use Rattle.host.proofs.recurrences.filzeur_recurrence.Goals as goal
 
 pub numbers_of-requires : goal.numbers_of-requires
@@ -26,5 +25,10 @@ returns c =
     let done = c.recurrence.ensures in
     let e = c.numbers_of.ensures number answer done.gives in
     let refusal : c.numbers_of.result.refusal ≡ number = ap (λ (d : Degree). d.refusal) e in
-    let degree : c.numbers_of.result.degree ≡ answer = ap (λ (d : Degree). d.degree) e in record { value = e; polynomial_after = done.after; work_unchanged = λ q. done.kept (λ z. q (refusal ∙ z)); shortest = λ q. subst (λ L. IsShortest at.p at.s.now L (take (L + 1) c.recurrence.new.polynomial)) (sym degree)
-              (done.shortest answer (degree_answered c.recurrence.result number answer done.gives (sym refusal ∙ q))) }
+    let degree : c.numbers_of.result.degree ≡ answer = ap (λ (d : Degree). d.degree) e in record {
+      value = e;
+      polynomial_after = done.after;
+      work_unchanged = λ q. done.kept (λ z. q (refusal ∙ z));
+      shortest = λ q. subst (λ L. IsShortest at.p at.s.now L (take (L + 1) c.recurrence.new.polynomial)) (sym degree)
+          (done.shortest answer (degree_answered c.recurrence.result number answer done.gives (sym refusal ∙ q)));
+    }

@@ -2,7 +2,6 @@ use mathlib.Core.Path.{sym, ap₂, subst}
 use native.Mathlib.Omega.{arith}
 use Rattle.recurrence.specs.Recurrence.{GivesDegree}
 use Rattle.host.specs.Answers.{degree_of}
-use borrow.Author.Rules.{rules}
 use Rattle.host.proofs.recurrences.numbers_of.Goals as goal
 
 pub overflow_cast-result : goal.overflow_cast-result

@@ -1,7 +1,6 @@
 use Rattle.meaning.specs.Matrix.{matrix}
 use Rattle.meaning.specs.Solver.{solve}
 use Rattle.meaning.specs.Calls.{solver_refusal}
-use borrow.Author.Rules.{rules}
 use Rattle.host.proofs.runs.filzeur_solve.Goals as goal
 
 pub returns : goal.returns

@@ -2,7 +2,6 @@ use mathlib.Core.Path.{subst, ◌∙◌}
 use Rattle.meaning.specs.Solver.{solved, singular}
 use Rattle.solver.specs.Verdict.{Says}
 use Rattle.host.proofs.Laid.{verdict_counted, verdict_refused}
-use borrow.Author.Rules.{rules}
 use Rattle.host.proofs.runs.numbers_of.Goals as goal
 
 pub returns-in-Solved : goal.returns-in-Solved

@@ -1,6 +1,5 @@
 use mathlib.Core.Path.{◌∙◌}
 use Rattle.host.proofs.Laid.{system_same}
-use borrow.Author.Rules.{rules}
 use Rattle.host.proofs.texts.filzeur_read.Goals as goal
 
 pub returns : goal.returns

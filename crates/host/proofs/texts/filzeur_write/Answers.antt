@@ -3,7 +3,6 @@ use Prim.Native.Nat.{◌≤◌}
 use Rattle.meaning.specs.Matrix.{matrix}
 use Rattle.host.specs.Answers.{length_of}
 use Rattle.host.proofs.Small.{length_small}
-use borrow.Author.Rules.{rules}
 use Rattle.host.proofs.texts.filzeur_write.Goals as goal
 
 pub numbers_of_length-requires : goal.numbers_of_length-requires

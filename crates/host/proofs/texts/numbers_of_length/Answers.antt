@@ -2,7 +2,6 @@ use mathlib.Core.Path.{sym, ap}
 use native.Mathlib.Omega.{arith}
 use Rattle.system_writer.specs.Answers.{refusal_of_written, length_of_written}
 use Rattle.host.specs.Answers.{length_of}
-use borrow.Author.Rules.{rules}
 use Rattle.host.proofs.texts.numbers_of_length.Goals as goal
 
 pub overflow_cast-result : goal.overflow_cast-result

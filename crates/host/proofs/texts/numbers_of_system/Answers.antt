@@ -1,7 +1,6 @@
 use mathlib.Core.Path.{sym, ap}
 use Rattle.system_reader.specs.Answers.{refusal_of_read, modulus_of_read, size_of_read, count_of_read}
 use Rattle.host.specs.Answers.{system_of}
-use borrow.Author.Rules.{rules}
 use Rattle.host.proofs.texts.numbers_of_system.Goals as goal
 
 pub returns-in-Read : goal.returns-in-Read

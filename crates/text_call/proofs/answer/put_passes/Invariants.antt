@@ -1,10 +1,6 @@
-use mathlib.Core.Path.{◌≡◌, ap}
-use Prim.Native.Nat.{◌+◌, ◌-◌, ◌*◌, ◌≤◌}
-use native.Mathlib.Omega.{arith}
-use Rattle.meaning.specs.List.{bytes}
-use Rattle.line_writer.specs.Written.{Wrote, wrote_line, wrote_as, wrote_rows_none, wrote_rows_more}
-use Rattle.text_call.specs.AnswerText.{bill_line, bill_lines}
-use borrow.Author.Rules.{rules}
+use Prim.Native.Nat.{◌-◌, ◌≤◌}
+use Rattle.line_writer.specs.Written.{Wrote}
+use Rattle.text_call.specs.AnswerText.{bill_lines}
 use Rattle.text_call.proofs.answer.put_passes.Given as goal
 
 -- `answer::put_passes` meets its contract. The invariant: the lines of the first i passes are written.

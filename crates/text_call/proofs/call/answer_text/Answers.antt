@@ -8,7 +8,6 @@ use Rattle.system_reader.specs.Answers.{refusal_of_read, modulus_of_read, size_o
 use Rattle.text_call.specs.Checks.{text_by_reader, by_reader_long, by_reader_refused, by_reader_short, by_reader_taken, text_refused, text_given, text_taken, solved_fits, called}
 use Rattle.text_call.specs.Loaded.{refused_number, read_loaded, read_rows, read_outcome}
 use Rattle.text_call.proofs.Parts.{some, answer_ends, answer_room}
-use borrow.Author.Rules.{rules}
 use Rattle.text_call.proofs.call.answer_text.Goals as goal
 
 -- `call::answer_text` meets its contract: the checks in order, and what the run gives where none turns the text down.

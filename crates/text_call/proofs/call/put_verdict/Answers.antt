@@ -3,7 +3,6 @@ use native.Mathlib.Omega.{arith}
 use Rattle.meaning.specs.List.{bytes}
 use Rattle.line_writer.specs.Written.{wrote_as, wrote_none}
 use Rattle.text_call.specs.Loaded.{degree_of, passes_of, verdict_solved, verdict_singular, verdict_refused}
-use borrow.Author.Rules.{rules}
 use Rattle.text_call.proofs.call.put_verdict.Goals as goal
 
 pub put_answer-requires : goal.put_answer-requires

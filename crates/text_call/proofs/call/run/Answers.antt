@@ -5,8 +5,7 @@ use lib.Seq.{take_at, length-take-le}
 use Rattle.meaning.specs.List.{at}
 use Rattle.laws.specs.List.{length_table}
 use Rattle.text_call.specs.Loaded.{outcome_of, loaded_small, loaded_solved}
-use Rattle.text_call.proofs.Parts.{none_fits, low, whole, within, within_next, work_room}
-use borrow.Author.Rules.{rules}
+use Rattle.text_call.proofs.Parts.{none_fits, whole, within, within_next, work_room}
 use Rattle.text_call.proofs.call.run.Goals as goal
 
 pub offset_bounds-starts-z : goal.offset_bounds-starts-z
