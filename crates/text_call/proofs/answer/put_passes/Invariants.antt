@@ -9,7 +9,7 @@ use Rattle.text_call.proofs.answer.put_passes.Given as goal
 
 -- `answer::put_passes` meets its contract. The invariant: the lines of the first i passes are written.
 abbrev pub invariant-loop-i : goal.invariant-loop-i
-invariant-loop-i l = (l.i ≤ l.bill) × Wrote out₀ l.initial.out (bill_lines l.at l.i) l.next l.out
+invariant-loop-i l = (l.i ≤ l.passes) × Wrote l.initial.out l.at (bill_lines l.bill l.i) l.next l.out
 
 abbrev pub decreases-loop-i : goal.decreases-loop-i
-decreases-loop-i l = l.bill - l.i
+decreases-loop-i l = l.passes - l.i

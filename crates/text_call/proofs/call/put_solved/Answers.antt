@@ -12,7 +12,7 @@ pub run-verdict-requires : goal.run-verdict-requires
 run-verdict-requires c =
     let both =
         c.requires
-    in record { loaded = both.0; vector_len = both.1 }
+    in record { loaded = both.loaded; vector_len = both.vector_len }
 
 pub offset_bounds-polynomial-z : goal.offset_bounds-polynomial-z
 offset_bounds-polynomial-z c = none_fits
