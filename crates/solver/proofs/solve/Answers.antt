@@ -1,5 +1,6 @@
 use Rattle.solver.specs.Run.{system_of_law, used_checked, closable}
-use Rattle.solver.specs.Verdict.{run_passed, closed, found_used, refused, taken}
+use Rattle.solver.specs.Verdict.{run_passed, closed, found_used}
+use Rattle.solver.proofs.Call.{refused, taken}
 use Rattle.laws.specs.Accepted.{call_accepted}
 use Rattle.meaning.specs.Matrix.{matrix}
 use Prim.Native.Nat.{◌-◌}
