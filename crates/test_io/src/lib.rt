@@ -15,7 +15,7 @@ ghost use Rattle.test_io.specs.Lists.{next_place, place_after, list_at};
 ghost use Rattle.test_io.specs.Hash.{hash_from};
 
 use std::io;
-use std::io::{Input, Read};
+use std::io::Read;
 
 // ---- room; that there is so much is a fact of the call, and no list has to be counted for it
 
@@ -46,11 +46,10 @@ pub fn lent_text() -> [u8; 800000]
 
 // ---- the input, and its numbers
 
-// Standard input at the front of the text, as far as there is room; how many bytes were read.
-pub fn read_text(rt: &impl Input, text: &mut [u8]) -> io::Result<usize>
+// The bytes of the input at the front of the text, as far as there is room; how many were read.
+pub fn read_text(input: &mut impl Read, text: &mut [u8]) -> io::Result<usize>
     ensures { IfOk result (λ count. count ≤ length text.new) }
 {
-    let mut input = rt.reader();
     let mut count = 0;
     while count < text.len() {
         let more = input.read(&mut text[count..])?;
@@ -96,13 +95,13 @@ pub fn numbers_of(text: &[u8], s: &mut [u32]) -> usize
     count
 }
 
-// The numbers of standard input. Where it can't be read, the slice stays as it is.
-pub fn read_numbers(rt: &impl Input, s: &mut [u32]) -> io::Result<usize>
+// The numbers of the input. Where it can't be read, the slice stays as it is.
+pub fn read_numbers(input: &mut impl Read, s: &mut [u32]) -> io::Result<usize>
     ensures ok { IfOk result (λ count. (count ≤ length s.old) × (length s.new ≡ length s.old) × (drop count s.new ≡ drop count s.old)) }
     ensures err { OnErr result (s.new ≡ s.old) }
 {
     let mut text = text_memory();
-    let n = read_text(rt, &mut text)?;
+    let n = read_text(input, &mut text)?;
     Ok(numbers_of(&text[..n], s))
 }
 
