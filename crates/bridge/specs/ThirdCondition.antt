@@ -53,7 +53,7 @@ use Rattle.residue.specs.Lists.{Reduced, reduced_get_or, reduced_table, coef, co
 use Rattle.krylov.specs.Operator.{Kills, times_at, power_below, apply_below, apply_degree_zero}
 use Rattle.krylov.specs.Operator as theory
 use Rattle.krylov.specs.Verdict.{Span, tail, solution, Settles, verdict_unique, solution_zero}
-use Rattle.krylov.specs.Verdict as theory-verdict
+use Rattle.krylov.specs.Verdict as theory_verdict
 use Rattle.bridge.specs.Lists.{reduced_table_mod, every_reduced, table_coef, mk_dot_mod, mk_times, mk_difference}
 use Rattle.bridge.specs.Scaled.{product_scaled, diagonal_same, scaled_same, scale_ones, diagonal_zero}
 use Rattle.bridge.specs.Recurrence.{monic_to, monic_from}
@@ -159,7 +159,7 @@ module _ (p : ℕ) (h : Prime p) (A : Matrix) (b : List ℕ) (size_b : length b 
   module _ {us : List (ℕ → C)} (c : Run) (I : Stands p h A b us c) (z : is_zero c.residual ≡ true) where
     pub end_verdict : Settles (residues p h) (size A) (operator p h A) (coef p h b) c.found (coef p h c.factor)
     end_verdict =
-        theory-verdict.verdict (residues p h) (size A) (operator p h A) (coef p h b) (operator_linear p h A) below_b I.reached (is_zero_null p h c.residual z)
+        theory_verdict.verdict (residues p h) (size A) (operator p h A) (coef p h b) (operator_linear p h A) below_b I.reached (is_zero_null p h c.residual z)
 
     pub end_monic : is_monic p c.found c.factor ≡ true
     end_monic =

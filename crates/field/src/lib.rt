@@ -101,6 +101,7 @@ impl Field {
 }
 
 // The checks of a sum, a difference or a product.
+#[tactic(auto, using(crate::proofs::Refusals::operation_modulus, crate::proofs::Refusals::operation_operand, crate::proofs::Refusals::operation_taken))]
 fn operation_refusal(p: u32, a: u32, b: u32) -> u32
     ensures { result ≡ operation_refusal p a b }
 {

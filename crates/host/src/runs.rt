@@ -52,7 +52,7 @@ fn numbers_of(verdict: solver::Verdict) -> Verdict
     }
 }
 
-// Two calls on one system answer the same kind and leave the same vector and polynomial, whatever their words and windows (specs/Runs.antt, same-numbers).
+// Two calls on one system answer the same kind and leave the same vector and polynomial, whatever their words and windows (specs/Runs.antt, same_numbers).
 #[unsafe(no_mangle)]
 pub extern "C" fn filzeur_solve(
     p: u32,

@@ -10,37 +10,38 @@ ghost use Rattle.std.specs.Prelude.{◌≤◌};
 
 use checks::Writing;
 use field::Field;
+use std::io;
 use test_io::{at, front, list, part, place, print, show};
 use wiedemann::offered::Offered;
 
 // The answer; the places of work that the call was free to change.
-fn print_writing(writing: Writing, work: usize) -> usize {
+fn print_writing(rt: &impl Print, writing: Writing, work: usize) -> io::Result<usize> {
     match writing {
         Writing::Done(products) => {
-            print(0);
-            print(products.made as u64);
-            print(products.multiplied);
-            work
+            print(rt, 0)?;
+            print(rt, products.made as u64)?;
+            print(rt, products.multiplied)?;
+            Ok(work)
         }
         Writing::Refused(number) => {
-            print(number as u64);
-            0
+            print(rt, number as u64)?;
+            Ok(0)
         }
     }
 }
 
-fn print_verdict(verdict: Offered) {
+fn print_verdict(rt: &impl Print, verdict: Offered) -> io::Result<()> {
     match verdict {
         Offered::Answer(yes, multiplied) => {
-            print(0);
-            print(if yes { 1 } else { 0 });
-            print(multiplied);
+            print(rt, 0)?;
+            print(rt, if yes { 1 } else { 0 })?;
+            print(rt, multiplied)
         }
-        Offered::Refused(number) => print(number as u64),
+        Offered::Refused(number) => print(rt, number as u64),
     }
 }
 
-fn calls(memory: &[u32], from: usize) {
+fn calls(rt: &impl Print, memory: &[u32], from: usize) -> io::Result<()> {
     let head = list(memory, from, 0);
     let room = place(head, 1);
     let scratch = place(head, 2);
@@ -51,13 +52,16 @@ fn calls(memory: &[u32], from: usize) {
     let v = list(memory, from, 5);
     let mut out = test_io::lent();
     let product = wiedemann::matrix::product(f, starts, columns, values, v, front(&mut out, room));
-    print_writing(product, 0);
-    show(&out, 0, room);
+    print_writing(rt, product, 0)?;
+    show(rt, &out, 0, room)?;
     let left = part(&out, 0, room);
-    print_verdict(wiedemann::offered::takes(f, starts, columns, values, v, left));
+    print_verdict(
+        rt,
+        wiedemann::offered::takes(f, starts, columns, values, v, left),
+    )?;
     let transposed = transposed::transposed(f, starts, columns, values, v, front(&mut out, room));
-    print_writing(transposed, 0);
-    show(&out, 0, room);
+    print_writing(rt, transposed, 0)?;
+    show(rt, &out, 0, room)?;
     let mut work = test_io::lent();
     let applied = wiedemann::matrix::apply(
         f,
@@ -69,13 +73,19 @@ fn calls(memory: &[u32], from: usize) {
         front(&mut out, room),
         front(&mut work, scratch),
     );
-    let free = print_writing(applied, scratch);
-    show(&out, 0, room);
-    show(&work, free, scratch);
+    let free = print_writing(rt, applied, scratch)?;
+    show(rt, &out, 0, room)?;
+    show(rt, &work, free, scratch)?;
     let b = list(memory, from, 6);
-    print_verdict(wiedemann::offered::takes(f, starts, columns, values, v, b));
-    print_verdict(wiedemann::offered::is_null(f, starts, columns, values, v));
-    test_io::end_line();
+    print_verdict(
+        rt,
+        wiedemann::offered::takes(f, starts, columns, values, v, b),
+    )?;
+    print_verdict(
+        rt,
+        wiedemann::offered::is_null(f, starts, columns, values, v),
+    )?;
+    test_io::end_line(rt)
 }
 
 // ---- large cases: 4,096 rows, two of them with 32 entries together, the first of the two with `even` of them; of two entries the second is the
@@ -170,35 +180,31 @@ fn next(head: &[u32], c: Place) -> Place {
 
 fn make(head: &[u32], lists: &mut [u32]) {
     let mut c = Place { list: 0, j: 0 };
-    let mut i = 0;
-    while i < lists.len() {
-        lists[i] = held(head, c);
+    for x in lists.iter_mut() {
+        *x = held(head, c);
         c = next(head, c);
-        i += 1;
     }
 }
 
-fn case(memory: &[u32], from: usize) {
+fn case(rt: &impl Print, memory: &[u32], from: usize) -> io::Result<()> {
     let head = list(memory, from, 0);
     if head.len() == 3 {
-        calls(memory, from);
-        return;
+        return calls(rt, memory, from);
     }
     let mut lists = test_io::memory();
     make(head, &mut lists);
-    calls(&lists, 0);
+    calls(rt, &lists, 0)
 }
 
-fn main() {
+fn main(rt: HostRuntime) -> io::Result<()> {
     let mut room = test_io::memory();
-    test_io::read_numbers(&mut room);
+    test_io::read_numbers(&mut rt.stdin(), &mut room)?;
     let memory: &[u32] = &room;
     let cases = at(memory, 0);
     let mut from = 1;
-    let mut k = 0;
-    while k < cases {
-        case(memory, from);
+    for _ in 0..cases {
+        case(&rt, memory, from)?;
         from = test_io::after(memory, from, 7);
-        k += 1;
     }
+    Ok(())
 }

@@ -19,7 +19,7 @@ use Rattle.meaning.specs.List.{at, padded}
 use Rattle.meaning.specs.Recurrence.{IsShortest, degree, generator}
 use Rattle.meaning.specs.Calls.{recurrence_refusal}
 use Rattle.laws.specs.List.{table_of}
-use Rattle.residue.specs.Prime.{is_modulus_Prime, isModulus-le}
+use Rattle.residue.specs.Prime.{is_modulus_Prime, is_modulus_le}
 use Rattle.laws.specs.Recurrence.{degree_within, length_generator}
 use Rattle.bridge.specs.Recurrence.{is_shortest}
 use Rattle.checks.specs.Recurrence.{Accepted}
@@ -58,7 +58,7 @@ recurred_refused p s polynomial work k e n =
     }
 
 pub modulus_range : {p : ℕ} {s polynomial work : List ℕ} → Accepted p s polynomial work → (0 < p) × (p ≤ 2147483647)
-modulus_range {p} input = (omega (arith, (is_modulus_Prime p input.modulus).two_le), isModulus-le p input.modulus)
+modulus_range {p} input = (omega (arith, (is_modulus_Prime p input.modulus).two_le), is_modulus_le p input.modulus)
 
 module _ {p : ℕ} {s polynomial work W₁ : List ℕ} (input : Accepted p s polynomial work)
     (placed : Written work 0 (length s) (λ i. at s (0 + i)) W₁) where
@@ -68,7 +68,7 @@ module _ {p : ℕ} {s polynomial work W₁ : List ℕ} (input : Accepted p s pol
   pub ready : {m : ℕ} → m ≡ p → Ready m (length s) W₁
   ready {m} e = subst (λ n. Ready n (length s) W₁) (sym e) (record {
     two = (is_modulus_Prime p input.modulus).two_le;
-    small = isModulus-le p input.modulus;
+    small = is_modulus_le p input.modulus;
     few = input.few;
     room = omega (arith, input.room, placed.same_length);
     elements = λ i l. subst (λ x. x < p) (sym (terms i l)) (input.below i l);

@@ -4,24 +4,25 @@
 #![tactic(auto)]
 
 use recurrence::Answer;
+use std::io;
 use test_io::{at, front, list, place, print, show};
 
 // The answer; the places that the call was free to change.
-fn print_answer(answer: Answer, work: usize) -> usize {
+fn print_answer(rt: &impl Print, answer: Answer, work: usize) -> io::Result<usize> {
     match answer {
         Answer::Degree(degree) => {
-            print(0);
-            print(degree as u64);
-            work
+            print(rt, 0)?;
+            print(rt, degree as u64)?;
+            Ok(work)
         }
         Answer::Refused(number) => {
-            print(number as u64);
-            0
+            print(rt, number as u64)?;
+            Ok(0)
         }
     }
 }
 
-fn call(memory: &[u32], from: usize) {
+fn call(rt: &impl Print, memory: &[u32], from: usize) -> io::Result<()> {
     let head = list(memory, from, 0);
     let places = place(head, 1);
     let room = place(head, 2);
@@ -33,22 +34,21 @@ fn call(memory: &[u32], from: usize) {
         front(&mut polynomial, places),
         front(&mut work, room),
     );
-    let free = print_answer(answer, room);
-    show(&polynomial, 0, places);
-    show(&work, free, room);
-    test_io::end_line();
+    let free = print_answer(rt, answer, room)?;
+    show(rt, &polynomial, 0, places)?;
+    show(rt, &work, free, room)?;
+    test_io::end_line(rt)
 }
 
-fn main() {
+fn main(rt: HostRuntime) -> io::Result<()> {
     let mut room = test_io::memory();
-    test_io::read_numbers(&mut room);
+    test_io::read_numbers(&mut rt.stdin(), &mut room)?;
     let memory: &[u32] = &room;
     let calls = at(memory, 0);
     let mut from = 1;
-    let mut k = 0;
-    while k < calls {
-        call(memory, from);
+    for _ in 0..calls {
+        call(&rt, memory, from)?;
         from = test_io::after(memory, from, 2);
-        k += 1;
     }
+    Ok(())
 }

@@ -5,7 +5,7 @@
 --     divisor_of_divisor      a divisor of a divisor of p divides p
 --     WheelFree p d    no 6k ± 1 from 5 to d − 1 divides p; wheel_start, wheel_turn and wheel_end for a loop that tries d and d + 2
 --     is_prime_Prime    the meaning's is_prime, a test of all p − 2 candidates, says Prime p; refuted, is_prime_small, is_prime_divided: it says no to what is not Prime, 0, 1 and any p with a divisor
---     is_modulus_prime, is_modulus_Prime, isModulus-le, is_modulus_small, is_modulus_large      the meaning's is_modulus: prime, and at most 2³¹ − 1
+--     is_modulus_prime, is_modulus_Prime, is_modulus_le, is_modulus_small, is_modulus_large      the meaning's is_modulus: prime, and at most 2³¹ − 1
 use Rattle.std.specs.Prelude.{◌≡◌, refl, ◌≢◌, ◌⊎◌, ◌↔◌, Bool, true, false, not, ◌&&◌, ℕ, zero, suc, ◌+◌, ◌*◌, ◌-◌, ◌/◌, ◌%◌, ◌≤◌, ◌<◌, leb, eqb}
 use Rattle.std.proofs.Common.{sym, ap, ◌∙◌, inl, inr, div-add-mod', add-zero, mul-le-mul, mul-le-mul_left, lt_of_mul-lt-mul_right, zero-mul, one-mul, le_of_lt, arith, leb-true, le-leb, ne_eqb}
 use Rattle.std.proofs.Math.Nat.{mul-mod_right, mod-eq-zero_of_dvd, dvd_trans, dvd_of_mod-eq-zero}
@@ -14,7 +14,7 @@ use Rattle.meaning.specs.List.{all}
 use Rattle.meaning.specs.Field.{is_prime, is_modulus}
 use Rattle.laws.specs.Bool.{and_left, and_right, and_both, and_false_right}
 use Rattle.laws.specs.List.{all_at, all_of}
-pub use Rattle.laws.specs.Accepted.{modulus_high as isModulus-le}
+pub use Rattle.laws.specs.Accepted.{modulus_high as is_modulus_le}
 use Rattle.std.proofs.lemmas.Bool.{eqb-false, lt-leb, not-true}
 
 pub record Prime (p : ℕ) : Type 0 where

@@ -19,9 +19,8 @@ use Rattle.std.proofs.Math.Decide.{dec_lt}
 use Rattle.std.proofs.Math.ListN.{length, get_or-eq_default}
 use Rattle.meaning.specs.List.{at, every, is_zero, padded}
 use Rattle.meaning.specs.Matrix.{Matrix, size, multiplied, scale_at, scaled}
-use Rattle.meaning.specs.Refusal.{check, first, elements, scaled_checks, words_taken, window_taken}
+use Rattle.meaning.specs.Refusal.{check, first, scaled_checks, words_taken, window_taken}
 use Rattle.meaning.specs.Calls.{system_checks, run_checks}
-use Rattle.meaning.specs.Recurrence.{degree}
 use Rattle.meaning.specs.Solver.{Pass, Run, projections, begin, spent, billed, pass, run}
 use Rattle.laws.specs.Accepted.{scaled_plain}
 use Rattle.laws.specs.Bool.{and_both, test_cases, never}

@@ -11,9 +11,9 @@
 --     Answered           .. and X times its vector; closed_vector: that has n elements
 --     constant, divisor, coefficients, taken_in      F[0], its inverse and G in the polynomial slice; G(A)b is not refused
 --     closed             so it is the meaning's `solve`; found_used: also where only the scales that count were used
---     refused, taken     a call that was refused, and one that was not
-use Rattle.std.specs.Prelude.{◌≡◌, refl, ◌≢◌, true, false, not, cond, ◌&&◌, ℕ, ◌+◌, ◌-◌, ◌*◌, ◌≤◌, ◌<◌, eqb, leb, length, take, drop}
-use Rattle.std.proofs.Common.{sym, ap, ap₂, ◌∙◌, subst, arith, length-drop, take_all, get_or-drop, eq-eqb, ne_eqb, le-leb}
+-- A call that was refused, and one that was not, by these: proofs/Call.antt, `refused` and `taken`.
+use Rattle.std.specs.Prelude.{◌≡◌, refl, ◌≢◌, not, ◌&&◌, ℕ, ◌+◌, ◌-◌, ◌*◌, ◌≤◌, ◌<◌, eqb, leb, length, take, drop}
+use Rattle.std.proofs.Common.{sym, ap, ap₂, ◌∙◌, subst, arith, length-drop, take_all, get_or-drop, eq-eqb, le-leb}
 use mathlib.Core.List.{List, [], ◌∷◌}
 use Rattle.meaning.specs.List.{at, padded}
 use Rattle.meaning.specs.Field.{inverse}
@@ -36,7 +36,7 @@ use Rattle.checks.specs.Matrix.{scaled_apply_refusal}
 use Rattle.wiedemann.specs.Pass.{held}
 use Rattle.laws.specs.Bool.{and_both}
 use Rattle.laws.specs.List.{length_table, get_or_table}
-use Rattle.laws.specs.Products.{multiplied_none, multiplied_add, multiplied_most, every_run_by_entry}
+use Rattle.laws.specs.Products.{multiplied_none, multiplied_add, multiplied_most}
 use Rattle.laws.specs.Refusal.{first_nil, first_pass, first_append_none, first_append_zero, numbered_scaled, numbered_run, unless_refused_none}
 use Rattle.solver.specs.Run.{CheckedSystem, used, used_same, Closable, Finished, closable}
 
@@ -308,42 +308,3 @@ found_used {p} {A} {X} {b} {words} {window} {B} {r} k e q =
   where
     same : solve p A (part 0 k X) b words window ≡ solve p A X b words window
     same = solve_same p A (part 0 k X) X (used_same X k e) b words window
-
--- ---- the call
-
-module _ (p : ℕ) (A : Matrix) (X b words : List ℕ) (window : ℕ) (v f B w : List ℕ) where
-  pub refused : (k : ℕ) → solver_refusal p A X b words window v f w ≡ k → k ≢ 0 → Solves p A X b words window v f B w (Refused k) v f B w
-  refused k e q =
-      record {
-        says = (e, q);
-        leaves =
-            record {
-              vector_after_law = sym (ap (λ t. cond t (solve p A X b words window).vector v) off);
-              polynomial_after_law = sym (ap (λ t. cond t (padded (size A + 1) (solve p A X b words window).polynomial) f) off);
-              bill_after_law = sym (ap (λ t. cond t (billed B (solve p A X b words window).passes) B) off);
-              kept = λ z. refl;
-              condition = condition p A X b words window v f w;
-              by_entry = λ z. absurd (q (sym e ∙ z));
-            };
-      }
-    where
-      off : eqb (solver_refusal p A X b words window v f w) 0 ≡ false
-      off = ne_eqb (solver_refusal p A X b words window v f w) 0 (λ z. q (sym e ∙ z))
-
-  pub taken : {r : Verdict} {v' f' B' w' : List ℕ} → solver_refusal p A X b words window v f w ≡ 0 → Found p A X b words window B r v' f' B' → Solves p A X b words window v f B w r v' f' B' w'
-  taken {r} e q =
-      record {
-        says = subst (λ k. Says r k (solve p A X b words window)) (sym e) q.says;
-        leaves =
-            record {
-              vector_after_law = q.vector_is ∙ sym (ap (λ t. cond t (solve p A X b words window).vector v) on);
-              polynomial_after_law = q.polynomial_is ∙ sym (ap (λ t. cond t (padded (size A + 1) (solve p A X b words window).polynomial) f) on);
-              bill_after_law = q.bill_is ∙ sym (ap (λ t. cond t (billed B (solve p A X b words window).passes) B) on);
-              kept = λ z. absurd (z e);
-              condition = condition p A X b words window v f w;
-              by_entry = λ z. record { product = every_run_by_entry p A X b words window (run_passed p A X b words window v f w z); fits = q.fits };
-            };
-      }
-    where
-      on : eqb (solver_refusal p A X b words window v f w) 0 ≡ true
-      on = eq-eqb (solver_refusal p A X b words window v f w) 0 e

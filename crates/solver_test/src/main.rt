@@ -5,36 +5,37 @@
 #![tactic(auto)]
 
 use solver::{Counts, Verdict};
+use std::io;
 use test_io::{at, front, list, place, print, show};
 
-fn print_counts(solved: u64, counts: Counts) {
-    print(0);
-    print(solved);
-    print(counts.degree as u64);
-    print(counts.passes);
-    print(counts.applications);
-    print(counts.multiplied);
+fn print_counts(rt: &impl Print, solved: u64, counts: Counts) -> io::Result<()> {
+    print(rt, 0)?;
+    print(rt, solved)?;
+    print(rt, counts.degree as u64)?;
+    print(rt, counts.passes)?;
+    print(rt, counts.applications)?;
+    print(rt, counts.multiplied)
 }
 
 // The answer; the places that the call was free to change.
-fn print_verdict(verdict: Verdict, work: usize) -> usize {
+fn print_verdict(rt: &impl Print, verdict: Verdict, work: usize) -> io::Result<usize> {
     match verdict {
         Verdict::Solved(counts) => {
-            print_counts(1, counts);
-            work
+            print_counts(rt, 1, counts)?;
+            Ok(work)
         }
         Verdict::Singular(counts) => {
-            print_counts(0, counts);
-            work
+            print_counts(rt, 0, counts)?;
+            Ok(work)
         }
         Verdict::Refused(number) => {
-            print(number as u64);
-            0
+            print(rt, number as u64)?;
+            Ok(0)
         }
     }
 }
 
-fn call(memory: &[u32], from: usize) {
+fn call(rt: &impl Print, memory: &[u32], from: usize) -> io::Result<()> {
     let head = list(memory, from, 0);
     let places = place(head, 2);
     let coefficients = place(head, 3);
@@ -58,24 +59,23 @@ fn call(memory: &[u32], from: usize) {
         front(&mut bill, billed),
         front(&mut work, room),
     );
-    let free = print_verdict(verdict, room);
-    show(&vector, 0, places);
-    show(&polynomial, 0, coefficients);
-    show(&bill, 0, billed);
-    show(&work, free, room);
-    test_io::end_line();
+    let free = print_verdict(rt, verdict, room)?;
+    show(rt, &vector, 0, places)?;
+    show(rt, &polynomial, 0, coefficients)?;
+    show(rt, &bill, 0, billed)?;
+    show(rt, &work, free, room)?;
+    test_io::end_line(rt)
 }
 
-fn main() {
+fn main(rt: HostRuntime) -> io::Result<()> {
     let mut room = test_io::memory();
-    test_io::read_numbers(&mut room);
+    test_io::read_numbers(&mut rt.stdin(), &mut room)?;
     let memory: &[u32] = &room;
     let calls = at(memory, 0);
     let mut from = 1;
-    let mut k = 0;
-    while k < calls {
-        call(memory, from);
+    for _ in 0..calls {
+        call(&rt, memory, from)?;
         from = test_io::after(memory, from, 7);
-        k += 1;
     }
+    Ok(())
 }

@@ -10,7 +10,7 @@
 
 ghost use Rattle.std.specs.Prelude.{◌≤◌};
 
-use libc::STDIN_FILENO;
+use std::io;
 use system_reader::Reading;
 use system_writer::Written;
 use test_io::{at, front, list, part, place, print, show, text_part};
@@ -19,6 +19,7 @@ use test_io::{at, front, list, part, place, print, show, text_part};
 
 // Into the text slice of place i.
 fn write(
+    rt: &impl Print,
     p: u32,
     starts: &[u32],
     columns: &[u32],
@@ -27,21 +28,22 @@ fn write(
     b: &[u32],
     sizes: &[u32],
     i: usize,
-) {
+) -> io::Result<()> {
     let size = place(sizes, i);
     let mut out = test_io::lent_text();
     let text = test_io::text_front(&mut out, size);
     match system_writer::write(p, starts, columns, values, scales, b, text) {
         Written::Length(length) => {
-            print(0);
-            print(length as u64);
+            print(rt, 0)?;
+            print(rt, length as u64)?;
         }
-        Written::Refused(number) => print(number as u64),
+        Written::Refused(number) => print(rt, number as u64)?,
     }
-    test_io::show_text(&out, 0, size);
+    test_io::show_text(rt, &out, 0, size)
 }
 
 fn write_all(
+    rt: &impl Print,
     p: u32,
     starts: &[u32],
     columns: &[u32],
@@ -49,18 +51,18 @@ fn write_all(
     scales: &[u32],
     b: &[u32],
     sizes: &[u32],
-) {
-    let mut i = 0;
-    while i < sizes.len() {
-        write(p, starts, columns, values, scales, b, sizes, i);
-        i += 1;
+) -> io::Result<()> {
+    for i in 0..sizes.len() {
+        write(rt, p, starts, columns, values, scales, b, sizes, i)?;
     }
+    Ok(())
 }
 
 // ---- the reader
 
 // What was read, and what is written of it.
 fn print_reading(
+    rt: &impl Print,
     reading: Reading,
     starts: &[u32],
     columns: &[u32],
@@ -68,16 +70,17 @@ fn print_reading(
     scales: &[u32],
     b: &[u32],
     sizes: &[u32],
-) {
+) -> io::Result<()> {
     match reading {
         Reading::Read(p, n, entries) => {
-            print(0);
-            print(p as u64);
-            print(n as u64);
-            print(entries as u64);
+            print(rt, 0)?;
+            print(rt, p as u64)?;
+            print(rt, n as u64)?;
+            print(rt, entries as u64)?;
             let size = n as usize;
             let count = entries as usize;
             write_all(
+                rt,
                 p,
                 part(starts, 0, size + 1),
                 part(columns, 0, count),
@@ -85,13 +88,13 @@ fn print_reading(
                 part(scales, 0, size),
                 part(b, 0, size),
                 sizes,
-            );
+            )
         }
-        Reading::Refused(number) => print(number as u64),
+        Reading::Refused(number) => print(rt, number as u64),
     }
 }
 
-fn read(text: &[u8], head: &[u32], sizes: &[u32]) {
+fn read(rt: &impl Print, text: &[u8], head: &[u32], sizes: &[u32]) -> io::Result<()> {
     let l0 = place(head, 3);
     let l1 = place(head, 4);
     let l2 = place(head, 5);
@@ -110,12 +113,12 @@ fn read(text: &[u8], head: &[u32], sizes: &[u32]) {
         front(&mut scales, l3),
         front(&mut b, l4),
     );
-    print_reading(reading, &starts, &columns, &values, &scales, &b, sizes);
-    show(&starts, 0, l0);
-    show(&columns, 0, l1);
-    show(&values, 0, l2);
-    show(&scales, 0, l3);
-    show(&b, 0, l4);
+    print_reading(rt, reading, &starts, &columns, &values, &scales, &b, sizes)?;
+    show(rt, &starts, 0, l0)?;
+    show(rt, &columns, 0, l1)?;
+    show(rt, &values, 0, l2)?;
+    show(rt, &scales, 0, l3)?;
+    show(rt, &b, 0, l4)
 }
 
 // ---- long texts
@@ -141,26 +144,25 @@ fn long_byte(text: &[u8], head: &[u32], i: usize) -> u8 {
 }
 
 fn lengthen(text: &[u8], head: &[u32], long: &mut [u8]) {
-    let mut i = 0;
-    while i < long.len() {
-        long[i] = long_byte(text, head, i);
-        i += 1;
+    for (i, byte) in long.iter_mut().enumerate() {
+        *byte = long_byte(text, head, i);
     }
 }
 
-fn read_long(text: &[u8], head: &[u32], sizes: &[u32]) {
+fn read_long(rt: &impl Print, text: &[u8], head: &[u32], sizes: &[u32]) -> io::Result<()> {
     let mut long = test_io::text_memory();
     lengthen(text, head, &mut long);
-    read(text_part(&long, 0, place(head, 10) + 4), head, sizes);
+    read(rt, text_part(&long, 0, place(head, 10) + 4), head, sizes)
 }
 
-fn call(memory: &[u8], lists: &[u32], from: usize) {
+fn call(rt: &impl Print, memory: &[u8], lists: &[u32], from: usize) -> io::Result<()> {
     let head = list(lists, from, 0);
     let sizes = list(lists, from, 6);
     let text = text_part(memory, place(head, 1), place(head, 2));
     match at(head, 0) {
-        0 => read(text, head, sizes),
+        0 => read(rt, text, head, sizes)?,
         1 => write_all(
+            rt,
             at(head, 1),
             list(lists, from, 1),
             list(lists, from, 2),
@@ -168,25 +170,24 @@ fn call(memory: &[u8], lists: &[u32], from: usize) {
             list(lists, from, 4),
             list(lists, from, 5),
             sizes,
-        ),
-        _ => read_long(text, head, sizes),
+        )?,
+        _ => read_long(rt, text, head, sizes)?,
     }
-    test_io::end_line();
+    test_io::end_line(rt)
 }
 
-fn main() {
+fn main(rt: HostRuntime) -> io::Result<()> {
     let mut text = test_io::text_memory();
     let mut room = test_io::memory();
-    io::read_full(STDIN_FILENO, &mut text);
+    test_io::read_text(&mut rt.stdin(), &mut text)?;
     let memory: &[u8] = &text;
     test_io::numbers_of(memory, &mut room);
     let lists: &[u32] = &room;
     let calls = at(lists, 0);
     let mut from = 1;
-    let mut k = 0;
-    while k < calls {
-        call(memory, lists, from);
+    for _ in 0..calls {
+        call(&rt, memory, lists, from)?;
         from = test_io::after(lists, from, 7);
-        k += 1;
     }
+    Ok(())
 }

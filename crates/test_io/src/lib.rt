@@ -10,11 +10,12 @@
 //     print, show, ..          numbers, and what a slice holds
 #![tactic(auto)]
 
-ghost use Rattle.std.specs.Prelude.{◌≡◌, ◌+◌, ◌*◌, ◌-◌, ◌%◌, ◌≤◌, ◌<◌, min, length, get_or, take, drop};
+ghost use Rattle.std.specs.Prelude.{◌≡◌, ◌+◌, ◌*◌, ◌-◌, ◌%◌, ◌≤◌, ◌<◌, IfOk, OnErr, min, length, get_or, take, drop};
 ghost use Rattle.test_io.specs.Lists.{next_place, place_after, list_at};
 ghost use Rattle.test_io.specs.Hash.{hash_from};
 
-use libc::{STDIN_FILENO, STDOUT_FILENO};
+use std::io;
+use std::io::Read;
 
 // ---- room; that there is so much is a fact of the call, and no list has to be counted for it
 
@@ -43,7 +44,22 @@ pub fn lent_text() -> [u8; 800000]
     [255; 800000]
 }
 
-// ---- numbers of the input
+// ---- the input, and its numbers
+
+// The bytes of the input at the front of the text, as far as there is room; how many were read.
+pub fn read_text(input: &mut impl Read, text: &mut [u8]) -> io::Result<usize>
+    ensures { IfOk result (λ count. count ≤ length text.new) }
+{
+    let mut count = 0;
+    while count < text.len() {
+        let more = input.read(&mut text[count..])?;
+        if more == 0 {
+            break;
+        }
+        count += more;
+    }
+    Ok(count)
+}
 
 fn with_digit(value: u32, byte: u8) -> u32
     ensures { result ≡ (value * 10 + byte % 16) % 4294967296 }
@@ -79,13 +95,14 @@ pub fn numbers_of(text: &[u8], s: &mut [u32]) -> usize
     count
 }
 
-// The numbers of standard input.
-pub fn read_numbers(s: &mut [u32]) -> usize
-    ensures { (result ≤ length s.old) × (length s.new ≡ length s.old) × (drop result s.new ≡ drop result s.old) }
+// The numbers of the input. Where it can't be read, the slice stays as it is.
+pub fn read_numbers(input: &mut impl Read, s: &mut [u32]) -> io::Result<usize>
+    ensures ok { IfOk result (λ count. (count ≤ length s.old) × (length s.new ≡ length s.old) × (drop count s.new ≡ drop count s.old)) }
+    ensures err { OnErr result (s.new ≡ s.old) }
 {
     let mut text = text_memory();
-    let n = io::read_full(STDIN_FILENO, &mut text);
-    numbers_of(&text[..n], s)
+    let n = read_text(input, &mut text)?;
+    Ok(numbers_of(&text[..n], s))
 }
 
 // ---- parts of a slice, as far as there are so many places
@@ -217,30 +234,27 @@ fn text_hash(s: &[u8]) -> u32
     h
 }
 
-pub fn print(x: u64)
+pub fn print(rt: &impl Print, x: u64) -> io::Result<()>
     ensures { Unit {0} }
 {
-    io::write_all(STDOUT_FILENO, b" ");
-    io::print_decimal(STDOUT_FILENO, x);
+    print!(rt; " {x}")
 }
 
-pub fn end_line()
+pub fn end_line(rt: &impl Print) -> io::Result<()>
     ensures { Unit {0} }
 {
-    io::write_all(STDOUT_FILENO, b"\n");
+    println!(rt)
 }
 
-fn print_hash(h: u32) {
-    io::write_all(STDOUT_FILENO, b" #");
-    io::print_decimal(STDOUT_FILENO, h as u64);
+fn print_hash(rt: &impl Print, h: u32) -> io::Result<()> {
+    print!(rt; " #{h}")
 }
 
-fn print_all(s: &[u32]) {
-    let mut i = 0;
-    while i < s.len() {
-        print(at(s, i) as u64);
-        i += 1;
+fn print_all(rt: &impl Print, s: &[u32]) -> io::Result<()> {
+    for x in s {
+        print(rt, u64::from(*x))?;
     }
+    Ok(())
 }
 
 // Two places behind those of a slice that was lent, which has at most 2^32 - 1.
@@ -251,20 +265,20 @@ fn behind(size: usize) -> usize
 }
 
 // Of a slice whose first `size` places were lent, the elements from `from` on, and of two places behind them; of more than 12 their hash.
-pub fn show(s: &[u32], from: usize, size: usize)
+pub fn show(rt: &impl Print, s: &[u32], from: usize, size: usize) -> io::Result<()>
     ensures { Unit {0} }
 {
     let shown = part(s, from, behind(size));
     if shown.len() > 12 {
-        print_hash(hash(shown));
+        print_hash(rt, hash(shown))
     } else {
-        print_all(shown);
+        print_all(rt, shown)
     }
 }
 
 // The hash of the same in bytes.
-pub fn show_text(s: &[u8], from: usize, size: usize)
+pub fn show_text(rt: &impl Print, s: &[u8], from: usize, size: usize) -> io::Result<()>
     ensures { Unit {0} }
 {
-    print_hash(text_hash(text_part(s, from, behind(size))));
+    print_hash(rt, text_hash(text_part(s, from, behind(size))))
 }

@@ -1,2 +1,3 @@
 -- Laws that the functions' proofs share.
 pub mod Parts
+pub mod Program

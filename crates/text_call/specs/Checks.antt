@@ -11,7 +11,7 @@
 --     LengthOrNumber text room r      r is above 18 exactly where nothing is refused, and otherwise the refusal's number, 1 to 11
 --     answer_or_number         so is the number that the call returns
 --     Called, called           what the call ensures: its number and its slice say the rest
-use Rattle.std.specs.Prelude.{◌≡◌, refl, ◌⊎◌, Bool, true, false, not, ◌&&◌, ℕ, zero, suc, ◌+◌, ◌-◌, ◌≤◌, ◌<◌, eqb, length, take, drop}
+use Rattle.std.specs.Prelude.{◌≡◌, refl, ◌⊎◌, Bool, true, false, not, ◌&&◌, ℕ, zero, suc, ◌+◌, ◌≤◌, ◌<◌, eqb, length, take, drop}
 use Rattle.std.proofs.Common.{sym, ap₂, subst, ◌∙◌, inl, inr, arith, take_at, leb-true, le-leb, eq-eqb, ne_eqb}
 use Rattle.std.proofs.Math.Path.{ap}
 use Rattle.std.proofs.Math.Bool.{cond}

@@ -3,27 +3,22 @@
 --     enough               such a buffer, no more read than it holds, and room for the longest output
 --     Printed              with enough, a slice gets at its front what the program prints for what was read, which is what it prints for the whole
 --                          input; otherwise the slice stays
---     long_refused         a text of more than 26,624 bytes is refused by 1, whatever it holds
---     cut_input            what is printed for an input that was cut at the buffer's end is what is printed for the input
 --     Shown                a slice gets the program's output at its front
 --     shown_as             what is shown, by another name
 --     shown_answer, shown_refused      the two cases
---     printed_short_buffer, printed_over_read, printed_short_out, printed_shown      the three that are not enough, and enough
-use Rattle.std.specs.Prelude.{◌≡◌, Bool, true, false, not, ◌&&◌, List, [], ◌∷◌, ◌++◌, ℕ, ◌+◌, ◌≤◌, ◌<◌, min, take, drop, ◌⊎◌}
+-- An input that was cut, and each case of `Printed`: proofs/Program.antt, `long_refused`, `cut_input`, `printed_short_buffer`,
+-- `printed_over_read`, `printed_short_out`, `printed_shown`.
+use Rattle.std.specs.Prelude.{◌≡◌, Bool, not, ◌&&◌, List, [], ◌∷◌, ◌++◌, ℕ, ◌+◌, ◌≤◌, ◌<◌, min, take, drop}
 use Rattle.std.proofs.Math.Path.{refl, sym, ap}
-use Rattle.std.proofs.Common.{subst, ◌∙◌, arith, length-append, length-drop, length-take-le, leb-true, leb-false, le-leb, eq-eqb, ne_eqb, inl, inr}
+use Rattle.std.proofs.Common.{subst, ◌∙◌, arith, length-append, length-drop, le-leb, eq-eqb, ne_eqb, inl, inr}
 use Rattle.std.proofs.Math.Bool.{cond}
 use Rattle.std.proofs.Math.Dec.{leb}
 use Rattle.std.proofs.Math.ListN.{length}
-use Rattle.std.proofs.Math.Seq.{take-length}
-use Rattle.std.proofs.lemmas.Bool.{lt-leb}
 use Rattle.meaning.specs.List.{bytes, overwrite}
 use Rattle.meaning.specs.Text.{decimal, document}
 use Rattle.meaning.specs.Answer.{refused_text}
 use Rattle.meaning.specs.Refusal.{check, first}
 use Rattle.meaning.specs.Calls.{text_checks, text_refusal, solved_text, text_answer, text_after, program_output}
-use Rattle.laws.specs.Bool.{and_both, and_false_left, and_false_right, test_cases}
-use Rattle.laws.specs.Refusal.{first_cons}
 use Rattle.text_laws.specs.Line.{length_line_last, length_line_more}
 use Rattle.text_laws.specs.Numeral.{decimal_short}
 use Rattle.line_writer.specs.Written.{Wrote, wrote_start}
@@ -42,34 +37,6 @@ pub record Printed (buffer : List ℕ) (read : ℕ) (out : List ℕ) (r : ℕ) (
   pub within : r ≤ length after
   pub whole : (input : List ℕ) → input_room ≤ length buffer → read ≡ min (length input) (length buffer) → take read buffer ≡ take read input
       → program_output (take read buffer) ≡ program_output input
-
--- ---- an input that was cut
-
-pub long_refused : (text : List ℕ) (room : ℕ) → 26624 < length text → text_refusal text room ≡ 1
-unfolding text_refusal
-long_refused text room h =
-    let d = document text in
-    let later = text_checks text ++ (check 11 (not (leb d.size 128 && leb d.count 1024 && leb 7168 room)) ∷ []) in
-    first_cons (check 1 (not (leb (length text) 26624))) later ∙ ap (λ t. cond (not t) 1 (first later)) (lt-leb (length text) 26624 h)
-
-long_output : (text : List ℕ) → 26624 < length text → program_output text ≡ refused_text 1
-unfolding program_output
-long_output text h =
-    let one = long_refused text 7168 h in
-    ap (λ k. cond k (solved_text text) (refused_text (text_refusal text 7168))) (ne_eqb (text_refusal text 7168) 0 (λ z. omega (arith, one, z)))
-    ∙ ap refused_text one
-
-pub cut_input : (buffer : List ℕ) (read : ℕ) (input : List ℕ) → input_room ≤ length buffer → read ≡ min (length input) (length buffer)
-    → take read buffer ≡ take read input → program_output (take read buffer) ≡ program_output input
-cut_input buffer read input room e same = go (test_cases (leb (length input) (length buffer)))
-  where
-    go : (leb (length input) (length buffer) ≡ true) ⊎ (leb (length input) (length buffer) ≡ false) → program_output (take read buffer) ≡ program_output input
-    go (inl h) =
-        let all : read ≡ length input = omega (arith, leb-true (length input) (length buffer) h) in
-        ap program_output (same ∙ ap (λ k. take k input) all ∙ take-length input)
-    go (inr h) =
-        let cut : length buffer < length input = leb-false (length input) (length buffer) h in
-        long_output (take read buffer) (omega (arith, length-take-le read buffer (omega arith))) ∙ sym (long_output input (omega arith))
 
 -- ---- the output of a text
 
@@ -136,39 +103,3 @@ module _ (text out : List ℕ) (h : 7168 ≤ length out) where
             let put = wrote_start p (omega (arith, short)) in
             shown_as (shown (refused_text number) says (omega (arith, short))) (sym put.0)
             (ap (overwrite (refused_text number)) as_before ∙ sym (put.1 (omega (arith, short, ap length as_before))))
-
--- ---- the output of what was read
-
-module _ (buffer : List ℕ) (read : ℕ) (out : List ℕ) where
-  none : enough buffer read out ≡ false → Printed buffer read out 0 out
-  none short =
-      record {
-        length_of_law = sym (ap (λ t. cond t (length (program_output (take read buffer))) 0) short);
-        slice = sym (ap (λ t. cond t (overwrite (program_output (take read buffer)) out) out) short);
-        within = omega arith;
-        whole = cut_input buffer read;
-      }
-
-  pub printed_short_buffer : length buffer < input_room → Printed buffer read out 0 out
-  printed_short_buffer h =
-      none (and_false_left (leb 7168 (length out)) (and_false_left (leb read (length buffer)) (lt-leb input_room (length buffer) h)))
-
-  pub printed_over_read : length buffer < read → Printed buffer read out 0 out
-  printed_over_read h =
-      none (and_false_left (leb 7168 (length out)) (and_false_right (leb input_room (length buffer)) (lt-leb read (length buffer) h)))
-
-  pub printed_short_out : length out < 7168 → Printed buffer read out 0 out
-  printed_short_out h =
-      none (and_false_right (leb input_room (length buffer) && leb read (length buffer)) (lt-leb 7168 (length out) h))
-
-  pub printed_shown : input_room ≤ length buffer → read ≤ length buffer → 7168 ≤ length out
-      → (r : ℕ) (after : List ℕ) → Shown (take read buffer) out r after → Printed buffer read out r after
-  printed_shown hb hr ho r after s =
-      let yes : enough buffer read out ≡ true =
-      and_both (and_both (le-leb input_room (length buffer) hb) (le-leb read (length buffer) hr)) (le-leb 7168 (length out) ho) in
-      record {
-        length_of_law = s.length_of_law ∙ sym (ap (λ t. cond t (length (program_output (take read buffer))) 0) yes);
-        slice = s.slice ∙ sym (ap (λ t. cond t (overwrite (program_output (take read buffer)) out) out) yes);
-        within = s.within;
-        whole = cut_input buffer read;
-      }

@@ -4,50 +4,56 @@
 // and the answer. vectors.py makes calls and output.
 #![tactic(auto)]
 
-use libc::{STDIN_FILENO, STDOUT_FILENO};
+use std::io;
 use test_io::{at, place, print, text_part};
 
 // Makes the call; the answer's length.
-fn answered(which: u32, text: &[u8], buffer: &[u8], answer: &mut [u8]) -> usize {
+fn answered(
+    rt: &impl Print,
+    which: u32,
+    text: &[u8],
+    buffer: &[u8],
+    answer: &mut [u8],
+) -> io::Result<usize> {
     if which == 1 {
         let length = text_call::output(buffer, text.len(), answer);
-        print(length as u64);
-        return length;
+        print(rt, length as u64)?;
+        return Ok(length);
     }
     let number = text_call::filzeur_text(text, answer);
-    print(number);
-    if number > 18 { number as usize } else { 0 }
+    print(rt, number)?;
+    Ok(if number > 18 { number as usize } else { 0 })
 }
 
-fn call(memory: &[u8], head: &[u32]) {
+fn call(rt: &impl Print, memory: &[u8], head: &[u32]) -> io::Result<()> {
     let text = text_part(memory, place(head, 2), place(head, 3));
     let buffer = text_part(memory, place(head, 2), place(head, 4));
     let room = place(head, 1);
     let mut answer = test_io::lent_text();
     let length = answered(
+        rt,
         at(head, 0),
         text,
         buffer,
         test_io::text_front(&mut answer, room),
-    );
-    test_io::show_text(&answer, length, room);
-    test_io::end_line();
-    io::write_all(STDOUT_FILENO, text_part(&answer, 0, length));
+    )?;
+    test_io::show_text(rt, &answer, length, room)?;
+    test_io::end_line(rt)?;
+    rt.write_all(text_part(&answer, 0, length))
 }
 
-fn main() {
+fn main(rt: HostRuntime) -> io::Result<()> {
     let mut text = test_io::text_memory();
     let mut room = test_io::memory();
-    io::read_full(STDIN_FILENO, &mut text);
+    test_io::read_text(&mut rt.stdin(), &mut text)?;
     let memory: &[u8] = &text;
     test_io::numbers_of(memory, &mut room);
     let lists: &[u32] = &room;
     let calls = at(lists, 0);
     let mut from = 1;
-    let mut k = 0;
-    while k < calls {
-        call(memory, test_io::list(lists, from, 0));
+    for _ in 0..calls {
+        call(&rt, memory, test_io::list(lists, from, 0))?;
         from = test_io::after(lists, from, 1);
-        k += 1;
     }
+    Ok(())
 }

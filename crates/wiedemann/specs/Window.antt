@@ -44,7 +44,7 @@ use Rattle.laws.specs.Part as region
 use Rattle.laws.specs.Lent.{lent, length_lent, take_lent, part_lent, inner_lent, part_at, part_of_part, same_take, same_drop, take_ext, drop_ext, same_after, written_take, written_drop}
 use Rattle.laws.specs.Recurrence.{discrepancy_of, discrepancy_first, steps_first, steps_regular, monic_leading}
 use Rattle.laws.specs.Solver.{length_terms}
-use Rattle.residue.specs.Prime.{Prime, is_modulus_Prime, isModulus-le}
+use Rattle.residue.specs.Prime.{Prime, is_modulus_Prime, is_modulus_le}
 use Rattle.bridge.specs.Recurrence.{is_shortest}
 use Rattle.checks.specs.Valid.{Valid, Vector}
 use Rattle.checks.specs.Products.{products_with, added, products_next}
@@ -244,7 +244,7 @@ module _ (p n left : ℕ) (W : List ℕ) (m : ℕ) (e : m ≡ 8 * left + 8) (fit
   pub begun_never : is_modulus p ≡ true → left ≤ 4096 → first (room_checks p (2 * left) (part (3 * n) m W)) ≡ 0
   begun_never modulus low =
       room_to
-      (record { two = (is_modulus_Prime p modulus).two_le; small = isModulus-le p modulus; few = omega (arith, low); room = omega (arith, size_T, e) })
+      (record { two = (is_modulus_Prime p modulus).two_le; small = is_modulus_le p modulus; few = omega (arith, low); room = omega (arith, size_T, e) })
 
   -- the steps' own state is never refused
   pub step_never : {r : ℕ} {c : Register} → is_modulus p ≡ true → left ≤ 4096 → ToStep p n left r W c → step_refusal p (2 * left) r (part (3 * n) m W) c ≡ 0
@@ -253,7 +253,7 @@ module _ (p n left : ℕ) (W : List ℕ) (m : ℕ) (e : m ≡ 8 * left + 8) (fit
       (record {
         ready = record {
           two = (is_modulus_Prime p modulus).two_le;
-          small = isModulus-le p modulus;
+          small = is_modulus_le p modulus;
           few = omega (arith, ask.high, low);
           room = omega (arith, ask.high, size_T, e);
           elements = λ i l. subst (λ x. x < p) (at_part (3 * n) r W i l ∙ sym (at_part (3 * n) m W i (omega (arith, l, ask.high, e)))) (ask.terms.below i l);

@@ -1,5 +1,7 @@
 use mathlib.Core.Path.{sym, ap, ◌∙◌}
 use mathlib.Core.Bool.{not}
+use lib.ListN.{length}
+use native.Mathlib.Omega.{arith}
 use borrow.Author.Tests.{lt-leb, le-leb}
 use Rattle.meaning.specs.Calls.{recurrence_refusal}
 use Rattle.laws.specs.Bool.{not_as}
@@ -19,19 +21,19 @@ pub returns-then-not-are_elements : goal.returns-then-not-are_elements
 unfolding recurrence_refusal
 returns-then-not-are_elements c =
     sym
-    (first_past 3 _ _ (not_as c.is_modulus.ensures c.if-not-is_modulus.false) ∙ first_past 8 _ _ (ap not (le-leb _ _ c.if-s-gt8192.false))
+    (first_past 3 _ _ (not_as c.is_modulus.ensures c.if-not-is_modulus.false) ∙ first_past 8 _ _ (ap not (le-leb (length c.args.s.now) 8192 (omega arith)))
     ∙ first_stops 9 _ _ (not_as c.are_elements.ensures c.if-not-are_elements.true))
 
 pub returns-then-not-polynomial-s : goal.returns-then-not-polynomial-s
 unfolding recurrence_refusal
 returns-then-not-polynomial-s c =
     sym
-    (first_past 3 _ _ (not_as c.is_modulus.ensures c.if-not-is_modulus.false) ∙ first_past 8 _ _ (ap not (le-leb _ _ c.if-s-gt8192.false))
+    (first_past 3 _ _ (not_as c.is_modulus.ensures c.if-not-is_modulus.false) ∙ first_past 8 _ _ (ap not (le-leb (length c.args.s.now) 8192 (omega arith)))
     ∙ first_past 9 _ _ (not_as c.are_elements.ensures c.if-not-are_elements.false) ∙ first_stops 11 _ _ (ap not c.if-not-polynomial-s.true))
 
 pub returns : goal.returns
 unfolding recurrence_refusal
 returns c =
     sym
-    (first_past 3 _ _ (not_as c.is_modulus.ensures c.if-not-is_modulus.false) ∙ first_past 8 _ _ (ap not (le-leb _ _ c.if-s-gt8192.false))
+    (first_past 3 _ _ (not_as c.is_modulus.ensures c.if-not-is_modulus.false) ∙ first_past 8 _ _ (ap not (le-leb (length c.args.s.now) 8192 (omega arith)))
     ∙ first_past 9 _ _ (not_as c.are_elements.ensures c.if-not-are_elements.false) ∙ first_past 11 _ _ (ap not c.if-not-polynomial-s.false) ∙ first_nil)

@@ -3,13 +3,13 @@ use Prim.Native.Nat.{◌+◌}
 use native.Mathlib.Nat.{mod-eq_of_lt}
 use native.Mathlib.Omega.{arith}
 use Rattle.meaning.specs.Field.{plus}
-use Rattle.residue.specs.Prime.{isModulus-le}
+use Rattle.residue.specs.Prime.{is_modulus_le}
 use Rattle.residue.specs.Numbers.{mod_eq_sub}
 use Rattle.field.proofs.sum_below.Goals as goal
 
 -- `field::sum_below` meets its contract: a sum below 2p is reduced by one difference.
 pub overflow_add-s : goal.overflow_add-s
-overflow_add-s c = omega (arith, isModulus-le c.args.p c.requires.modulus)
+overflow_add-s c = omega (arith, is_modulus_le c.args.p c.requires.modulus)
 
 pub returns-then-s-p : goal.returns-then-s-p
 unfolding plus

@@ -1,4 +1,4 @@
-use mathlib.Core.Path.{◌≡◌, sym, ap, ◌∙◌, subst}
+use mathlib.Core.Path.{sym, ap, ◌∙◌, subst}
 use Prim.Native.Nat.{◌-◌}
 use lib.ListN.{length}
 use Rattle.meaning.specs.Matrix.{diagonal}
@@ -6,7 +6,6 @@ use Rattle.modular.specs.Modulus.{modular_of}
 use Rattle.checks.specs.Valid.{Scales, Vector}
 use Rattle.wiedemann.specs.Horner.{scaled_vector}
 use Rattle.solver.specs.Verdict.{closed_vector}
-use borrow.Author.Rules.{rules}
 use Rattle.solver.proofs.answer.Goals as goal
 
 pub returns : goal.returns

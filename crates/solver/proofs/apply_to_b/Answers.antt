@@ -6,7 +6,6 @@ use Rattle.checks.specs.Matrix.{scaled_apply_refusal}
 use Rattle.laws.specs.Refusal.{unless_refused_none}
 use Rattle.checks.specs.Answers.{Writes}
 use Rattle.checks.specs.Products.{products_scaled}
-use borrow.Author.Rules.{rules}
 use Rattle.solver.proofs.apply_to_b.Goals as goal
 
 pub returns-in-Done : goal.returns-in-Done

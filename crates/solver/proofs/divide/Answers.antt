@@ -1,13 +1,12 @@
-use Rattle.laws.specs.Written.{Written, written_none, written_all}
+use Rattle.laws.specs.Written.{written_none, written_all}
 use Rattle.laws.specs.Part.{written_next, written_table}
 use Rattle.modular.specs.Modulus.{Multiplies, modular_of, multiplies_of}
 use Rattle.meaning.specs.Field.{minus, times}
 use Rattle.meaning.specs.List.{at}
 use lib.ListN.{length}
 use native.Mathlib.Omega.{arith}
-use Prim.Native.Nat.{◌-◌, ◌≤◌, ◌<◌}
+use Prim.Native.Nat.{◌<◌}
 use mathlib.Core.Path.{◌≡◌, refl, sym, ap, ◌∙◌, subst}
-use borrow.Author.Rules.{rules}
 use Rattle.solver.proofs.divide.Goals.{After-of-k}
 use Rattle.solver.proofs.divide.Goals as goal
 

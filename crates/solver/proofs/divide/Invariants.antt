@@ -1,13 +1,8 @@
-use Rattle.laws.specs.Written.{Written, written_none, written_all}
-use Rattle.laws.specs.Part.{written_next, written_table}
-use Rattle.modular.specs.Modulus.{Multiplies, modular_of, multiplies_of}
+use Rattle.laws.specs.Written.{Written}
 use Rattle.meaning.specs.Field.{minus, times}
 use Rattle.meaning.specs.List.{at}
 use lib.ListN.{length}
-use native.Mathlib.Omega.{arith}
-use Prim.Native.Nat.{◌-◌, ◌≤◌, ◌<◌}
-use mathlib.Core.Path.{◌≡◌, refl, sym, ap, ◌∙◌, subst}
-use borrow.Author.Rules.{rules}
+use Prim.Native.Nat.{◌-◌, ◌≤◌}
 use Rattle.solver.proofs.divide.Given as goal
 
 abbrev pub invariant-loop-i : goal.invariant-loop-i

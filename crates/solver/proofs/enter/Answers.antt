@@ -2,7 +2,6 @@ use Rattle.solver.specs.Bill.{entered_lent, entered_full}
 use Rattle.wiedemann.specs.Pass.{pass_of}
 use native.Mathlib.Omega.{arith}
 use Prim.Native.Nat.{◌+◌, ◌-◌, ◌*◌}
-use borrow.Author.Rules.{rules}
 use Rattle.solver.proofs.enter.Goals as goal
 
 pub returns-then-to-bill : goal.returns-then-to-bill

@@ -19,7 +19,6 @@ use native.Mathlib.Omega.{arith}
 use Prim.Native.Nat.{ℕ, ◌+◌, ◌-◌}
 use mathlib.Core.List.{List, []}
 use mathlib.Core.Path.{◌≡◌, refl, sym, ap, ap₂, ◌∙◌, subst}
-use borrow.Author.Rules.{rules}
 use Rattle.solver.proofs.finish.Goals.{After-apply_to_b-done, After-write_padded}
 use Rattle.solver.proofs.finish.Goals as goal
 

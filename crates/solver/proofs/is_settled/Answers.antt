@@ -4,7 +4,6 @@ use Rattle.meaning.specs.List.{is_zero}
 use native.Mathlib.Omega.{arith}
 use Prim.Native.Nat.{◌+◌, ◌-◌}
 use mathlib.Core.Path.{ap, ◌∙◌}
-use borrow.Author.Rules.{rules}
 use Rattle.solver.proofs.is_settled.Goals as goal
 
 pub returns : goal.returns

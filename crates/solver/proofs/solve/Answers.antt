@@ -1,12 +1,12 @@
 use Rattle.solver.specs.Run.{system_of_law, used_checked, closable}
-use Rattle.solver.specs.Verdict.{run_passed, closed, found_used, refused, taken}
+use Rattle.solver.specs.Verdict.{run_passed, closed, found_used}
+use Rattle.solver.proofs.Call.{refused, taken}
 use Rattle.laws.specs.Accepted.{call_accepted}
 use Rattle.meaning.specs.Matrix.{matrix}
 use Prim.Native.Nat.{◌-◌}
 use native.Mathlib.Nat.{sub-zero}
 use native.Mathlib.Omega.{arith}
 use mathlib.Core.Path.{sym, ◌∙◌}
-use borrow.Author.Rules.{rules}
 use Rattle.solver.proofs.solve.Goals as goal
 
 pub returns-then-number-ne0 : goal.returns-then-number-ne0

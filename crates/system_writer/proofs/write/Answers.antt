@@ -66,7 +66,7 @@ returns c =
     let A = matrix a.starts.now a.columns.now a.values.now in
     let z = zero_by c.system_refusal-number.ensures c.if-number-ne0.false in
     let measured = (writer_text a.p A a.scales.now a.right.now a.out.now z w.result _ w.new.out w.ensures).0 in
-    let l : length (write a.p A a.scales.now a.right.now) ≤ length a.out.now = omega (arith, c.if-out-length.false, measured) in
+    let l : length (write a.p A a.scales.now a.right.now) ≤ length a.out.now = omega (arith, measured) in
     let q = writer_fits a.p A a.scales.now a.right.now a.out.now z l in
     record {
       result_value = sym q;

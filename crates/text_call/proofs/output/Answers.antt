@@ -1,8 +1,8 @@
 use mathlib.Core.Path.{ap, subst}
 use lib.ListN.{take}
-use Rattle.text_call.specs.Program.{Shown, printed_short_buffer, printed_over_read, printed_short_out, printed_shown}
+use Rattle.text_call.specs.Program.{Shown}
+use Rattle.text_call.proofs.Program.{printed_short_buffer, printed_over_read, printed_short_out, printed_shown}
 use Rattle.text_call.proofs.Parts.{whole}
-use borrow.Author.Rules.{rules}
 use Rattle.text_call.proofs.output.Goals as goal
 
 -- `text_call::output` meets its contract.

@@ -3,7 +3,6 @@ use native.Mathlib.Omega.{arith}
 use Rattle.line_writer.specs.Written.{wrote_line, wrote_as}
 use Rattle.text_call.specs.AnswerText.{refused_line}
 use Rattle.text_call.specs.Program.{shown_answer, shown_refused}
-use borrow.Author.Rules.{rules}
 use Rattle.text_call.proofs.show.Goals as goal
 
 pub shape_of-out-then-number-gt18 : goal.shape_of-out-then-number-gt18

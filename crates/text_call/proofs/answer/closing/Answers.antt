@@ -1,5 +1,4 @@
 use native.Mathlib.Omega.{arith}
-use borrow.Author.Rules.{rules}
 use Rattle.text_call.proofs.answer.closing.Goals as goal
 
 pub returns-then-degree-eq0 : goal.returns-then-degree-eq0

@@ -1,9 +1,6 @@
-use mathlib.Core.Path.{◌≡◌, ap}
 use Prim.Native.Nat.{◌-◌, ◌≤◌}
-use native.Mathlib.Omega.{arith}
-use Rattle.line_writer.specs.Written.{Wrote, wrote_line, wrote_as, wrote_rows_none, wrote_rows_more}
-use Rattle.text_call.specs.AnswerText.{element_line, element_lines}
-use borrow.Author.Rules.{rules}
+use Rattle.line_writer.specs.Written.{Wrote}
+use Rattle.text_call.specs.AnswerText.{element_lines}
 use Rattle.text_call.proofs.answer.put_elements.Given as goal
 
 -- `answer::put_elements` meets its contract. The invariant: the lines of the first i elements are written.

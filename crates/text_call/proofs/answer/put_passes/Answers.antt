@@ -1,10 +1,9 @@
 use mathlib.Core.Path.{◌≡◌, ap}
-use Prim.Native.Nat.{◌+◌, ◌-◌, ◌*◌, ◌≤◌}
+use Prim.Native.Nat.{◌+◌, ◌*◌}
 use native.Mathlib.Omega.{arith}
 use Rattle.meaning.specs.List.{bytes}
-use Rattle.line_writer.specs.Written.{Wrote, wrote_line, wrote_as, wrote_rows_none, wrote_rows_more}
+use Rattle.line_writer.specs.Written.{wrote_line, wrote_as, wrote_rows_none, wrote_rows_more}
 use Rattle.text_call.specs.AnswerText.{bill_line, bill_lines}
-use borrow.Author.Rules.{rules}
 use Rattle.text_call.proofs.answer.put_passes.Goals as goal
 
 pub loop-i-init : goal.loop-i-init

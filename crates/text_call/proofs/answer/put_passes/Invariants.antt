@@ -1,15 +1,11 @@
-use mathlib.Core.Path.{◌≡◌, ap}
-use Prim.Native.Nat.{◌+◌, ◌-◌, ◌*◌, ◌≤◌}
-use native.Mathlib.Omega.{arith}
-use Rattle.meaning.specs.List.{bytes}
-use Rattle.line_writer.specs.Written.{Wrote, wrote_line, wrote_as, wrote_rows_none, wrote_rows_more}
-use Rattle.text_call.specs.AnswerText.{bill_line, bill_lines}
-use borrow.Author.Rules.{rules}
+use Prim.Native.Nat.{◌-◌, ◌≤◌}
+use Rattle.line_writer.specs.Written.{Wrote}
+use Rattle.text_call.specs.AnswerText.{bill_lines}
 use Rattle.text_call.proofs.answer.put_passes.Given as goal
 
 -- `answer::put_passes` meets its contract. The invariant: the lines of the first i passes are written.
 abbrev pub invariant-loop-i : goal.invariant-loop-i
-invariant-loop-i l = (l.i ≤ l.bill) × Wrote out₀ l.initial.out (bill_lines l.at l.i) l.next l.out
+invariant-loop-i l = (l.i ≤ l.passes) × Wrote l.initial.out l.at (bill_lines l.bill l.i) l.next l.out
 
 abbrev pub decreases-loop-i : goal.decreases-loop-i
-decreases-loop-i l = l.bill - l.i
+decreases-loop-i l = l.passes - l.i

@@ -8,7 +8,6 @@ use Rattle.system_reader.specs.Answers.{refusal_of_read, modulus_of_read, size_o
 use Rattle.text_call.specs.Checks.{text_by_reader, by_reader_long, by_reader_refused, by_reader_short, by_reader_taken, text_refused, text_given, text_taken, solved_fits, called}
 use Rattle.text_call.specs.Loaded.{refused_number, read_loaded, read_rows, read_outcome}
 use Rattle.text_call.proofs.Parts.{some, answer_ends, answer_room}
-use borrow.Author.Rules.{rules}
 use Rattle.text_call.proofs.call.answer_text.Goals as goal
 
 -- `call::answer_text` meets its contract: the checks in order, and what the run gives where none turns the text down.
@@ -25,21 +24,6 @@ returns-then-text-gt26624 c =
     let by_reader_law = text_by_reader text starts columns values scales right lengths.0 lengths.1 lengths.2 lengths.3 lengths.4 (length answer) in
     let refusal = reader_refusal text starts columns values scales right in
     called text answer 1 answer (text_refused text answer 1 (by_reader_law ∙ by_reader_long text (length answer) refusal (omega (arith, c.if-text-gt26624.true))) (some 0))
-
-pub shape_of-starts-then-answer-lt7168 : goal.shape_of-starts-then-answer-lt7168
-shape_of-starts-then-answer-lt7168 c = c.read-reading.auto.1.0
-
-pub shape_of-columns-then-answer-lt7168 : goal.shape_of-columns-then-answer-lt7168
-shape_of-columns-then-answer-lt7168 c = c.read-reading.auto.1.1.0
-
-pub shape_of-values-then-answer-lt7168 : goal.shape_of-values-then-answer-lt7168
-shape_of-values-then-answer-lt7168 c = c.read-reading.auto.values
-
-pub shape_of-scales-then-answer-lt7168 : goal.shape_of-scales-then-answer-lt7168
-shape_of-scales-then-answer-lt7168 c = c.read-reading.auto.scales
-
-pub shape_of-right-then-answer-lt7168 : goal.shape_of-right-then-answer-lt7168
-shape_of-right-then-answer-lt7168 c = c.read-reading.auto.right
 
 pub returns-then-answer-lt7168 : goal.returns-then-answer-lt7168
 returns-then-answer-lt7168 c =
@@ -65,13 +49,13 @@ put_solved-requires c =
     let values = c.args.values.now in
     let scales = c.args.scales.now in
     let right = c.args.right.now in
-    let arm = c.reading-in-Read-1.given.1 in
+    let arm = c.in-Read.is in
     let said = c.read-reading.ensures in
-    let p = c.reading-in-Read-1.given.0.0 in
+    let p = c.in-Read.p in
     let n = c.wide.result in
     let count = c.wide-in-Read.result in
-    let starts' = c.read-reading.new.1.0 in
-    let columns' = c.read-reading.new.1.1.0 in
+    let starts' = c.read-reading.new.starts in
+    let columns' = c.read-reading.new.columns in
     let values' = c.read-reading.new.values in
     let scales' = c.read-reading.new.scales in
     let right' = c.read-reading.new.right in
@@ -87,21 +71,6 @@ put_solved-requires c =
     let rows = read_rows text starts columns values scales right taken p n count starts' columns' values' scales' right' ep en ek es ec ev ex er c.requires.starts_len.4 in
     record { loaded = read_loaded text starts columns values scales right taken p n count starts' columns' values' scales' right' ep en ek es ec ev ex er rows; vector_len = c.requires.vector_len }
 
-pub shape_of-starts-in-Refused : goal.shape_of-starts-in-Refused
-shape_of-starts-in-Refused c = c.read-reading.auto.1.0
-
-pub shape_of-columns-in-Refused : goal.shape_of-columns-in-Refused
-shape_of-columns-in-Refused c = c.read-reading.auto.1.1.0
-
-pub shape_of-values-in-Refused : goal.shape_of-values-in-Refused
-shape_of-values-in-Refused c = c.read-reading.auto.values
-
-pub shape_of-scales-in-Refused : goal.shape_of-scales-in-Refused
-shape_of-scales-in-Refused c = c.read-reading.auto.scales
-
-pub shape_of-right-in-Refused : goal.shape_of-right-in-Refused
-shape_of-right-in-Refused c = c.read-reading.auto.right
-
 pub returns-in-Refused : goal.returns-in-Refused
 returns-in-Refused c =
     let text = c.args.text.now in
@@ -114,43 +83,13 @@ returns-in-Refused c =
     let lengths = c.requires.starts_len in
     let by_reader_law = text_by_reader text starts columns values scales right lengths.0 lengths.1 lengths.2 lengths.3 lengths.4 (length answer) in
     let refusal = reader_refusal text starts columns values scales right in
-    let number = c.reading-1.given.0.0 in
+    let number = c.in-Refused.number in
     let arm = c.in-Refused.is in
     let e : number ≡ refusal = sym (ap refusal_of_read arm) ∙ c.read-reading.ensures.result_value in
     let from_one = refused_number text starts columns values scales right number e (sym (ap modulus_of_read arm) ∙ c.read-reading.ensures.result_value_2) in
     let fits : length text ≤ 26624 = omega (arith, c.if-text-gt26624.false) in
     called text answer number answer
     (text_refused text answer number (by_reader_law ∙ by_reader_refused text (length answer) refusal fits (subst (λ k. 1 ≤ k) e from_one) ∙ sym e) from_one)
-
-pub shape_of-answer : goal.shape_of-answer
-shape_of-answer c = c.put_solved.auto.answer
-
-pub shape_of-starts-else-answer-lt7168 : goal.shape_of-starts-else-answer-lt7168
-shape_of-starts-else-answer-lt7168 c = c.read-reading.auto.1.0
-
-pub shape_of-columns-else-answer-lt7168 : goal.shape_of-columns-else-answer-lt7168
-shape_of-columns-else-answer-lt7168 c = c.read-reading.auto.1.1.0
-
-pub shape_of-values-else-answer-lt7168 : goal.shape_of-values-else-answer-lt7168
-shape_of-values-else-answer-lt7168 c = c.read-reading.auto.values
-
-pub shape_of-scales-else-answer-lt7168 : goal.shape_of-scales-else-answer-lt7168
-shape_of-scales-else-answer-lt7168 c = c.read-reading.auto.scales
-
-pub shape_of-right-else-answer-lt7168 : goal.shape_of-right-else-answer-lt7168
-shape_of-right-else-answer-lt7168 c = c.read-reading.auto.right
-
-pub shape_of-vector : goal.shape_of-vector
-shape_of-vector c = c.put_solved.auto.vector
-
-pub shape_of-polynomial : goal.shape_of-polynomial
-shape_of-polynomial c = c.put_solved.auto.polynomial
-
-pub shape_of-bill : goal.shape_of-bill
-shape_of-bill c = c.put_solved.auto.bill
-
-pub shape_of-work : goal.shape_of-work
-shape_of-work c = c.put_solved.auto.work
 
 pub returns-else-answer-lt7168 : goal.returns-else-answer-lt7168
 returns-else-answer-lt7168 c =
@@ -161,13 +100,13 @@ returns-else-answer-lt7168 c =
     let values = c.args.values.now in
     let scales = c.args.scales.now in
     let right = c.args.right.now in
-    let arm = c.reading-in-Read-1.given.1 in
+    let arm = c.in-Read.is in
     let said = c.read-reading.ensures in
-    let p = c.reading-in-Read-1.given.0.0 in
+    let p = c.in-Read.p in
     let n = c.wide.result in
     let count = c.wide-in-Read.result in
-    let starts' = c.read-reading.new.1.0 in
-    let columns' = c.read-reading.new.1.1.0 in
+    let starts' = c.read-reading.new.starts in
+    let columns' = c.read-reading.new.columns in
     let values' = c.read-reading.new.values in
     let scales' = c.read-reading.new.scales in
     let right' = c.read-reading.new.right in

@@ -4,15 +4,14 @@ use lib.ListN.{take}
 use Rattle.line_writer.specs.Written.{wrote_as}
 use Rattle.text_call.specs.Loaded.{ran_answer}
 use Rattle.text_call.proofs.Parts.{none_fits, low, whole}
-use borrow.Author.Rules.{rules}
 use Rattle.text_call.proofs.call.put_solved.Goals as goal
 
 -- `call::put_solved` meets its contract: the run, and then its text.
 pub run-verdict-requires : goal.run-verdict-requires
 run-verdict-requires c =
     let both =
-        c.requires
-    in record { loaded = both.0; vector_len = both.1 }
+    c.requires
+    in record { loaded = both.loaded; vector_len = both.vector_len }
 
 pub offset_bounds-polynomial-z : goal.offset_bounds-polynomial-z
 offset_bounds-polynomial-z c = none_fits

@@ -5,87 +5,29 @@ use lib.Seq.{take_at, length-take-le}
 use Rattle.meaning.specs.List.{at}
 use Rattle.laws.specs.List.{length_table}
 use Rattle.text_call.specs.Loaded.{outcome_of, loaded_small, loaded_solved}
-use Rattle.text_call.proofs.Parts.{none_fits, low, whole, within, within_next, work_room}
-use borrow.Author.Rules.{rules}
+use Rattle.text_call.proofs.Parts.{none_fits, whole, within, within_next, work_room}
 use Rattle.text_call.proofs.call.run.Goals as goal
 
 pub offset_bounds-starts-z : goal.offset_bounds-starts-z
 offset_bounds-starts-z c = none_fits
 
-pub slice_bounds-solve-count : goal.slice_bounds-solve-count
-slice_bounds-solve-count c = low _
-
-pub slice_bounds-solve-start : goal.slice_bounds-solve-start
-slice_bounds-solve-start c = low _
-
-pub slice_bounds-solve-end : goal.slice_bounds-solve-end
-slice_bounds-solve-end c = c.requires.loaded.in_starts
-
 pub offset_bounds-columns-z : goal.offset_bounds-columns-z
 offset_bounds-columns-z c = none_fits
-
-pub slice_bounds-solve-count-2 : goal.slice_bounds-solve-count-2
-slice_bounds-solve-count-2 c = low _
-
-pub slice_bounds-solve-start-2 : goal.slice_bounds-solve-start-2
-slice_bounds-solve-start-2 c = low _
-
-pub slice_bounds-solve-end-2 : goal.slice_bounds-solve-end-2
-slice_bounds-solve-end-2 c = c.requires.loaded.in_columns
 
 pub offset_bounds-values-z : goal.offset_bounds-values-z
 offset_bounds-values-z c = none_fits
 
-pub slice_bounds-solve-count-3 : goal.slice_bounds-solve-count-3
-slice_bounds-solve-count-3 c = low _
-
-pub slice_bounds-solve-start-3 : goal.slice_bounds-solve-start-3
-slice_bounds-solve-start-3 c = low _
-
-pub slice_bounds-solve-end-3 : goal.slice_bounds-solve-end-3
-slice_bounds-solve-end-3 c = c.requires.loaded.in_values
-
 pub offset_bounds-scales-z : goal.offset_bounds-scales-z
 offset_bounds-scales-z c = none_fits
-
-pub slice_bounds-solve-count-4 : goal.slice_bounds-solve-count-4
-slice_bounds-solve-count-4 c = low _
-
-pub slice_bounds-solve-start-4 : goal.slice_bounds-solve-start-4
-slice_bounds-solve-start-4 c = low _
 
 pub offset_bounds-right-z : goal.offset_bounds-right-z
 offset_bounds-right-z c = none_fits
 
-pub slice_bounds-solve-count-5 : goal.slice_bounds-solve-count-5
-slice_bounds-solve-count-5 c = low _
-
-pub slice_bounds-solve-start-5 : goal.slice_bounds-solve-start-5
-slice_bounds-solve-start-5 c = low _
-
-pub slice_bounds-solve-end-5 : goal.slice_bounds-solve-end-5
-slice_bounds-solve-end-5 c = c.requires.loaded.in_right
-
 pub offset_bounds-vector-z : goal.offset_bounds-vector-z
 offset_bounds-vector-z c = none_fits
 
-pub slice_bounds-solve-count-6 : goal.slice_bounds-solve-count-6
-slice_bounds-solve-count-6 c = low _
-
-pub slice_bounds-solve-start-6 : goal.slice_bounds-solve-start-6
-slice_bounds-solve-start-6 c = low _
-
 pub offset_bounds-polynomial-z : goal.offset_bounds-polynomial-z
 offset_bounds-polynomial-z c = none_fits
-
-pub slice_bounds-solve-count-7 : goal.slice_bounds-solve-count-7
-slice_bounds-solve-count-7 c = low _
-
-pub slice_bounds-solve-start-7 : goal.slice_bounds-solve-start-7
-slice_bounds-solve-start-7 c = low _
-
-pub slice_bounds-solve-end-7 : goal.slice_bounds-solve-end-7
-slice_bounds-solve-end-7 c = within_next c.requires.loaded.rows c.requires.vector_len.1
 
 pub returns : goal.returns
 returns c =

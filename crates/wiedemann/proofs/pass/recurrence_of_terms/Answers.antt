@@ -1,6 +1,6 @@
 use Rattle.recurrence.specs.Recurrence.{Ready, terms_taken}
 use Rattle.wiedemann.specs.Turns.{generated}
-use Rattle.residue.specs.Prime.{is_modulus_Prime, isModulus-le}
+use Rattle.residue.specs.Prime.{is_modulus_Prime, is_modulus_le}
 use Rattle.laws.specs.Part.{part, length_part, at_part}
 use lib.ListN.{length}
 use native.Mathlib.Omega.{arith}
@@ -19,7 +19,7 @@ ready c =
     let size : m ≡ 4 * a.count + 8 = omega arith in
     record {
       two = (is_modulus_Prime a.m.p pre.p_value.0).two_le;
-      small = isModulus-le a.m.p pre.p_value.0;
+      small = is_modulus_le a.m.p pre.p_value.0;
       few = pre.p_value.2;
       room = omega (arith, length_part a.from m W (omega (arith, size, pre.count_in_bounds.0)), size);
       elements = λ i l. rw (at_part a.from m W i (omega (arith, size, l)), ← at_part a.from a.count W i l) (pre.count_in_bounds.1.below i l);
@@ -41,7 +41,7 @@ never : (c : In-Refused) → ⊥
 never c =
     let call = c.generate-answer in
     let said = call.ensures.refused _ c.in-Refused.is in
-    said.1 (sym said.0 ∙ terms_taken ((let a = c.args in let pre = c.requires in let W = a.area.now in let m = a.from + (4 * a.count + 8) - a.from in let size : m ≡ 4 * a.count + 8 = omega arith in record { two = (is_modulus_Prime a.m.p pre.p_value.0).two_le; small = isModulus-le a.m.p pre.p_value.0; few = pre.p_value.2; room = omega (arith, length_part a.from m W (omega (arith, size, pre.count_in_bounds.0)), size); elements = λ i l. rw (at_part a.from m W i (omega (arith, size, l)), ← at_part a.from a.count W i l) (pre.count_in_bounds.1.below i l) })))
+    said.1 (sym said.0 ∙ terms_taken ((let a = c.args in let pre = c.requires in let W = a.area.now in let m = a.from + (4 * a.count + 8) - a.from in let size : m ≡ 4 * a.count + 8 = omega arith in record { two = (is_modulus_Prime a.m.p pre.p_value.0).two_le; small = is_modulus_le a.m.p pre.p_value.0; few = pre.p_value.2; room = omega (arith, length_part a.from m W (omega (arith, size, pre.count_in_bounds.0)), size); elements = λ i l. rw (at_part a.from m W i (omega (arith, size, l)), ← at_part a.from a.count W i l) (pre.count_in_bounds.1.below i l) })))
 
 pub shape_of-area-in-Refused : goal.shape_of-area-in-Refused
 shape_of-area-in-Refused c = absurd (never (goal.at.shape_of-area-in-Refused c).In-Refused)

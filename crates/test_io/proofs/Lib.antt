@@ -1,3 +1,0 @@
--- laws that only the proofs here use
-pub mod Kept
-pub mod Cut
