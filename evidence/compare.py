@@ -18,7 +18,7 @@ through driver.cpp, and holds
   - the vector to its meaning, Ax = b, or w is not zero and Aw = 0, with A itself; the bill to its sum; and the entries
     multiplied to applications × entries.
 
---gate is a small fixed set that needs python3 and g++ only. The library is target/staticlib/libhost.a, or what
+--gate is a small fixed set that needs python3 and g++ only. The library is crates/host/out/libhost.a, or what
 FILZEUR_LIBRARY names. Exit status 0: nothing differs."""
 
 import argparse

@@ -3,9 +3,9 @@
 
     evidence/program.py
 
-Runs target/bin/solve (what `rt check solve` leaves, or what FILZEUR_PROGRAM names) on texts of each refusal and at the limits of document
-01, given at once and in pieces; and target/bin/inverses once, whose numbers are also held to those of the field's table in the source. Exit
-status 0: nothing differs."""
+Runs crates/solve/out/solve (what `rt run` in crates/solve and `rt ci` leave, or what FILZEUR_PROGRAM names) on texts of each refusal and at the
+limits of document 01, given at once and in pieces; and crates/inverses/out/inverses once, whose numbers are also held to those of the field's table
+in the source. Exit status 0: nothing differs."""
 
 import collections
 import os
@@ -17,8 +17,8 @@ import time
 import reference
 import tools
 
-PROGRAM = os.environ.get('FILZEUR_PROGRAM', os.path.join(tools.ROOT, 'target', 'bin', 'solve'))
-INVERSES = os.path.join(tools.ROOT, 'target', 'bin', 'inverses')
+PROGRAM = os.environ.get('FILZEUR_PROGRAM', os.path.join(tools.ROOT, 'crates', 'solve', 'out', 'solve'))
+INVERSES = os.path.join(tools.ROOT, 'crates', 'inverses', 'out', 'inverses')
 TABLE = os.path.join(tools.ROOT, 'crates', 'field', 'src', 'table.rt')
 HIGH = 2147483647
 LIMIT = reference.CALL_TEXT
@@ -244,8 +244,9 @@ def inverses_differ():
     expected = reference.inverses_program()
     run = subprocess.run([INVERSES], stdin=subprocess.DEVNULL, stdout=subprocess.PIPE)
     got, right = run.stdout.split(b'\n'), expected.split(b'\n')
-    with open(TABLE) as source:
-        table = re.findall(r'^ +(\d+),$', source.read(), re.M)
+    with open(TABLE, encoding='utf-8') as source:
+        listed = re.search(r'\[u8; 250\] = \[([\d,\s]*)\];', source.read())
+    table = re.findall(r'\d+', listed[1]) if listed else []
     numbers = [line.split(b'\t')[2].decode() for line in right if line]
     assert right[:2] + right[249:] == [b'i\t1\t1', b'i\t2\t126', b'i\t250\t250', b'']
     lines = sum(a != b for a, b in zip(got, right)) + abs(len(got) - len(right))
@@ -259,7 +260,7 @@ def main():
         sys.exit(__doc__)
     for program in (PROGRAM, INVERSES):
         if not os.path.exists(program):
-            sys.exit('no program at %s (make it with `rt check solve inverses`; FILZEUR_PROGRAM names another `solve`)' % program)
+            sys.exit('no program at %s (`rt ci` makes it, and `rt run` in its crate; FILZEUR_PROGRAM names another `solve`)' % program)
     began = time.time()
     refusals, runs, differ = collections.Counter(), 0, 0
     for number, text in texts():

@@ -7,7 +7,7 @@ import sys
 HERE = os.path.dirname(os.path.abspath(__file__))
 ROOT = os.path.dirname(HERE)
 BUILT = os.path.join(ROOT, 'target', 'evidence')
-LIBRARY = os.environ.get('FILZEUR_LIBRARY', os.path.join(ROOT, 'target', 'staticlib', 'libhost.a'))
+LIBRARY = os.environ.get('FILZEUR_LIBRARY', os.path.join(ROOT, 'crates', 'host', 'out', 'libhost.a'))
 FLAGS = ['-std=c++17', '-O2', '-Wall', '-Wextra']
 
 
@@ -41,7 +41,7 @@ def build(name, source, *words, needed=True):
 
 def driver():
     if not os.path.exists(LIBRARY):
-        sys.exit('no library at %s (make it with `rt staticlib host`, or set FILZEUR_LIBRARY)' % LIBRARY)
+        sys.exit('no library at %s (make it with `rt lib` in crates/host, or set FILZEUR_LIBRARY)' % LIBRARY)
     return build('driver', 'driver.cpp', LIBRARY)
 
 

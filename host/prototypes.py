@@ -72,8 +72,8 @@ class Crate(Side):
         for marks, name, arguments, result in functions:
             self.add(name, self.function, arguments, result)
             if 'no_mangle' not in marks:
-                self.faults.append('%s: not #[no_mangle] in the crate' % name)
-        for mark, found in (('extern "C"', functions), ('#[no_mangle]', functions), ('#[repr(C)]', structs)):
+                self.faults.append('%s: not #[unsafe(no_mangle)] in the crate' % name)
+        for mark, found in (('extern "C"', functions), ('no_mangle', functions), ('#[repr(C)]', structs)):
             if text.count(mark) > len(found):
                 self.faults.append('%s stands %d times in the crate, and %d were read' % (
                     mark, text.count(mark), len(found)))
