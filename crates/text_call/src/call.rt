@@ -127,14 +127,16 @@ pub(crate) fn answer_text(
     requires vector_len { (length vector.old ≡ 128) × (length polynomial.old ≡ 129) × (length bill.old ≡ 384) × (length work.old ≡ 2064) }
     ensures { Called text.now answer.old result answer.new }
 {
-    if text.len() > 26624 {
+    let long = text.len() > 26624;
+    if long {
         return 1;
     }
     let reading = read(text, starts, columns, values, scales, right);
     match reading {
         Reading::Refused(number) => number as u64,
         Reading::Read(p, n, count) => {
-            if answer.len() < 7168 {
+            let short = answer.len() < 7168;
+            if short {
                 return 11;
             }
             put_solved(

@@ -50,7 +50,8 @@ fn show(text: &[u8], out: &mut [u8]) -> usize
     ensures { Shown text.now out.old result out.new }
 {
     let number = filzeur_text(text, out);
-    if number > 18 {
+    let answered = number > 18;
+    if answered {
         number as usize
     } else {
         put_line(out, 0, b"refused", &[number])

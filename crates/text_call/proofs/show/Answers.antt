@@ -5,22 +5,22 @@ use Rattle.text_call.specs.AnswerText.{refused_line}
 use Rattle.text_call.specs.Program.{shown_answer, shown_refused}
 use Rattle.text_call.proofs.show.Goals as goal
 
-pub shape_of-out-then-number-gt18 : goal.shape_of-out-then-number-gt18
-shape_of-out-then-number-gt18 c = c.filzeur_text-number.auto.answer
+pub shape_of-out-then-answered : goal.shape_of-out-then-answered
+shape_of-out-then-answered c = c.filzeur_text-number.auto.answer
 
-pub returns-then-number-gt18 : goal.returns-then-number-gt18
-returns-then-number-gt18 c =
+pub returns-then-answered : goal.returns-then-answered
+returns-then-answered c =
     let a = c.args in
     let call = c.filzeur_text-number in
-    shown_answer a.text.now a.out.now c.requires call.result call.new.answer call.ensures.number call.ensures.slice c.if-number-gt18.true
+    shown_answer a.text.now a.out.now c.requires call.result call.new.answer call.ensures.number call.ensures.slice (omega (arith, c.if-answered.true))
 
-pub shape_of-out-else-number-gt18 : goal.shape_of-out-else-number-gt18
-shape_of-out-else-number-gt18 c = c.put_line.auto.out ∙ c.filzeur_text-number.auto.answer
+pub shape_of-out-else-answered : goal.shape_of-out-else-answered
+shape_of-out-else-answered c = c.put_line.auto.out ∙ c.filzeur_text-number.auto.answer
 
-pub returns-else-number-gt18 : goal.returns-else-number-gt18
-returns-else-number-gt18 c =
+pub returns-else-answered : goal.returns-else-answered
+returns-else-answered c =
     let a = c.args in
     let call = c.filzeur_text-number in
     let p = c.put_line in
-    shown_refused a.text.now a.out.now c.requires call.result call.new.answer call.ensures.number call.ensures.slice (omega (arith, c.if-number-gt18.false))
+    shown_refused a.text.now a.out.now c.requires call.result call.new.answer call.ensures.number call.ensures.slice (omega (arith, c.if-answered.false))
     p.result p.new.out (wrote_as (refused_line call.result) (wrote_line p.ensures.value p.ensures.out_after))

@@ -29,7 +29,7 @@ loop-i-preserved c =
       omega (arith, c.loop-i-test.true),
       omega arith,
       wrote_rows_more (place_line a.letter.now a.v.now) i c.loop-i.invariant.2
-          (wrote_as (place_line_law a.letter.now a.v.now i c.long.result c.if-value-eq0.false c.long.ensures.0) (wrote_line e.ensures.value e.ensures.out_after)),
+          (wrote_as (place_line_law a.letter.now a.v.now i c.long.result (omega arith) c.long.ensures.0) (wrote_line e.ensures.value e.ensures.out_after)),
     )
 
 pub shape_of-out : goal.shape_of-out

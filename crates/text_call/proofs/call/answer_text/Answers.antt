@@ -11,8 +11,8 @@ use Rattle.text_call.proofs.Parts.{some, answer_ends, answer_room}
 use Rattle.text_call.proofs.call.answer_text.Goals as goal
 
 -- `call::answer_text` meets its contract: the checks in order, and what the run gives where none turns the text down.
-pub returns-then-text-gt26624 : goal.returns-then-text-gt26624
-returns-then-text-gt26624 c =
+pub returns-then-long : goal.returns-then-long
+returns-then-long c =
     let text = c.args.text.now in
     let answer = c.args.answer.now in
     let starts = c.args.starts.now in
@@ -23,10 +23,10 @@ returns-then-text-gt26624 c =
     let lengths = c.requires.starts_len in
     let by_reader_law = text_by_reader text starts columns values scales right lengths.0 lengths.1 lengths.2 lengths.3 lengths.4 (length answer) in
     let refusal = reader_refusal text starts columns values scales right in
-    called text answer 1 answer (text_refused text answer 1 (by_reader_law ∙ by_reader_long text (length answer) refusal (omega (arith, c.if-text-gt26624.true))) (some 0))
+    called text answer 1 answer (text_refused text answer 1 (by_reader_law ∙ by_reader_long text (length answer) refusal (omega (arith, c.if-long.true))) (some 0))
 
-pub returns-then-answer-lt7168 : goal.returns-then-answer-lt7168
-returns-then-answer-lt7168 c =
+pub returns-then-short : goal.returns-then-short
+returns-then-short c =
     let text = c.args.text.now in
     let answer = c.args.answer.now in
     let starts = c.args.starts.now in
@@ -38,8 +38,8 @@ returns-then-answer-lt7168 c =
     let by_reader_law = text_by_reader text starts columns values scales right lengths.0 lengths.1 lengths.2 lengths.3 lengths.4 (length answer) in
     let refusal = reader_refusal text starts columns values scales right in
     let e : refusal ≡ 0 = sym c.read-reading.ensures.result_value ∙ ap refusal_of_read c.in-Read.is in
-    let fits : length text ≤ 26624 = omega (arith, c.if-text-gt26624.false) in
-    called text answer 11 answer (text_refused text answer 11 (by_reader_law ∙ by_reader_short text (length answer) refusal fits e (omega (arith, c.if-answer-lt7168.true))) (some 10))
+    let fits : length text ≤ 26624 = omega (arith, c.if-long.false) in
+    called text answer 11 answer (text_refused text answer 11 (by_reader_law ∙ by_reader_short text (length answer) refusal fits e (omega (arith, c.if-short.true))) (some 10))
 
 pub put_solved-requires : goal.put_solved-requires
 put_solved-requires c =
@@ -87,12 +87,12 @@ returns-in-Refused c =
     let arm = c.in-Refused.is in
     let e : number ≡ refusal = sym (ap refusal_of_read arm) ∙ c.read-reading.ensures.result_value in
     let from_one = refused_number text starts columns values scales right number e (sym (ap modulus_of_read arm) ∙ c.read-reading.ensures.result_value_2) in
-    let fits : length text ≤ 26624 = omega (arith, c.if-text-gt26624.false) in
+    let fits : length text ≤ 26624 = omega (arith, c.if-long.false) in
     called text answer number answer
     (text_refused text answer number (by_reader_law ∙ by_reader_refused text (length answer) refusal fits (subst (λ k. 1 ≤ k) e from_one) ∙ sym e) from_one)
 
-pub returns-else-answer-lt7168 : goal.returns-else-answer-lt7168
-returns-else-answer-lt7168 c =
+pub returns-else-short : goal.returns-else-short
+returns-else-short c =
     let text = c.args.text.now in
     let answer = c.args.answer.now in
     let starts = c.args.starts.now in
@@ -122,8 +122,8 @@ returns-else-answer-lt7168 c =
     let lengths = c.requires.starts_len in
     let by_reader_law = text_by_reader text starts columns values scales right lengths.0 lengths.1 lengths.2 lengths.3 lengths.4 (length answer) in
     let refusal = reader_refusal text starts columns values scales right in
-    let fits : length text ≤ 26624 = omega (arith, c.if-text-gt26624.false) in
-    let none = by_reader_law ∙ by_reader_taken text (length answer) refusal fits taken (omega (arith, c.if-answer-lt7168.false)) in
+    let fits : length text ≤ 26624 = omega (arith, c.if-long.false) in
+    let none = by_reader_law ∙ by_reader_taken text (length answer) refusal fits taken (omega (arith, c.if-short.false)) in
     let call = text_given text answer none in
     let room = text_taken text (length answer) none in
     let short = solved_fits text room.0 in
