@@ -1,5 +1,5 @@
 #!/usr/bin/env python3
-"""Prints src/tables.rt: python3 tables.py > src/tables.rt
+"""Prints src/tables.rt: python3 tables.py > src/tables.rt, and then rt fmt, which lays the numbers out
 
 The numbers from 5 to the first prime past 46,340, the root of the largest modulus, in blocks [a, b) with b <= 2a and at most 32 primes
 in each. For a block: the inverses of its primes modulo 2^32, filled up to 32 by the inverse of 3; the limit (2^31 - 1) / a; its start a.
