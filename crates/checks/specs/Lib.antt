@@ -6,3 +6,4 @@ pub mod Solver
 pub mod Pass
 pub mod Products
 pub mod Answers
+pub mod Slices

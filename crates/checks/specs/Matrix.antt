@@ -168,6 +168,7 @@ matrix_valid p A e = (scaled_valid p A [] e).valid
 
 -- a matrix and a vector that were not turned down
 pub record Accepted (p : ℕ) (A : Matrix) (v : List ℕ) : Type 0 where
+  pub prime : is_modulus p ≡ true
   pub valid : Valid p A
   pub vector : Vector p (size A) v
 
@@ -177,7 +178,7 @@ vector_checks p A b = check 8 (not (eqb (length b) (size A))) ∷ check 9 (not (
 pub system_accepted : (p : ℕ) (A : Matrix) (X b : List ℕ) → first (system_checks p A X b) ≡ 0 → Accepted p A b
 system_accepted p A X b e =
     let a = laws.system_accepted p A X b e in
-    record { valid = valid_of a; vector = right_of a }
+    record { prime = a.prime; valid = valid_of a; vector = right_of a }
 
 -- the starts' number, where the code has the number of the checks
 pub scaled_sized : (p : ℕ) (A : Matrix) (X : List ℕ) {number : ℕ} → number ≡ first (scaled_checks p A X) → number ≡ 0
@@ -240,6 +241,7 @@ apply_plain p A g v out work = refl
 
 -- what g(AX)v needs that was not turned down
 pub record Applicable (p : ℕ) (A : Matrix) (X g v out work : List ℕ) : Type 0 where
+  pub prime : is_modulus p ≡ true
   pub valid : ValidScaled p A X
   pub vector : Vector p (size A) v
   pub some : 0 < length g
@@ -260,6 +262,7 @@ apply_accepted p A X g v out work e =
     let slices = c11.0 in
     let range = and_left (within 1 (size A + 1) (length g)) (eqb (length v) (size A)) lengths in
     record {
+      prime = scaled_modulus p A X both.0;
       valid = scaled_valid p A X both.0;
       vector =
           vector_of p v (size A) (eqb-true (length v) (size A) (and_right (within 1 (size A + 1) (length g)) (eqb (length v) (size A)) lengths))
@@ -284,6 +287,7 @@ takes_accepted p A x b e =
     let lengths = c8.0 in
     let below = c9.0 in (
       record {
+        prime = scaled_modulus p A [] both.0;
         valid = matrix_valid p A both.0;
         vector =
             vector_of p x (size A) (eqb-true (length x) (size A) (and_left (eqb (length x) (size A)) (eqb (length b) (size A)) lengths))

@@ -1,7 +1,7 @@
 -- Products with a matrix, as the code counts them: how many, and the entries that they multiply (request (iii)).
 --     products_with k A       k products with A
 --     added                  some products and some more
---     products_none, products_add, products_next      .. with A; one more
+--     products_none, products_zero, products_add, products_next      .. with A; one more
 --     products_scaled        .. with AX
 --     Few, products_few      what keeps a sum of two within 64 bits: up to 65,536 products each; so it is of those with a valid matrix,
 --     per_product_low        each of which multiplies at most 65,536 entries
@@ -22,6 +22,9 @@ added a b = record { made = a.made + b.made; multiplied = a.multiplied + b.multi
 
 pub products_none : (A : Matrix) → ◌≡◌ {A = Products} (record { made = 0; multiplied = 0 }) (products_with 0 A)
 products_none A = ap {B = Products} (λ m. record { made = 0; multiplied = m }) (sym (multiplied_none A))
+
+pub products_zero : (A : Matrix) {a : Products} → a.made ≡ 0 → a.multiplied ≡ 0 → a ≡ products_with a.made A
+products_zero A {a} e f = ap {B = Products} (λ m. record { made = a.made; multiplied = m }) (f ∙ sym (multiplied_none A) ∙ ap (λ k. multiplied k A) (sym e))
 
 pub products_add : (A : Matrix) (j k m : ℕ) {a b : Products} → a ≡ products_with j A → b ≡ products_with k A → j + k ≡ m → added a b ≡ products_with m A
 products_add A j k m e f g =

@@ -2,7 +2,7 @@
 --     Valid p A        a matrix of size 0 to 4,096 with values below p
 --     Vector p n v     n elements below p
 --     Scales p n X     no scales, or n of them, below p
---     ValidScaled p A X     a valid matrix with such scales; valid_scaled: AX is valid then
+--     ValidScaled p A X     a valid matrix with such scales; valid_scaled: AX is valid then; valid_plain: a valid matrix without scales
 --     valid_of, scales_of_law, right_of, vector_of      an accepted system's matrix and right side; a list that passed 8 and 9
 --     elements_of_law, vector_elements      .. and back: elements below p pass 9
 --     term             the product of entry k with its element of v
@@ -11,7 +11,7 @@
 --     valid_entries    a valid matrix with a vector
 --     vector_table     what is reduced has elements below p
 --     row_bounds       where a row begins and ends
-use Rattle.std.specs.Prelude.{◌≡◌, ◌⊎◌, true, false, List, ℕ, ◌+◌, ◌*◌, ◌%◌, ◌≤◌, ◌<◌, eqb, ltb, leb, length}
+use Rattle.std.specs.Prelude.{◌≡◌, refl, ◌≢◌, ◌⊎◌, true, false, List, [], ℕ, ◌+◌, ◌*◌, ◌%◌, ◌≤◌, ◌<◌, eqb, ltb, leb, length}
 use Rattle.std.proofs.Common.{sym, ◌∙◌, inl, inr, mod-lt, arith, ltb-true, lt-ltb, eqb-true}
 use Rattle.meaning.specs.List.{at, table}
 use Rattle.meaning.specs.Matrix.{Matrix, size, row_sum, scale_at, scaled_values, scaled}
@@ -37,7 +37,7 @@ pub record Vector (p n : ℕ) (v : List ℕ) : Type 0 where
   pub below : (i : ℕ) → i < n → at v i < p
 
 pub record Scales (p n : ℕ) (X : List ℕ) : Type 0 where
-  pub number : (length X ≡ 0) ⊎ (length X ≡ n)
+  pub number : length X ≢ 0 → length X ≡ n
   pub below : (j : ℕ) → j < length X → at X j < p
 
 pub record ValidScaled (p : ℕ) (A : Matrix) (X : List ℕ) : Type 0 where
@@ -63,6 +63,9 @@ valid_scaled {p} {A} X h =
     reduced : ℕ → ℕ
     reduced k = at A.values k * scale_at X (at A.columns k) % p
 
+pub valid_plain : {p : ℕ} {A : Matrix} → Valid p A → ValidScaled p A []
+valid_plain h = record { valid = h; scales = record { number = λ some. absurd (some refl); below = λ j l. absurd (omega (arith, l)) } }
+
 pub scales_of_law : {p n : ℕ} {X : List ℕ} → AcceptedScales p n X → Scales p n X
 scales_of_law {p} {n} {X} a =
     record {
@@ -70,9 +73,9 @@ scales_of_law {p} {n} {X} a =
       below = λ j l. ltb-true (at X j) p (and_right (leb 1 (at X j)) (ltb (at X j) p) (every_at (value_taken p) X 0 a.taken j l));
     }
   where
-    number_of : (eqb (length X) 0 ≡ true) ⊎ (eqb (length X) 0 ≡ false) → (length X ≡ 0) ⊎ (length X ≡ n)
-    number_of (inl e) = inl (eqb-true (length X) 0 e)
-    number_of (inr e) = inr (eqb-true (length X) n (or_right (eqb (length X) 0) (eqb (length X) n) e a.number))
+    number_of : (eqb (length X) 0 ≡ true) ⊎ (eqb (length X) 0 ≡ false) → length X ≢ 0 → length X ≡ n
+    number_of (inl e) some = absurd (some (eqb-true (length X) 0 e))
+    number_of (inr e) some = eqb-true (length X) n (or_right (eqb (length X) 0) (eqb (length X) n) e a.number)
 
 pub valid_of : {p : ℕ} {A : Matrix} {b : List ℕ} → AcceptedSystem p A b → Valid p A
 valid_of {p} {A} {b} a =

@@ -17,8 +17,7 @@ use Rattle.meaning.specs.Refusal.{check, first, unless_refused}
 use Rattle.meaning.specs.Calls.{field_refusal, operation_refusal, inverse_refusal}
 use Rattle.laws.specs.Bool.{and_left, and_right, and_both, and_false_left, test_cases}
 use Rattle.laws.specs.Refusal.{first_nil, first_past, first_stops}
-use Rattle.field.specs.Answer.{Gives, Operands}
-use Rattle.field.specs.declared.Answer.TheVariants.{Element, Refused}
+use Rattle.field.specs.Answer.{Operands}
 
 pub field_taken : (p : ℕ) → is_modulus p ≡ true → field_refusal p ≡ 0
 unfolding field_refusal
@@ -90,11 +89,3 @@ module _ (p a : ℕ) where
 
   pub inverse_taken : operation_refusal p a a ≡ 0 → a ≢ 0 → inverse_refusal p a ≡ 0
   inverse_taken z q = inverse_past z ∙ first_past 12 (eqb a 0) [] (ne_eqb a 0 q) ∙ first_nil
-
--- n is the number that the checks found
-module _ (n k x : ℕ) (e : n ≡ k) where
-  pub gives_element : n ≡ 0 → (y : ℕ) → y ≡ x → Gives (Element y) k (unless_refused k x 0)
-  gives_element z y f = (sym e ∙ z, ap (λ b. cond b x 0) (eq-eqb k 0 (sym e ∙ z)) ∙ sym f)
-
-  pub gives_refused : n ≢ 0 → Gives (Refused n) k (unless_refused k x 0)
-  gives_refused f = (sym e, f, ap (λ b. cond b x 0) (ne_eqb k 0 (λ z. f (e ∙ z))))

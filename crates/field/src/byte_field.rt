@@ -12,12 +12,6 @@ fn byte_inverses() -> [u8; 250]
     INVERSES
 }
 
-fn wide(x: u8) -> u32
-    ensures { result ≡ x }
-{
-    x as u32
-}
-
 // The inverse of a modulo 251, and 251 where a has none.
 pub(crate) fn inverse_by_table(a: u32) -> u32
     ensures { result ≡ inverse 251 a }
@@ -28,5 +22,5 @@ pub(crate) fn inverse_by_table(a: u32) -> u32
     }
     let table = byte_inverses();
     let place = (element - 1) as usize;
-    wide(table[place])
+    u32::from(table[place])
 }

@@ -12,108 +12,82 @@ mod table;
 ghost use Rattle.std.specs.Prelude.{◌≡◌, ◌&&◌, ltb};
 ghost use Rattle.meaning.specs.Field.{plus, minus, times, inverse};
 ghost use Rattle.meaning.specs.Calls.{field_refusal, operation_refusal, operation_answer, inverse_refusal, inverse_answer};
+ghost use Rattle.refusal.specs.Number.{refused_by};
 ghost use Rattle.field.specs.Answer.{Makes, Gives, Operands};
 
 use byte_field::inverse_by_table;
 pub use euclid::inverse_by_euclid;
 pub use primality::is_modulus;
+use refusal::Refusal;
 
 // Elements are 0 to p - 1.
-#[derive(Clone, Copy)]
+#[derive(Clone, Copy, Debug, PartialEq, Eq)]
 pub struct Field {
     pub p: u32,
 }
 
-// What making a field answers.
-#[derive(Clone, Copy)]
-pub enum Made {
-    Field(Field),
-    // The number of the check that turned p down.
-    Refused(u32),
-}
-
-// What an operation answers.
-#[derive(Clone, Copy)]
-pub enum Answer {
-    Element(u32),
-    // The number of the first check that turned the record or an operand down.
-    Refused(u32),
-}
-
 impl Field {
-    pub fn new(p: u32) -> Made
+    #[tactic(auto, using(crate::proofs::Refusals::field_taken, crate::proofs::Refusals::field_refused))]
+    pub fn new(p: u32) -> Result<Self, Refusal>
         ensures { Makes result (field_refusal p) p }
     {
         if is_modulus(p) {
-            Made::Field(Field { p })
+            Ok(Field { p })
         } else {
-            Made::Refused(3)
+            Err(Refusal::Modulus)
         }
     }
 
-    pub fn sum(self, a: u32, b: u32) -> Answer
+    #[tactic(auto, using(crate::proofs::Refusals::operation_accepted))]
+    pub fn sum(self, a: u32, b: u32) -> Result<u32, Refusal>
         ensures { Gives result (operation_refusal self.p a b) (operation_answer plus self.p a b) }
     {
         let p = self.p;
-        let number = operation_refusal(p, a, b);
-        if number == 0 {
-            Answer::Element(sum_below(p, a, b))
-        } else {
-            Answer::Refused(number)
-        }
+        check_operands(p, a, b)?;
+        Ok(sum_below(p, a, b))
     }
 
-    pub fn difference(self, a: u32, b: u32) -> Answer
+    #[tactic(auto, using(crate::proofs::Refusals::operation_accepted))]
+    pub fn difference(self, a: u32, b: u32) -> Result<u32, Refusal>
         ensures { Gives result (operation_refusal self.p a b) (operation_answer minus self.p a b) }
     {
         let p = self.p;
-        let number = operation_refusal(p, a, b);
-        if number == 0 {
-            Answer::Element(difference_below(p, a, b))
-        } else {
-            Answer::Refused(number)
-        }
+        check_operands(p, a, b)?;
+        Ok(difference_below(p, a, b))
     }
 
-    pub fn product(self, a: u32, b: u32) -> Answer
+    #[tactic(auto, using(crate::proofs::Refusals::operation_accepted))]
+    pub fn product(self, a: u32, b: u32) -> Result<u32, Refusal>
         ensures { Gives result (operation_refusal self.p a b) (operation_answer times self.p a b) }
     {
         let p = self.p;
-        let number = operation_refusal(p, a, b);
-        if number == 0 {
-            Answer::Element(product_below(p, a, b))
-        } else {
-            Answer::Refused(number)
-        }
+        check_operands(p, a, b)?;
+        Ok(product_below(p, a, b))
     }
 
-    pub fn inverse(self, a: u32) -> Answer
+    pub fn inverse(self, a: u32) -> Result<u32, Refusal>
         ensures { Gives result (inverse_refusal self.p a) (inverse_answer self.p a) }
     {
         let p = self.p;
-        let number = inverse_refusal(p, a);
-        if number == 0 {
-            Answer::Element(inverse_modulo(p, a))
-        } else {
-            Answer::Refused(number)
-        }
+        check_invertible(p, a)?;
+        Ok(inverse_modulo(p, a))
     }
 }
 
 // The checks of a sum, a difference or a product.
 #[tactic(auto, using(crate::proofs::Refusals::operation_modulus, crate::proofs::Refusals::operation_operand, crate::proofs::Refusals::operation_taken))]
-fn operation_refusal(p: u32, a: u32, b: u32) -> u32
-    ensures { result ≡ operation_refusal p a b }
+fn check_operands(p: u32, a: u32, b: u32) -> Result<(), Refusal>
+    ensures { refused_by result ≡ operation_refusal p a b }
 {
     let prime = is_modulus(p);
     let elements = are_elements(p, a, b);
     if !prime {
-        return 3;
+        return Err(Refusal::Modulus);
     }
     if !elements {
-        return 9;
+        return Err(Refusal::Elements);
     }
-    0
+    Ok(())
 }
 
 fn are_elements(p: u32, a: u32, b: u32) -> bool
@@ -123,17 +97,15 @@ fn are_elements(p: u32, a: u32, b: u32) -> bool
 }
 
 // Those of an inverse: an operation's, and that a is not 0.
-fn inverse_refusal(p: u32, a: u32) -> u32
-    ensures { result ≡ inverse_refusal p a }
+#[tactic(auto, using(crate::proofs::Refusals::inverse_operation, crate::proofs::Refusals::inverse_of_zero, crate::proofs::Refusals::inverse_taken))]
+fn check_invertible(p: u32, a: u32) -> Result<(), Refusal>
+    ensures { refused_by result ≡ inverse_refusal p a }
 {
-    let number = operation_refusal(p, a, a);
-    if number != 0 {
-        return number;
-    }
+    check_operands(p, a, a)?;
     if a == 0 {
-        return 12;
+        return Err(Refusal::Zero);
     }
-    0
+    Ok(())
 }
 
 // The inverse of a modulo any p, and p where a has none: modulo 251 from a table, otherwise the general way.

@@ -2,21 +2,15 @@
 // refusal's number, or 0, and the value. vectors.py makes calls and output.
 #![tactic(auto)]
 
-use field::{Answer, Field, Made};
+use field::Field;
+use refusal::Refusal;
 use std::io;
-use test_io::{at, print};
+use test_io::{MEMORY, at, filled, print};
 
-fn print_made(rt: &impl Print, made: Made) -> io::Result<()> {
-    match made {
-        Made::Field(f) => print_both(rt, 0, f.p),
-        Made::Refused(number) => print_both(rt, number, 0),
-    }
-}
-
-fn print_answer(rt: &impl Print, answer: Answer) -> io::Result<()> {
+fn print_answer(rt: &impl Print, answer: Result<u32, Refusal>) -> io::Result<()> {
     match answer {
-        Answer::Element(x) => print_both(rt, 0, x),
-        Answer::Refused(number) => print_both(rt, number, 0),
+        Ok(x) => print_both(rt, 0, x),
+        Err(refusal) => print_both(rt, u32::from(refusal), 0),
     }
 }
 
@@ -28,7 +22,7 @@ fn print_both(rt: &impl Print, number: u32, value: u32) -> io::Result<()> {
 
 fn call(rt: &impl Print, which: u32, p: u32, a: u32, b: u32) -> io::Result<()> {
     match which {
-        0 => print_made(rt, Field::new(p)),
+        0 => print_answer(rt, Field::new(p).map(|made| made.p)),
         1 => print_answer(rt, Field { p }.sum(a, b)),
         2 => print_answer(rt, Field { p }.difference(a, b)),
         3 => print_answer(rt, Field { p }.product(a, b)),
@@ -39,7 +33,7 @@ fn call(rt: &impl Print, which: u32, p: u32, a: u32, b: u32) -> io::Result<()> {
 }
 
 fn main(rt: HostRuntime) -> io::Result<()> {
-    let mut room = test_io::memory();
+    let mut room: [u32; MEMORY] = filled(0);
     test_io::read_numbers(&mut rt.stdin(), &mut room)?;
     let memory: &[u32] = &room;
     let calls = at(memory, 0);

@@ -1,26 +1,31 @@
 -- The structs' numbers, from what the callee says.
 --     degree_answered            a recurrence's answer that is no refusal
+--     degree_low                 .. fits 32 bits
 --     verdict_counted            a run's kind and counts
 --     verdict_refused            .. and a refused run's
 --     system_same                equal numbers, equal structs
-use mathlib.Core.Path.{◌≡◌, sym, ap, ap₂, ◌∙◌}
+use mathlib.Core.Path.{◌≡◌, sym, ap, ap₂, ◌∙◌, subst}
 use mathlib.Core.Logic.{◌≢◌}
 use mathlib.Core.Bool.{Bool, false, cond}
-use Prim.Native.Nat.{ℕ}
+use Prim.Native.Nat.{ℕ, ◌≤◌}
 use lib.Dec.{eqb}
 use borrow.Author.Tests.{ne_eqb}
 use Rattle.meaning.specs.Solver.{Kind, Outcome, pass_count, applications}
-use Rattle.recurrence.specs.declared.Answer.{Answer}
-use Rattle.recurrence.specs.declared.Answer.TheVariants.{Degree, Refused}
+use Rattle.std.specs.Prelude.{Result, Ok, Err, IfOk}
+use Rattle.refusal.specs.declared.Refusal.{Refusal}
 use Rattle.solver.specs.declared.Counts.{Counts}
 use Rattle.recurrence.specs.Recurrence.{GivesDegree}
 use Rattle.solver.specs.Verdict.{Counted}
 use Rattle.host.specs.declared.runs.Verdict.{Verdict}
 use Rattle.host.specs.Answers.{kind_number, verdict_of, system_of}
 
-pub degree_answered : (a : Answer) (number L : ℕ) → GivesDegree a number L → number ≡ 0 → a ≡ Degree L
-degree_answered (Degree k) number L g e = ap Degree (sym g.1)
-degree_answered (Refused k) number L g e = absurd (g.1 (sym g.0 ∙ e))
+pub degree_answered : (a : Result ℕ Refusal) (number L : ℕ) → GivesDegree a number L → number ≡ 0 → a ≡ Ok L
+degree_answered (Ok k) number L g e = ap Ok (sym g.1)
+degree_answered (Err r) number L g e = absurd (g.1 (sym g.0 ∙ e))
+
+pub degree_low : (a : Result ℕ Refusal) (number L : ℕ) → GivesDegree a number L → (number ≡ 0 → L ≤ 8192) → IfOk a (λ k. k ≤ 8192)
+degree_low (Ok k) number L g low = subst (λ l. l ≤ 8192) g.1 (low g.0)
+degree_low (Err r) number L g low = tt
 
 abbrev verdict : ℕ → ℕ → ℕ → ℕ → ℕ → ℕ → Verdict
 verdict number kind degree passes applications multiplied =

@@ -2,10 +2,11 @@
 ghost use Rattle.std.specs.Prelude.{◌≡◌, ℕ};
 ghost use Rattle.meaning.specs.Field.{plus, minus, times};
 ghost use Rattle.meaning.specs.Calls.{field_refusal, operation_refusal, operation_answer, inverse_refusal, inverse_answer};
-ghost use Rattle.field.specs.Answer.{Makes, Gives};
+ghost use Rattle.field.specs.Answer.{Gives};
 ghost use Rattle.host.specs.Answers.{element_of};
 
-use field::{Answer, Field, Made};
+use field::Field;
+use refusal::Refusal;
 
 #[repr(C)]
 #[derive(Clone, Copy)]
@@ -14,21 +15,17 @@ pub struct Element {
     pub value: u32,
 }
 
-fn number_of(made: Made) -> u32
-    ensures { (number p : ℕ) → Makes made number p → result ≡ number }
-{
-    match made {
-        Made::Field(_) => 0,
-        Made::Refused(number) => number,
-    }
-}
+impl From<Result<u32, Refusal>> for Element {
+    ghost from_gives = { λ answer numbers. (number x : ℕ) → Gives answer number x → numbers ≡ element_of number x };
 
-fn numbers_of(answer: Answer) -> Element
-    ensures { (number x : ℕ) → Gives answer number x → result ≡ element_of number x }
-{
-    match answer {
-        Answer::Element(value) => Element { refusal: 0, value },
-        Answer::Refused(refusal) => Element { refusal, value: 0 },
+    fn from(answer: Result<u32, Refusal>) -> Element {
+        match answer {
+            Ok(value) => Element { refusal: 0, value },
+            Err(refusal) => Element {
+                refusal: u32::from(refusal),
+                value: 0,
+            },
+        }
     }
 }
 
@@ -36,37 +33,36 @@ fn numbers_of(answer: Answer) -> Element
 pub extern "C" fn filzeur_field(p: u32) -> u32
     ensures { result ≡ field_refusal p }
 {
-    number_of(Field::new(p))
+    match Field::new(p) {
+        Ok(_) => 0,
+        Err(refusal) => u32::from(refusal),
+    }
 }
 
 #[unsafe(no_mangle)]
 pub extern "C" fn filzeur_sum(p: u32, a: u32, b: u32) -> Element
     ensures { result ≡ element_of (operation_refusal p a b) (operation_answer plus p a b) }
 {
-    let field = Field { p };
-    numbers_of(field.sum(a, b))
+    Element::from(Field { p }.sum(a, b))
 }
 
 #[unsafe(no_mangle)]
 pub extern "C" fn filzeur_difference(p: u32, a: u32, b: u32) -> Element
     ensures { result ≡ element_of (operation_refusal p a b) (operation_answer minus p a b) }
 {
-    let field = Field { p };
-    numbers_of(field.difference(a, b))
+    Element::from(Field { p }.difference(a, b))
 }
 
 #[unsafe(no_mangle)]
 pub extern "C" fn filzeur_product_of(p: u32, a: u32, b: u32) -> Element
     ensures { result ≡ element_of (operation_refusal p a b) (operation_answer times p a b) }
 {
-    let field = Field { p };
-    numbers_of(field.product(a, b))
+    Element::from(Field { p }.product(a, b))
 }
 
 #[unsafe(no_mangle)]
 pub extern "C" fn filzeur_inverse(p: u32, a: u32) -> Element
     ensures { result ≡ element_of (inverse_refusal p a) (inverse_answer p a) }
 {
-    let field = Field { p };
-    numbers_of(field.inverse(a))
+    Element::from(Field { p }.inverse(a))
 }

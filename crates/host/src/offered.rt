@@ -1,12 +1,14 @@
 // The checks of answers that anyone offers.
 ghost use Rattle.std.specs.Prelude.{◌≡◌, Bool, ℕ};
-ghost use Rattle.meaning.specs.Matrix.{Matrix, matrix, entry_count, multiplied};
+ghost use Rattle.meaning.specs.Matrix.{Matrix as MatrixMeaning, matrix, entry_count, multiplied};
 ghost use Rattle.meaning.specs.Refusal.{unless_refused};
 ghost use Rattle.meaning.specs.Calls.{takes_refusal, takes_answer, takes_count, is_null_refusal, is_null_answer, is_null_count};
 ghost use Rattle.wiedemann.specs.Answers.{Decides};
 ghost use Rattle.host.specs.Answers.{yes_of};
 
+use checks::Matrix;
 use field::Field;
+use refusal::Refusal;
 use wiedemann::offered::{Offered, is_null, takes};
 
 #[repr(C)]
@@ -18,24 +20,23 @@ pub struct Yes {
     pub multiplied: u64,
 }
 
-fn numbers_of(offered: Offered) -> Yes
-    ensures { (number : ℕ) (answer : Bool) (A : Matrix) → Decides offered number answer A
-        → result ≡ yes_of number answer (unless_refused number (multiplied 1 A) 0) }
-{
-    match offered {
-        Offered::Answer(answer, multiplied) => {
-            let yes = answer as u32;
-            Yes {
+impl From<Result<Offered, Refusal>> for Yes {
+    ghost from_gives = { λ answer numbers. (number : ℕ) (yes : Bool) (A : MatrixMeaning) → Decides answer number yes A
+        → numbers ≡ yes_of number yes (unless_refused number (multiplied 1 A) 0) };
+
+    fn from(answer: Result<Offered, Refusal>) -> Yes {
+        match answer {
+            Ok(found) => Yes {
                 refusal: 0,
-                yes,
-                multiplied,
-            }
+                yes: u32::from(found.holds),
+                multiplied: found.multiplied,
+            },
+            Err(refusal) => Yes {
+                refusal: u32::from(refusal),
+                yes: 0,
+                multiplied: 0,
+            },
         }
-        Offered::Refused(refusal) => Yes {
-            refusal,
-            yes: 0,
-            multiplied: 0,
-        },
     }
 }
 
@@ -53,7 +54,12 @@ pub extern "C" fn filzeur_takes(
         (takes_count p (matrix starts.now columns.now values.now) x.now b.now) }
     ensures multiplied_value { result.multiplied ≡ unless_refused result.refusal (entry_count (matrix starts.now columns.now values.now)) 0 }
 {
-    numbers_of(takes(Field { p }, starts, columns, values, x, b))
+    let a = Matrix {
+        starts,
+        columns,
+        values,
+    };
+    Yes::from(takes(Field { p }, &a, x, b))
 }
 
 #[unsafe(no_mangle)]
@@ -69,5 +75,10 @@ pub extern "C" fn filzeur_is_null(
         (is_null_count p (matrix starts.now columns.now values.now) w.now) }
     ensures multiplied_value { result.multiplied ≡ unless_refused result.refusal (entry_count (matrix starts.now columns.now values.now)) 0 }
 {
-    numbers_of(is_null(Field { p }, starts, columns, values, w))
+    let a = Matrix {
+        starts,
+        columns,
+        values,
+    };
+    Yes::from(is_null(Field { p }, &a, w))
 }

@@ -1,14 +1,15 @@
 // Av, the transposed product and g(A)v.
 ghost use Rattle.std.specs.Prelude.{◌≡◌, ◌≢◌, ℕ, ◌-◌, ◌*◌, length};
-ghost use Rattle.meaning.specs.Matrix.{Matrix, matrix, entry_count, multiplied};
+ghost use Rattle.meaning.specs.Matrix.{Matrix as MatrixMeaning, matrix, entry_count, multiplied};
 ghost use Rattle.meaning.specs.Matrix as meaning;
 ghost use Rattle.meaning.specs.Calls.{product_refusal, product_after, product_count, apply_refusal, apply_after, apply_count};
 ghost use Rattle.meaning.specs.Refusal.{unless_refused};
 ghost use Rattle.checks.specs.Answers.{Writes};
 ghost use Rattle.host.specs.Answers.{written_of};
 
-use checks::Writing;
+use checks::{Matrix, Products};
 use field::Field;
+use refusal::Refusal;
 use transposed::transposed;
 use wiedemann::matrix::{apply, product};
 
@@ -19,18 +20,21 @@ pub struct Written {
     pub multiplied: u64,
 }
 
-fn numbers_of(writing: Writing) -> Written
-    ensures { (number k : ℕ) (A : Matrix) → Writes writing number k A → result ≡ written_of number (unless_refused number (multiplied k A) 0) }
-{
-    match writing {
-        Writing::Done(done) => Written {
-            refusal: 0,
-            multiplied: done.multiplied,
-        },
-        Writing::Refused(refusal) => Written {
-            refusal,
-            multiplied: 0,
-        },
+impl From<Result<Products, Refusal>> for Written {
+    ghost from_gives = { λ answer numbers. (number k : ℕ) (A : MatrixMeaning) → Writes answer number k A
+        → numbers ≡ written_of number (unless_refused number (multiplied k A) 0) };
+
+    fn from(answer: Result<Products, Refusal>) -> Written {
+        match answer {
+            Ok(done) => Written {
+                refusal: 0,
+                multiplied: done.multiplied,
+            },
+            Err(refusal) => Written {
+                refusal: u32::from(refusal),
+                multiplied: 0,
+            },
+        }
     }
 }
 
@@ -48,7 +52,12 @@ pub extern "C" fn filzeur_product(
     ensures multiplied_value { result.multiplied ≡ unless_refused result.refusal (entry_count (matrix starts.now columns.now values.now)) 0 }
     ensures out_after { out.new ≡ product_after meaning.product p (matrix starts.now columns.now values.now) v.now out.old }
 {
-    numbers_of(product(Field { p }, starts, columns, values, v, out))
+    let a = Matrix {
+        starts,
+        columns,
+        values,
+    };
+    Written::from(product(Field { p }, &a, v, out))
 }
 
 #[unsafe(no_mangle)]
@@ -65,7 +74,12 @@ pub extern "C" fn filzeur_transposed(
     ensures multiplied_value { result.multiplied ≡ unless_refused result.refusal (entry_count (matrix starts.now columns.now values.now)) 0 }
     ensures out_after { out.new ≡ product_after meaning.transposed p (matrix starts.now columns.now values.now) v.now out.old }
 {
-    numbers_of(transposed(Field { p }, starts, columns, values, v, out))
+    let a = Matrix {
+        starts,
+        columns,
+        values,
+    };
+    Written::from(transposed(Field { p }, &a, v, out))
 }
 
 #[unsafe(no_mangle)]
@@ -89,5 +103,10 @@ pub extern "C" fn filzeur_apply(
     ensures work_unchanged { apply_refusal p (matrix starts.now columns.now values.now) g.now v.now
         out.old work.old ≢ 0 → work.new ≡ work.old }
 {
-    numbers_of(apply(Field { p }, starts, columns, values, g, v, out, work))
+    let a = Matrix {
+        starts,
+        columns,
+        values,
+    };
+    Written::from(apply(Field { p }, &a, g, v, out, work))
 }

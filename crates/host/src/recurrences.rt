@@ -1,12 +1,13 @@
 // The shortest recurrence.
-ghost use Rattle.std.specs.Prelude.{◌≡◌, ◌≢◌, ℕ, ◌+◌, ◌≤◌, take};
+ghost use Rattle.std.specs.Prelude.{IfOk, ◌≡◌, ◌≢◌, ℕ, ◌+◌, ◌≤◌, take};
 ghost use Rattle.meaning.specs.Recurrence.{IsShortest};
 ghost use Rattle.meaning.specs.Calls.{recurrence_refusal, recurrence_answer, recurrence_after};
 ghost use Rattle.recurrence.specs.Recurrence.{GivesDegree};
 ghost use Rattle.host.specs.Answers.{degree_of};
 
 use field::Field;
-use recurrence::{Answer, recurrence};
+use recurrence::recurrence;
+use refusal::Refusal;
 
 #[repr(C)]
 #[derive(Clone, Copy)]
@@ -15,17 +16,20 @@ pub struct Degree {
     pub degree: u32,
 }
 
-// A list has at most 8,192 elements, so 32 bits are enough for L.
-fn numbers_of(answer: Answer) -> Degree
-    requires { (L : ℕ) → answer ≡ Answer.Degree L → L ≤ 8192 }
+// A list has at most 8,192 elements, so 32 bits are enough for L. (`From` could not ask for that.)
+fn numbers_of(answer: Result<usize, Refusal>) -> Degree
+    requires { IfOk answer (λ L. L ≤ 8192) }
     ensures { (number L : ℕ) → GivesDegree answer number L → result ≡ degree_of number L }
 {
     match answer {
-        Answer::Degree(degree) => Degree {
+        Ok(degree) => Degree {
             refusal: 0,
             degree: degree as u32,
         },
-        Answer::Refused(refusal) => Degree { refusal, degree: 0 },
+        Err(refusal) => Degree {
+            refusal: u32::from(refusal),
+            degree: 0,
+        },
     }
 }
 

@@ -6,7 +6,9 @@ ghost use Rattle.solver.specs.Verdict.{Says};
 ghost use Rattle.host.specs.Answers.{verdict_of};
 ghost use Rattle.host.specs.Runs.{Answered};
 
+use checks::Matrix;
 use field::Field;
+use refusal::Refusal;
 use solver::{Counts, solve};
 
 #[repr(C)]
@@ -35,20 +37,22 @@ fn counted(kind: u32, c: Counts) -> Verdict
     }
 }
 
-fn numbers_of(verdict: solver::Verdict) -> Verdict
-    ensures { (number : ℕ) (o : Outcome) → Says verdict number o → result ≡ verdict_of number o }
-{
-    match verdict {
-        solver::Verdict::Solved(c) => counted(1, c),
-        solver::Verdict::Singular(c) => counted(2, c),
-        solver::Verdict::Refused(refusal) => Verdict {
-            refusal,
-            kind: 0,
-            degree: 0,
-            passes: 0,
-            applications: 0,
-            multiplied: 0,
-        },
+impl From<Result<solver::Verdict, Refusal>> for Verdict {
+    ghost from_gives = { λ answer numbers. (number : ℕ) (o : Outcome) → Says answer number o → numbers ≡ verdict_of number o };
+
+    fn from(answer: Result<solver::Verdict, Refusal>) -> Verdict {
+        match answer {
+            Ok(solver::Verdict::Solved(c)) => counted(1, c),
+            Ok(solver::Verdict::Singular(c)) => counted(2, c),
+            Err(refusal) => Verdict {
+                refusal: u32::from(refusal),
+                kind: 0,
+                degree: 0,
+                passes: 0,
+                applications: 0,
+                multiplied: 0,
+            },
+        }
     }
 }
 
@@ -72,11 +76,14 @@ pub extern "C" fn filzeur_solve(
         b.now words.now window vector.old polynomial.old bill.old work.old result
         vector.new polynomial.new bill.new work.new }
 {
-    numbers_of(solve(
-        Field { p },
+    let a = Matrix {
         starts,
         columns,
         values,
+    };
+    Verdict::from(solve(
+        Field { p },
+        &a,
         scales,
         b,
         words,

@@ -2,14 +2,17 @@
 ghost use Rattle.std.specs.Prelude.{◌≡◌, ◌≤◌};
 ghost use Rattle.meaning.specs.Matrix.{matrix};
 ghost use Rattle.meaning.specs.Calls.{reader_refusal, reader_answer, reader_after, writer_refusal, writer_answer, writer_after};
-ghost use Rattle.system_reader.specs.Answers.{refusal_of_read, modulus_of_read, size_of_read, count_of_read, starts_of_system, columns_of_system};
+ghost use Rattle.refusal.specs.Number.{refused_by};
+ghost use Rattle.system_reader.specs.Answers.{modulus_of_read, size_of_read, count_of_read, starts_of_system, columns_of_system};
 ghost use Rattle.system_reader.specs.Answers.{values_of_system, scales_of_system, right_of_system, modulus_of_document, size_of_document, count_of_document};
-ghost use Rattle.system_writer.specs.Answers.{refusal_of_written, length_of_written};
+ghost use Rattle.system_writer.specs.Answers.{length_of_written};
 ghost use Rattle.text_call.specs.Checks.{Called};
 ghost use Rattle.host.specs.Answers.{system_of, length_of};
 
-use system_reader::{Reading, read};
-use system_writer::{Written, write};
+use checks::Matrix;
+use refusal::Refusal;
+use system_reader::{Header, read};
+use system_writer::write;
 
 #[repr(C)]
 #[derive(Clone, Copy)]
@@ -27,36 +30,41 @@ pub struct Length {
     pub length: u32,
 }
 
-fn numbers_of_system(reading: Reading) -> System
-    ensures { result ≡ system_of (refusal_of_read reading) (modulus_of_read reading) (size_of_read reading) (count_of_read reading) }
-{
-    match reading {
-        Reading::Read(modulus, size, entries) => System {
-            refusal: 0,
-            modulus,
-            size,
-            entries,
-        },
-        Reading::Refused(refusal) => System {
-            refusal,
-            modulus: 0,
-            size: 0,
-            entries: 0,
-        },
+impl From<Result<Header, Refusal>> for System {
+    ghost from_gives = { λ answer numbers. numbers ≡ system_of (refused_by answer) (modulus_of_read answer) (size_of_read answer) (count_of_read answer) };
+
+    fn from(answer: Result<Header, Refusal>) -> System {
+        match answer {
+            Ok(header) => System {
+                refusal: 0,
+                modulus: header.modulus,
+                size: header.size,
+                entries: header.entries,
+            },
+            Err(refusal) => System {
+                refusal: u32::from(refusal),
+                modulus: 0,
+                size: 0,
+                entries: 0,
+            },
+        }
     }
 }
 
-// No accepted text is longer than the reader takes, so 32 bits are enough.
-fn numbers_of_length(written: Written) -> Length
-    requires { length_of_written written ≤ 2097152 }
-    ensures { result ≡ length_of (refusal_of_written written) (length_of_written written) }
+// No accepted text is longer than the reader takes, so 32 bits are enough. (`From` could not ask for that.)
+fn numbers_of(answer: Result<usize, Refusal>) -> Length
+    requires { length_of_written answer ≤ 2097152 }
+    ensures { result ≡ length_of (refused_by answer) (length_of_written answer) }
 {
-    match written {
-        Written::Length(length) => Length {
+    match answer {
+        Ok(length) => Length {
             refusal: 0,
             length: length as u32,
         },
-        Written::Refused(refusal) => Length { refusal, length: 0 },
+        Err(refusal) => Length {
+            refusal: u32::from(refusal),
+            length: 0,
+        },
     }
 }
 
@@ -85,7 +93,7 @@ pub extern "C" fn filzeur_read(
     ensures right_after { right.new ≡ reader_after right_of_system right.old text.now starts.old columns.old
         values.old scales.old right.old }
 {
-    numbers_of_system(read(text, starts, columns, values, scales, right))
+    System::from(read(text, starts, columns, values, scales, right))
 }
 
 #[unsafe(no_mangle)]
@@ -104,7 +112,12 @@ pub extern "C" fn filzeur_write(
     ensures text_after { text.new
         ≡ writer_after p (matrix starts.now columns.now values.now) scales.now b.now text.old }
 {
-    numbers_of_length(write(p, starts, columns, values, scales, b, text))
+    let a = Matrix {
+        starts,
+        columns,
+        values,
+    };
+    numbers_of(write(p, &a, scales, b, text))
 }
 
 // The call of crate text_call: a static library exports its own functions only, so it is named here again.

@@ -15,13 +15,10 @@ use line_writer::put_line;
 fn put_lines(out: &mut [u8]) -> usize
     ensures { Wrote out.old 0 inverses_text result out.new }
 {
-    let mut next: usize = 0;
-    let mut i: u32 = 0;
-    while i < 250 {
-        let element = i + 1;
+    let mut next = 0;
+    for element in 1..=250 {
         let inverse = inverse_by_euclid(251, element);
-        next = put_line(out, next, b"i", &[element as u64, inverse as u64]);
-        i += 1;
+        next = put_line(out, next, b"i", &[u64::from(element), u64::from(inverse)]);
     }
     next
 }

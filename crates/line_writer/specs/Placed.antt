@@ -4,6 +4,7 @@
 --     placed_after         a word right after another: placed (placed l at v) (at + length v) w ≡ placed l at (v ++ w)
 --     placed_before        .. and right before it: placed (placed l (at + length v) w) at v ≡ placed l at (v ++ w)
 --     store_before, store_after      .. where the second word is one byte that is stored
+--     placed_part          a part that was written over
 --     placed_start         at place 0 it is meaning's overwrite
 use Rattle.std.specs.Prelude.{◌≡◌, List, [], ◌∷◌, ◌++◌, ℕ, suc, ◌+◌, ◌≤◌, ◌<◌, take, drop, set}
 use Rattle.std.proofs.Common.{sym, ap, ap₂, ◌∙◌, append_assoc, append-nil, add-one, take-append-drop, take_at, drop_at, take-take, drop-drop}
@@ -11,6 +12,7 @@ use native.Mathlib.Omega.{arith}
 use Rattle.std.proofs.Math.ListN.{length, length-append, length-drop}
 use Rattle.std.proofs.Math.Seq.{length-take-le, drop-append-add, append_snoc}
 use Rattle.std.proofs.lemmas.List.{take-append-le, set_split}
+use borrow.Rule.Slice.PartMut.{put_mid}
 use Rattle.meaning.specs.List.{overwrite}
 
 unfoldable pub placed : List ℕ → ℕ → List ℕ → List ℕ
@@ -42,6 +44,13 @@ pub placed_one : (l : List ℕ) (at x : ℕ) → at < length l → set l at x �
 unfolding placed
 placed_one l at x h =
     set_split l at x h ∙ sym (append_snoc (take at l) x (drop (suc at) l)) ∙ ap (λ k. take at l ++ (x ∷ []) ++ drop k l) (sym (add-one at))
+
+-- a part that became the word, whose length the part's is
+pub placed_part : (l : List ℕ) (at k : ℕ) (w : List ℕ) → k ≡ length w → put_mid at k l w ≡ placed l at w
+unfolding placed
+placed_part l at k w e =
+    sym (append_assoc (take at l) w (drop k (drop at l)))
+    ∙ ap (λ m. take at l ++ w ++ m) (ap (λ i. drop i (drop at l)) e ∙ drop-drop (length w) at l)
 
 pub placed_start : (l w : List ℕ) → placed l 0 w ≡ overwrite w l
 unfolding placed

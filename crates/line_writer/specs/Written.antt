@@ -7,7 +7,7 @@
 --     line_length n ks      the length of a line of a word of n bytes and of these numbers
 --     Wrote l at w r m     w was written into l from `at` on: r is the place after it, and m what it leaves, if there is room for all of w
 -- Laws:
---     capped_low, capped_high, capped_plus, capped_add      the two cases; a sum of capped numbers
+--     capped_low, capped_high, capped_min, capped_plus, capped_add      the two cases; a saturating sum; a sum of capped numbers
 --     written_fits, written_not      the two cases
 --     line_fields_law, length_line       a line and its length by its fields
 --     fields_nil, fields_more, fields_room      the fields of the first numbers
@@ -16,7 +16,7 @@
 --     wrote_none, wrote_then, wrote_as      nothing; one after the other; the same bytes said otherwise
 --     wrote_rows_none, wrote_rows_more      a table of lists, list by list
 --     wrote_start          what was written at place 0 overwrites
-use Rattle.std.specs.Prelude.{◌≡◌, refl, ◌⊎◌, true, false, ◌&&◌, List, [], ◌∷◌, ◌++◌, map, ℕ, ◌+◌, ◌≤◌, ◌<◌, ltb, leb, get_or, length, take, drop, set}
+use Rattle.std.specs.Prelude.{◌≡◌, refl, ◌⊎◌, true, false, ◌&&◌, List, [], ◌∷◌, ◌++◌, map, ℕ, ◌+◌, ◌≤◌, ◌<◌, ltb, leb, min, get_or, length, take, drop, set}
 use Rattle.std.proofs.Common.{sym, ap₂, subst, ◌∙◌, inl, inr, arith, add-one, length-append, take-append-drop, take-suc, lt-ltb, le-ltb, ltb-true, ltb-false, le-leb, leb-true}
 use Rattle.std.proofs.Math.Path.{ap}
 use Rattle.std.proofs.Math.Bool.{cond}
@@ -66,6 +66,10 @@ by_last {P} k f g = go (test_cases (ltb k last))
     go : (ltb k last ≡ true) ⊎ (ltb k last ≡ false) → P
     go (inl e) = f (ltb-true k last e)
     go (inr e) = g (ltb-false k last e)
+
+-- what a saturating sum is
+pub capped_min : (k : ℕ) → min k last ≡ capped k
+capped_min k = by_last k (λ h. omega (arith, capped_low k h)) (λ h. omega (arith, capped_high k h))
 
 pub capped_plus : (a b : ℕ) → capped (capped a + b) ≡ capped (a + b)
 capped_plus a b =

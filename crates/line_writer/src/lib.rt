@@ -10,40 +10,20 @@ ghost use Rattle.meaning.specs.Text.{decimal, line};
 ghost use Rattle.line_writer.specs.Placed.{placed};
 ghost use Rattle.line_writer.specs.Written.{last, capped, after, written, fields, line_length};
 
-// a + b, or the last place where that is more.
-fn plus(a: usize, b: usize) -> usize
-    ensures { result ≡ capped (a + b) }
-{
-    if a < 18446744073709551615 - b {
-        a + b
-    } else {
-        18446744073709551615
-    }
-}
-
 // The number of k's digits.
 fn digits_of(k: u64) -> usize
     ensures { (result ≡ length (decimal k)) × (result ≤ 20) }
 {
-    let mut digits = 1;
-    let mut rest = k;
-    while rest >= 10 {
-        rest /= 10;
-        digits += 1;
-    }
-    digits
+    k.max(1).ilog10() as usize + 1
 }
 
 // The length of a line of a word of so many bytes and of these numbers.
 fn length_of(word: usize, numbers: &[u64]) -> usize
     ensures { result ≡ capped (line_length word numbers.now) }
 {
-    let mut bytes = plus(word, 1);
-    let mut i = 0;
-    while i < numbers.len() {
-        let digits = digits_of(numbers[i]);
-        bytes = plus(bytes, 1 + digits);
-        i += 1;
+    let mut bytes = word.saturating_add(1);
+    for k in numbers {
+        bytes = bytes.saturating_add(1 + digits_of(*k));
     }
     bytes
 }
@@ -52,21 +32,18 @@ fn length_of(word: usize, numbers: &[u64]) -> usize
 fn has_room(room: usize, end: usize) -> bool
     ensures { result ≡ ltb end last && leb end room }
 {
-    if end < 18446744073709551615 {
-        end <= room
-    } else {
-        false
-    }
+    end < usize::MAX && end <= room
 }
 
 fn digit(x: u64) -> u8
     requires { x < 10 }
     ensures { result ≡ 48 + x }
 {
-    48 + x as u8
+    b'0' + x as u8
 }
 
 // Writes k's digits, as many as said, from the last.
+#[tactic(auto, using(text_laws::specs::Numeral::decimal_positive))]
 fn put_digits(out: &mut [u8], at: usize, digits: usize, k: u64)
     requires digits_value { digits ≡ length (decimal k) }
     requires digits_in_bounds { at + digits ≤ length out.old }
@@ -82,15 +59,12 @@ fn put_digits(out: &mut [u8], at: usize, digits: usize, k: u64)
     out[at] = digit(rest);
 }
 
+#[tactic(auto, using(crate::specs::Placed::placed_part))]
 fn put_word(out: &mut [u8], at: usize, word: &[u8])
     requires { at + length word.now ≤ length out.old }
     ensures { out.new ≡ placed out.old at word.now }
 {
-    let mut i = 0;
-    while i < word.len() {
-        out[at + i] = word[i];
-        i += 1;
-    }
+    out[at..at + word.len()].copy_from_slice(word);
 }
 
 // Writes the numbers, a tab before each.
@@ -99,14 +73,11 @@ fn put_fields(out: &mut [u8], at: usize, numbers: &[u64])
     ensures { out.new ≡ placed out.old at (fields numbers.now) }
 {
     let mut next = at;
-    let mut i = 0;
-    while i < numbers.len() {
-        let k = numbers[i];
-        let digits = digits_of(k);
+    for k in numbers {
+        let digits = digits_of(*k);
         out[next] = b'\t';
-        put_digits(out, next + 1, digits, k);
-        next = next + 1 + digits;
-        i += 1;
+        put_digits(out, next + 1, digits, *k);
+        next += 1 + digits;
     }
 }
 
@@ -115,7 +86,7 @@ pub fn put_line(out: &mut [u8], at: usize, word: &[u8], numbers: &[u64]) -> usiz
     ensures value { result ≡ after at (line (word.now ∷ map decimal numbers.now)) }
     ensures out_after { out.new ≡ written out.old at (line (word.now ∷ map decimal numbers.now)) }
 {
-    let end = plus(at, length_of(word.len(), numbers));
+    let end = at.saturating_add(length_of(word.len(), numbers));
     if has_room(out.len(), end) {
         put_word(out, at, word);
         put_fields(out, at + word.len(), numbers);

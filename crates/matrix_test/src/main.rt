@@ -8,36 +8,41 @@
 
 ghost use Rattle.std.specs.Prelude.{◌≤◌};
 
-use checks::Writing;
+use checks::{Matrix, Products};
 use field::Field;
+use refusal::Refusal;
 use std::io;
-use test_io::{at, front, list, part, place, print, show};
+use test_io::{FREE, LENT, MEMORY, at, filled, front, list, part, place, print, show};
 use wiedemann::offered::Offered;
 
 // The answer; the places of work that the call was free to change.
-fn print_writing(rt: &impl Print, writing: Writing, work: usize) -> io::Result<usize> {
-    match writing {
-        Writing::Done(products) => {
+fn print_writing(
+    rt: &impl Print,
+    answer: Result<Products, Refusal>,
+    work: usize,
+) -> io::Result<usize> {
+    match answer {
+        Ok(products) => {
             print(rt, 0)?;
             print(rt, products.made as u64)?;
             print(rt, products.multiplied)?;
             Ok(work)
         }
-        Writing::Refused(number) => {
-            print(rt, number as u64)?;
+        Err(refusal) => {
+            print(rt, u64::from(u32::from(refusal)))?;
             Ok(0)
         }
     }
 }
 
-fn print_verdict(rt: &impl Print, verdict: Offered) -> io::Result<()> {
-    match verdict {
-        Offered::Answer(yes, multiplied) => {
+fn print_verdict(rt: &impl Print, answer: Result<Offered, Refusal>) -> io::Result<()> {
+    match answer {
+        Ok(found) => {
             print(rt, 0)?;
-            print(rt, if yes { 1 } else { 0 })?;
-            print(rt, multiplied)
+            print(rt, u64::from(found.holds))?;
+            print(rt, found.multiplied)
         }
-        Offered::Refused(number) => print(rt, number as u64),
+        Err(refusal) => print(rt, u64::from(u32::from(refusal))),
     }
 }
 
@@ -46,28 +51,25 @@ fn calls(rt: &impl Print, memory: &[u32], from: usize) -> io::Result<()> {
     let room = place(head, 1);
     let scratch = place(head, 2);
     let f = Field { p: at(head, 0) };
-    let starts = list(memory, from, 1);
-    let columns = list(memory, from, 2);
-    let values = list(memory, from, 3);
+    let a = Matrix {
+        starts: list(memory, from, 1),
+        columns: list(memory, from, 2),
+        values: list(memory, from, 3),
+    };
     let v = list(memory, from, 5);
-    let mut out = test_io::lent();
-    let product = wiedemann::matrix::product(f, starts, columns, values, v, front(&mut out, room));
+    let mut out: [u32; LENT] = filled(FREE);
+    let product = wiedemann::matrix::product(f, &a, v, front(&mut out, room));
     print_writing(rt, product, 0)?;
     show(rt, &out, 0, room)?;
     let left = part(&out, 0, room);
-    print_verdict(
-        rt,
-        wiedemann::offered::takes(f, starts, columns, values, v, left),
-    )?;
-    let transposed = transposed::transposed(f, starts, columns, values, v, front(&mut out, room));
+    print_verdict(rt, wiedemann::offered::takes(f, &a, v, left))?;
+    let transposed = transposed::transposed(f, &a, v, front(&mut out, room));
     print_writing(rt, transposed, 0)?;
     show(rt, &out, 0, room)?;
-    let mut work = test_io::lent();
+    let mut work: [u32; LENT] = filled(FREE);
     let applied = wiedemann::matrix::apply(
         f,
-        starts,
-        columns,
-        values,
+        &a,
         list(memory, from, 4),
         v,
         front(&mut out, room),
@@ -77,14 +79,8 @@ fn calls(rt: &impl Print, memory: &[u32], from: usize) -> io::Result<()> {
     show(rt, &out, 0, room)?;
     show(rt, &work, free, scratch)?;
     let b = list(memory, from, 6);
-    print_verdict(
-        rt,
-        wiedemann::offered::takes(f, starts, columns, values, v, b),
-    )?;
-    print_verdict(
-        rt,
-        wiedemann::offered::is_null(f, starts, columns, values, v),
-    )?;
+    print_verdict(rt, wiedemann::offered::takes(f, &a, v, b))?;
+    print_verdict(rt, wiedemann::offered::is_null(f, &a, v))?;
     test_io::end_line(rt)
 }
 
@@ -191,13 +187,13 @@ fn case(rt: &impl Print, memory: &[u32], from: usize) -> io::Result<()> {
     if head.len() == 3 {
         return calls(rt, memory, from);
     }
-    let mut lists = test_io::memory();
+    let mut lists: [u32; MEMORY] = filled(0);
     make(head, &mut lists);
     calls(rt, &lists, 0)
 }
 
 fn main(rt: HostRuntime) -> io::Result<()> {
-    let mut room = test_io::memory();
+    let mut room: [u32; MEMORY] = filled(0);
     test_io::read_numbers(&mut rt.stdin(), &mut room)?;
     let memory: &[u32] = &room;
     let cases = at(memory, 0);

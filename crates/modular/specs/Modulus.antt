@@ -68,7 +68,6 @@ lessened_whole : (x y : ℕ) → y ≤ x → x - y < 4294967296 → lessened x y
 unfolding lessened
 lessened_whole x y l k = omega (arith, l, k)
 
--- of y the lower 32 bits are enough
 pub lessened_mod : (x y z : ℕ) → y % 4294967296 ≡ z % 4294967296 → lessened x y ≡ lessened x z
 unfolding lessened
 lessened_mod x y z e = ap (λ n. (x + (4294967296 - n)) % 4294967296) e

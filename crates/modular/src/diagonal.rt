@@ -11,9 +11,7 @@ pub fn scale(m: Modulus, scales: &[u32], v: &mut [u32])
     if scales.len() != v.len() {
         return;
     }
-    let mut i = 0;
-    while i < v.len() {
+    for i in 0..v.len() {
         v[i] = m.product(v[i], scales[i]);
-        i += 1;
     }
 }

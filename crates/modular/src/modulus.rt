@@ -6,9 +6,6 @@ ghost use Rattle.std.specs.Prelude.{◌≡◌, ◌+◌, ◌*◌, ◌/◌, ◌%�
 ghost use Rattle.modular.specs.Modulus.{lessened, restored, reduced, modulus_of, barrett, quotient_of, difference_of};
 
 use crate::sums::times;
-use std::num::{wrapping_add_u32, wrapping_sub_u32, wrapping_sub_u64};
-
-const MAX: u64 = 18446744073709551615;
 
 #[derive(Clone, Copy)]
 pub struct Modulus {
@@ -20,37 +17,34 @@ pub struct Modulus {
 }
 
 // The lower 32 bits of x − y: all of the difference, where it is known to be that small.
+#[tactic(auto, unfolding(crate::specs::Modulus::lessened))]
 pub(crate) fn lessened(x: u64, y: u64) -> u32
     ensures { result ≡ lessened x y }
 {
-    (wrapping_sub_u64(x, y) % 4294967296) as u32
+    (x.wrapping_sub(y) % 4294967296) as u32
 }
 
 // d, and p again where d's top bit says that it is below zero. Arithmetic and no `if`, which would be an unpredictable branch for an entry.
+#[tactic(auto, unfolding(crate::specs::Modulus::restored))]
 fn restored(p: u32, d: u32) -> u32
     ensures { result ≡ restored p d }
 {
-    wrapping_add_u32(d, d / 2147483648 * p)
+    d.wrapping_add((d >> 31) * p)
 }
 
 // s modulo p for s below 2p.
+#[tactic(auto, unfolding(crate::specs::Modulus::reduced, crate::specs::Modulus::lessened))]
 pub(crate) fn reduced(p: u32, s: u32) -> u32
     ensures { result ≡ reduced p s }
 {
-    restored(p, wrapping_sub_u32(s, p))
+    restored(p, s.wrapping_sub(p))
 }
 
-// The upper word of a product, from the products of the halves.
+// The upper word of a product: one multiplication, as LLVM compiles it.
 fn upper(a: u64, b: u64) -> u64
     ensures { result ≡ a * b / 18446744073709551616 }
 {
-    let front = a / 4294967296;
-    let back = a % 4294967296;
-    let first = b / 4294967296;
-    let last = b % 4294967296;
-    let middle = front * last + back * last / 4294967296;
-    let rest = back * first + middle % 4294967296;
-    front * first + middle / 4294967296 + rest / 4294967296
+    ((a as u128 * b as u128) >> 64) as u64
 }
 
 // r + 1 modulo p, for r below p.
@@ -76,12 +70,13 @@ impl Modulus {
         let m = p as u64;
         Modulus {
             p,
-            weight: successor(p, (MAX % m) as u32),
-            reciprocal: MAX / m,
+            weight: successor(p, (u64::MAX % m) as u32),
+            reciprocal: u64::MAX / m,
         }
     }
 
     // x modulo p, after Barrett: the quotient that the reciprocal gives is right or one too small, so that 32 bits of the difference are all of it.
+    #[tactic(auto, using(crate::specs::Words::words_fit, residue::specs::Numbers::mod_mul_mod), unfolding(crate::specs::Modulus::barrett, crate::specs::Modulus::lessened))]
     pub fn remainder(self, x: u64) -> u32
         ensures { result ≡ barrett self x }
     {
@@ -91,20 +86,22 @@ impl Modulus {
     }
 
     // The quotient of x by p, 32 bits of it: the one that the reciprocal gives is right or one too small, and what it leaves of x says which.
+    #[tactic(auto, using(crate::specs::Words::words_fit), unfolding(crate::specs::Modulus::quotient_of))]
     pub fn quotient(self, x: u64) -> u32
         ensures { result ≡ quotient_of self x }
     {
         let near = upper(self.reciprocal, x) % 4294967296;
         let rest = lessened(x, near * (self.p as u64));
         let more = if rest < self.p { 0 } else { 1 };
-        wrapping_add_u32(near as u32, more)
+        (near as u32).wrapping_add(more)
     }
 
     // a − b modulo p.
+    #[tactic(auto, unfolding(crate::specs::Modulus::difference_of, crate::specs::Modulus::lessened))]
     pub fn difference(self, a: u32, b: u32) -> u32
         ensures { result ≡ difference_of self a b }
     {
-        restored(self.p, wrapping_sub_u32(a, b))
+        restored(self.p, a.wrapping_sub(b))
     }
 
     // a × b modulo p.

@@ -7,7 +7,6 @@ ghost use Rattle.modular.specs.Modulus.{multiplier_of, shoup, shoup_added};
 
 use crate::modulus::{Modulus, lessened, reduced};
 use crate::sums::times;
-use std::num::wrapping_add_u32;
 
 #[derive(Clone, Copy)]
 pub struct Multiplier {
@@ -23,22 +22,24 @@ impl Multiplier {
     {
         Multiplier {
             constant: c,
-            quotient: m.quotient((c as u64) * 4294967296),
+            quotient: m.quotient((c as u64) << 32),
         }
     }
 
     // constant × x modulo p: the multiple of p that is taken off leaves less than 2p.
+    #[tactic(auto, using(crate::specs::Words::words_fit), unfolding(crate::specs::Modulus::shoup))]
     pub fn times(self, p: u32, x: u32) -> u32
         ensures { result ≡ shoup p self x }
     {
-        let h = times(self.quotient, x) / 4294967296;
+        let h = times(self.quotient, x) >> 32;
         reduced(p, lessened(times(self.constant, x), h * (p as u64)))
     }
 
     // y + constant × x modulo p.
+    #[tactic(auto, unfolding(crate::specs::Modulus::shoup_added))]
     pub fn added(self, p: u32, x: u32, y: u32) -> u32
         ensures { result ≡ shoup_added p self x y }
     {
-        reduced(p, wrapping_add_u32(y, self.times(p, x)))
+        reduced(p, y.wrapping_add(self.times(p, x)))
     }
 }

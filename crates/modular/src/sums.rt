@@ -1,14 +1,14 @@
 // Sums of products of residues with one reduction at the end, and neither a division nor an unpredictable branch for a product: the sum stands in two
 // words, and the carry of the lower one goes into the higher.
 //
-//     let mut total = Total { low: start, high: 0 };
-//     total = total.add(x);         // for each word x: up to four products of residues, or two of a residue with any 32-bit word
+//     let start = Total { low: word, high: 0 };
+//     let total = sum_by::<4, _>(start, from, to, term);   // four products of residues fit a word, and two of a residue with any 32-bit word
 //     total.residue(m)
-ghost use Rattle.std.specs.Prelude.{◌≡◌, ◌*◌};
+ghost use Rattle.std.specs.Prelude.{◌≡◌, ℕ, ◌*◌, ◌^◌, ◌<◌, ◌≤◌};
 ghost use Rattle.modular.specs.Total.{added, residue_of};
+ghost use Rattle.modular.specs.Sums.{Summed};
 
 use crate::modulus::Modulus;
-use std::num::{wrapping_add_u32, wrapping_add_u64};
 
 // The number low + high × 2⁶⁴.
 #[derive(Clone, Copy)]
@@ -18,26 +18,61 @@ pub struct Total {
 }
 
 // The whole product of two 32-bit words.
+#[tactic(auto, using(crate::specs::Words::words_fit))]
 pub fn times(a: u32, b: u32) -> u64
     ensures { result ≡ a * b }
 {
     (a as u64) * (b as u64)
 }
 
+// The total with the terms from `from` up to but not including `to`: by groups of so many that a word holds their sum, and what is left one at a
+// time. So a group costs one addition and one with carry.
+pub fn sum_by<const GROUP: usize, F: Fn(usize) -> u64>(
+    total: Total,
+    from: usize,
+    to: usize,
+    term: F,
+) -> Total
+    ghost value: { ℕ → ℕ }
+    requires group { 0 < GROUP }
+    requires range { (from ≤ to) × (to < 4294967296) × (total.high ≤ from) }
+    requires callable { (k : ℕ) → from ≤ k → k < to → F.pre term k }
+    requires terms { (k x : ℕ) → from ≤ k → k < to → F.post term k x → (x ≡ value k) × (x * GROUP < 2 ^ 64) }
+    ensures { Summed total result from to value }
+{
+    let groups = (to - from) / GROUP;
+    let middle = from + groups * GROUP;
+    let mut sum = total;
+    for group in 0..groups {
+        let first = from + group * GROUP;
+        let mut word = 0;
+        for j in 0..GROUP {
+            word += term(first + j);
+        }
+        sum = sum.add(word);
+    }
+    for k in middle..to {
+        sum = sum.add(term(k));
+    }
+    sum
+}
+
 impl Total {
     // The lower word's carry goes into the higher: LLVM makes an addition and one with carry of it.
+    #[tactic(auto, unfolding(crate::specs::Total::added))]
     pub fn add(self, x: u64) -> Self
         ensures { result ≡ added self x }
     {
-        let low = wrapping_add_u64(self.low, x);
+        let low = self.low.wrapping_add(x);
         let carry = if low < x { 1 } else { 0 };
         Total {
             low,
-            high: wrapping_add_u32(self.high, carry),
+            high: self.high.wrapping_add(carry),
         }
     }
 
     // One in the higher word counts for 2⁶⁴, which is the weight modulo p. Of that word 32 bits are taken: so nothing overflows, whatever it holds.
+    #[tactic(auto, using(crate::specs::Total::high_fits, crate::specs::Total::fold_fits), unfolding(crate::specs::Total::residue_of, crate::specs::Total::added))]
     pub fn residue(self, m: Modulus) -> u32
         ensures { result ≡ residue_of m self }
     {

@@ -1,8 +1,9 @@
 -- What the tables' rule says of p.
 --     inverse_quotient, inverse_product      where v inverts q: p × v is the quotient if q divides p, and q × (p × v) is p if it is small
---     Free p d          no number from 2 to d − 1 divides p: free_five at the start, free_end past the root
+--     Free p d          no number from 2 to d − 1 divides p: free_end past the root
 --     walk_free, block_free, tables_free                p misses every inverse: no number of the walk, the block, block i divides it
 --     walk_missed, block_missed, tables_divided         a prime misses every inverse; so p is not prime if it does not
+--     two_or_three      2 and 3 are prime
 --     Block             the parts of a block's rule; tables_block: those of block i
 use mathlib.Core.Path.{◌≡◌, refl, sym, ap, subst, ◌∙◌}
 use mathlib.Core.Logic.{◌≢◌}
@@ -22,7 +23,7 @@ use Rattle.meaning.specs.List.{at, all}
 use Rattle.laws.specs.Bool.{and_left, and_right}
 use Rattle.laws.specs.List.{all_at, all_of}
 use Rattle.residue.specs.Numbers.{mul_mod_mod}
-use Rattle.residue.specs.Prime.{Prime, refuted, up_to_root, divisor_of_divisor}
+use Rattle.residue.specs.Prime.{Prime, is_prime_Prime, refuted, up_to_root, divisor_of_divisor}
 use Rattle.primality.specs.Blocks.{Candidate, Tables, inverts, misses, small_primes, divided, walk, block, blocks}
 
 module _ (w p q v : ℕ) (i : q * v % w ≡ 1) where
@@ -46,20 +47,15 @@ free_suc p d f g e a b z = go (ℕ_discrete e d)
     go (yes q) = g (ap (λ x. p % x) (sym q) ∙ z)
     go (no q) = f e a (omega arith) z
 
-pub free_five : (p : ℕ) → p % 2 ≢ 0 → p % 3 ≢ 0 → Free p 5
-free_five p two three zero a b z = omega arith
-free_five p two three (suc zero) a b z = omega arith
-free_five p two three (suc (suc zero)) a b z = two z
-free_five p two three (suc (suc (suc zero))) a b z = three z
-free_five p two three (suc (suc (suc (suc zero)))) a b z = two (omega arith)
-free_five p two three (suc (suc (suc (suc (suc e))))) a b z = omega arith
-
 pub free_end : (p d : ℕ) → 2 ≤ p → Free p d → p < d * d → Prime p
 free_end p d l f k = up_to_root p l (λ e a s. f e a (below e s (dec_lt e d)))
   where
     below : (e : ℕ) → e * e ≤ p → Dec (e < d) → e < d
     below e s (yes b) = b
     below e s (no b) = let c : d ≤ e = omega arith in absurd (omega (arith, mul-le-mul c c))
+
+pub two_or_three : (p : ℕ) → 2 ≤ p → p < 4 → is_prime p ≡ true
+two_or_three p l k = (is_prime_Prime p).1 (up_to_root p l (λ d a b z. omega (arith, mul-le-mul a a)))
 
 divided_hit : (c : ℕ) (cs : List ℕ) (d : ℕ) → eqb (d % c) 0 ≡ true → divided (c ∷ cs) d ≡ ltb 1 c && ltb c d
 unfolding divided

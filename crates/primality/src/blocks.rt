@@ -20,8 +20,7 @@ fn prime_by_blocks(p: u32, inverses: &[u32], limits: &[u32], starts: &[u32]) -> 
     requires { Candidate p × Tables inverses.now limits.now starts.now }
     ensures { result ≡ is_prime p }
 {
-    let mut i = 0;
-    while i < limits.len() {
+    for i in 0..limits.len() {
         let start = starts[i];
         if start * start > p {
             return true;
@@ -29,7 +28,6 @@ fn prime_by_blocks(p: u32, inverses: &[u32], limits: &[u32], starts: &[u32]) -> 
         if !none_divides(p, limits[i], inverses, i * 32) {
             return false;
         }
-        i += 1;
     }
     true
 }
@@ -40,12 +38,8 @@ fn none_divides(p: u32, limit: u32, inverses: &[u32], from: usize) -> bool
     ensures { result ≡ all 32 (λ j. misses p limit (at inverses.now (from + j))) }
 {
     let mut none = true;
-    let mut j: usize = 0;
-    while j < 32 {
-        if !is_missed(p, limit, inverses[from + j]) {
-            none = false;
-        }
-        j += 1;
+    for j in 0..32 {
+        none &= is_missed(p, limit, inverses[from + j]);
     }
     none
 }
@@ -53,11 +47,5 @@ fn none_divides(p: u32, limit: u32, inverses: &[u32], from: usize) -> bool
 fn is_missed(p: u32, limit: u32, inverse: u32) -> bool
     ensures { result ≡ misses p limit inverse }
 {
-    limit < product(p, inverse)
-}
-
-fn product(a: u32, b: u32) -> u32
-    ensures { result ≡ a * b % 4294967296 }
-{
-    (a as u64 * b as u64 % 4294967296) as u32
+    limit < p.wrapping_mul(inverse)
 }

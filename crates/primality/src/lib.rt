@@ -15,22 +15,17 @@ use blocks::prime_by_table;
 use wheel::prime_by_wheel;
 
 // Whether p is a prime from 2 to 2,147,483,647.
+#[tactic(auto, using(residue::specs::Prime::is_modulus_small, residue::specs::Prime::is_modulus_large, residue::specs::Prime::is_prime_small, residue::specs::Prime::is_prime_divided, crate::proofs::Walk::two_or_three))]
 pub fn is_modulus(p: u32) -> bool
     ensures { result ≡ is_modulus p }
 {
-    if p < 2 {
-        return false;
-    }
-    if p > 2147483647 {
+    if p < 2 || p > 2147483647 {
         return false;
     }
     if p < 4 {
         return true;
     }
-    if p % 2 == 0 {
-        return false;
-    }
-    if p % 3 == 0 {
+    if p % 2 == 0 || p % 3 == 0 {
         return false;
     }
     if p < 524288 {

@@ -1,13 +1,12 @@
 -- What the call `recurrence` answers.
---     generates_degree, generates_refused      what a call in place says
 --     same_modulus               what the core holds, the modulus by its other name
 --     recurred_refused           the answer of a refusal, and slices left as they were
 --     modulus_range, ready       what the checks leave known: of p, and for the core
 --     recurred_generator         the answer of an accepted call, from the core's
 use mathlib.Core.Path.{◌≡◌, refl, sym, ap, ◌∙◌, subst}
-use mathlib.Core.Logic.{◌≢◌}
 use mathlib.Core.Bool.{true, false, cond}
 use mathlib.Core.List.{List}
+use Rattle.std.specs.Prelude.{Ok, Err}
 use Prim.Native.Nat.{ℕ, ◌+◌, ◌≤◌, ◌<◌}
 use native.Mathlib.Nat.{zero-add}
 use native.Mathlib.Omega.{arith}
@@ -24,31 +23,20 @@ use Rattle.laws.specs.Recurrence.{degree_within, length_generator}
 use Rattle.bridge.specs.Recurrence.{is_shortest}
 use Rattle.checks.specs.Recurrence.{Accepted}
 use Rattle.laws.specs.Written.{Written}
-use Rattle.recurrence.specs.Recurrence.{Ready, HoldsGenerator, terms_refusal, Generates, Recurred}
-use Rattle.recurrence.specs.declared.Answer.TheVariants.{Degree, Refused}
+use Rattle.laws.specs.Part.{part, length_part, at_part}
+use Rattle.laws.specs.Lent.{lent, written_lent}
+use Rattle.recurrence.specs.Recurrence.{Ready, HoldsGenerator, Recurred}
+use Rattle.refusal.specs.declared.Refusal.{Refusal}
+use Rattle.refusal.specs.Number.{number_of, number_positive}
 use Rattle.recurrence.proofs.HoldsGenerator.{generator_at_law}
 
 pub same_modulus : {m p count : ℕ} {W W' : List ℕ} {L : ℕ} → m ≡ p → HoldsGenerator m count W W' L → HoldsGenerator p count W W' L
 same_modulus {m} {p} {count} {W} {W'} {L} e h = subst (λ n. HoldsGenerator n count W W' L) e h
 
-pub generates_degree : {p count : ℕ} {W W' : List ℕ} {L : ℕ} → terms_refusal p count W ≡ 0 → HoldsGenerator p count W W' L
-    → Generates p count W (Degree L) W'
-generates_degree {p} {count} {W} {W'} {L} z h =
-    record {
-      degree = λ n e. let same : L ≡ n = cc in (z, subst (HoldsGenerator p count W W') same h);
-      refused = λ k e. absurd (let y : ◌≡◌ {A = ℕ} 0 1 = cc in omega arith);
-    }
-
-pub generates_refused : {p count : ℕ} {W : List ℕ} {k : ℕ} → terms_refusal p count W ≡ k → k ≢ 0 → Generates p count W (Refused k) W
-generates_refused {k} z n =
-    record {
-      degree = λ L e. absurd (let y : ◌≡◌ {A = ℕ} 0 1 = cc in omega arith);
-      refused = λ j e. let same : k ≡ j = cc in (z ∙ same, (λ q. n (same ∙ q)), refl);
-    }
-
-pub recurred_refused : (p : ℕ) (s polynomial work : List ℕ) (k : ℕ) → k ≡ recurrence_refusal p s polynomial work → k ≢ 0
-    → Recurred p s polynomial work (Refused k) polynomial work
-recurred_refused p s polynomial work k e n =
+pub recurred_refused : (p : ℕ) (s polynomial work : List ℕ) (r : Refusal) → number_of r ≡ recurrence_refusal p s polynomial work
+    → Recurred p s polynomial work (Err r) polynomial work
+recurred_refused p s polynomial work r e =
+    let n = number_positive r in
     let refused : eqb (recurrence_refusal p s polynomial work) 0 ≡ false = ne_eqb (recurrence_refusal p s polynomial work) 0 (λ z. n (e ∙ z)) in
     record {
       gives = (sym e, n, ap (λ b. cond b (degree p s) 0) refused);
@@ -60,10 +48,15 @@ recurred_refused p s polynomial work k e n =
 pub modulus_range : {p : ℕ} {s polynomial work : List ℕ} → Accepted p s polynomial work → (0 < p) × (p ≤ 2147483647)
 modulus_range {p} input = (omega (arith, (is_modulus_Prime p input.modulus).two_le), is_modulus_le p input.modulus)
 
+-- a list copied to the front of a slice
+pub copied : (s work Y : List ℕ) → length s ≤ length work → Y ≡ s → Written work 0 (length s) (at s) (lent work 0 (length s) Y)
+copied s work Y room e =
+    written_lent work 0 (length s) (at s) Y (omega (arith, room)) (e ∙ table_of 0 s (length s) (at s) refl (λ i l. refl))
+
 module _ {p : ℕ} {s polynomial work W₁ : List ℕ} (input : Accepted p s polynomial work)
-    (placed : Written work 0 (length s) (λ i. at s (0 + i)) W₁) where
+    (placed : Written work 0 (length s) (at s) W₁) where
   terms : (i : ℕ) → i < length s → at W₁ i ≡ at s i
-  terms i l = ap (at W₁) (sym (zero-add i)) ∙ placed.inside i l ∙ ap (at s) (zero-add i)
+  terms i l = ap (at W₁) (sym (zero-add i)) ∙ placed.inside i l
 
   pub ready : {m : ℕ} → m ≡ p → Ready m (length s) W₁
   ready {m} e = subst (λ n. Ready n (length s) W₁) (sym e) (record {
@@ -80,10 +73,9 @@ module _ {p : ℕ} {s polynomial work W₁ : List ℕ} (input : Accepted p s pol
       ext_get_or 0 (take (length s) W₁) s size
       (λ i l. let b : i < length s = omega arith in get_or-take (length s) W₁ i 0 b ∙ terms i b)
 
-  pub recurred_generator : {W₂ polynomial' : List ℕ} {L m : ℕ} → m ≡ p → HoldsGenerator m (length s) W₁ W₂ L
-      → Written polynomial 0 (length s + 1) (λ i. at W₂ (length s + 2 + i)) polynomial'
-      → Recurred p s polynomial work (Degree L) polynomial' W₂
-  recurred_generator {W₂} {polynomial'} {L} {m} e holds written =
+  pub recurred_generator : {W₂ : List ℕ} {L m : ℕ} (n : ℕ) (Y : List ℕ) → n ≡ length s + 1 → m ≡ p → length W₂ ≡ length W₁ → HoldsGenerator m (length s) W₁ W₂ L
+      → Y ≡ part (length s + 2) n W₂ → Recurred p s polynomial work (Ok L) (lent polynomial 0 (length s + 1) Y) W₂
+  recurred_generator {W₂} {L} {m} n Y size e long holds read =
       record {
         gives = (input.none, ap (λ b. cond b (degree p s) 0) zero ∙ sym answer);
         after =
@@ -93,6 +85,17 @@ module _ {p : ℕ} {s polynomial work W₁ : List ℕ} (input : Accepted p s pol
         shortest = λ L' e. let same : L ≡ L' = cc in subst (λ n. IsShortest p s n (take (n + 1) polynomial')) same shortest;
       }
     where
+      polynomial' : List ℕ
+      polynomial' = lent polynomial 0 (length s + 1) Y
+
+      written : Written polynomial 0 (length s + 1) (λ i. at W₂ (length s + 2 + i)) polynomial'
+      written =
+          written_lent polynomial 0 (length s + 1) (λ i. at W₂ (length s + 2 + i)) Y (omega (arith, input.size))
+          (read
+          ∙ table_of 0 (part (length s + 2) n W₂) (length s + 1) (λ i. at W₂ (length s + 2 + i))
+          (length_part (length s + 2) n W₂ (omega (arith, size, long, placed.same_length, input.room)) ∙ size)
+          (λ i l. at_part (length s + 2) n W₂ i (omega (arith, l, size))))
+
       found : HoldsGenerator p (length s) W₁ W₂ L
       found = same_modulus e holds
 

@@ -1,8 +1,8 @@
 -- The product of two polynomials in one slice: F at its front, f further up; it takes F's place from its highest coefficient down.
 --     Factors          what the product asks: room, and residues
 --     factors_fit, factors_refusal      8: their places; 3, 8 and 9 of two factors
---     GivesProduct     what a call answers and leaves: product_given, product_refused; product_of: where no check turns the factors down
---     fits_of, fits_not, fits_by      what the places' test says; that it fails; the test as the code makes it
+--     GivesProduct     what a call answers and leaves; product_of: where no check turns the factors down
+--     fits_of, fits_by      what the places' test says; the test as the code makes it
 --     product_one      the product where F = 1: f
 --     factors_of, factors_taken       what no check turned down, and that none turns it down
 --     product_at        coefficient k of the product
@@ -13,7 +13,7 @@
 --     Multiplied       all of them have; multiplied_lent: in a leading part that was lent
 --     descending_none, descending_factors, descending_same, descending_more, descending_all      where that begins, what a turn asks and reads, a turn, and
 --                      where it ends
-use Rattle.std.specs.Prelude.{◌≡◌, refl, ◌≢◌, ◌⊎◌, Bool, true, false, not, ◌&&◌, List, [], ◌∷◌, leb, ltb, length, drop, set}
+use Rattle.std.specs.Prelude.{false, ◌≡◌, refl, ◌≢◌, ◌⊎◌, Bool, true, not, ◌&&◌, List, [], ◌∷◌, Result, Ok, Err, min, ◌^◌, leb, ltb, length, drop, set}
 use Rattle.std.proofs.Math.Path.{sym, ap₂}
 use Rattle.std.proofs.Common.{ap, ◌∙◌, subst, inl, inr, zero-mul, mul-zero, mod-lt, eq-or-lt_of_le, one-mul, mod-eq_of_lt, arith, length-set, get_or-set_same, get_or-set_other, leb-true, ltb-true, le-leb, lt-ltb}
 use Prim.Native.Nat.{ℕ, ◌+◌, ◌-◌, ◌*◌, ◌%◌, ◌≤◌, ◌<◌}
@@ -23,11 +23,11 @@ use Rattle.std.proofs.Math.ListN.{get_or-eq_default}
 use Rattle.meaning.specs.List.{at, sum, sum_from}
 use Rattle.meaning.specs.Refusal.{check, first, within, elements}
 use Rattle.meaning.specs.Solver.{multiply}
-use Rattle.laws.specs.Bool.{and_left, and_right, and_both, test_cases, same_test}
+use Rattle.laws.specs.Bool.{and_left, and_right, and_both, same_test, test_cases}
 use Rattle.laws.specs.Refusal.{first_nil, first_passed, first_pass, within_of}
+use Rattle.refusal.specs.declared.Refusal.{Refusal}
+use Rattle.refusal.specs.Number.{number_of}
 use Rattle.checks.specs.Valid.{vector_of, elements_of_law}
-use Rattle.recurrence.specs.declared.Answer.{Answer}
-use Rattle.recurrence.specs.declared.Answer.TheVariants.{Degree, Refused}
 use Rattle.laws.specs.List.{sum_ext, sum_zeros, table_of}
 use Rattle.modular.specs.declared.sums.Total.{Total}
 use Rattle.modular.specs.Total.{number}
@@ -237,35 +237,20 @@ descending_all {p} {W} {d} {f} {t} {W'} h w =
     sized =
         omega (arith, length_part 0 (d + 1) W (omega (arith, h.below, h.room)), length_part f (t + 1) W (omega (arith, h.room)))
 
-pub record GivesProduct (p : ℕ) (W : List ℕ) (d f t : ℕ) (r : Answer) (W' : List ℕ) : Type 0 where
-  pub product : (n : ℕ) → r ≡ Degree n → (factors_refusal p W d f t ≡ 0) × (n ≡ d + t) × Multiplied p W d f t W'
-  -- "every lent slice keeps its contents"
-  pub refused : (k : ℕ) → r ≡ Refused k → (factors_refusal p W d f t ≡ k) × (k ≢ 0) × (W' ≡ W)
-
-pub product_given : {p : ℕ} {W : List ℕ} {d f t n : ℕ} {W' : List ℕ} → n ≡ d + t → factors_refusal p W d f t ≡ 0 → Multiplied p W d f t W'
-    → GivesProduct p W d f t (Degree n) W'
-product_given {n = n} s z m =
-    record {
-      product = λ k e. (z, (let same : n ≡ k = cc in sym same ∙ s), m);
-      refused = λ k e. absurd (let y : ◌≡◌ {A = ℕ} 0 1 = cc in omega arith);
-    }
-
-pub product_refused : {p : ℕ} {W : List ℕ} {d f t k : ℕ} → factors_refusal p W d f t ≡ k → k ≢ 0 → GivesProduct p W d f t (Refused k) W
-product_refused {k} z n =
-    record {
-      product = λ m e. absurd (let y : ◌≡◌ {A = ℕ} 0 1 = cc in omega arith);
-      refused = λ j e. let same : k ≡ j = cc in (z ∙ same, (λ q. n (same ∙ q)), refl);
-    }
+abbrev pub GivesProduct : ℕ → List ℕ → ℕ → ℕ → ℕ → Result ℕ Refusal → List ℕ → Type 0
+GivesProduct p W d f t (Ok n) W' = (factors_refusal p W d f t ≡ 0) × (n ≡ d + t) × Multiplied p W d f t W'
+-- "every lent slice keeps its contents"
+GivesProduct p W d f t (Err r) W' = (factors_refusal p W d f t ≡ number_of r) × (number_of r ≢ 0) × (W' ≡ W)
 
 -- the modulus by its other name
 pub same_product : {m p : ℕ} {W : List ℕ} {d f t : ℕ} {W' : List ℕ} → m ≡ p → Multiplied m W d f t W' → Multiplied p W d f t W'
 same_product {W} {d} {f} {t} {W'} e h = subst (λ n. Multiplied n W d f t W') e h
 
 -- where no check turns the factors down
-pub product_of : {p : ℕ} {W : List ℕ} {d f t : ℕ} {r : Answer} {W' : List ℕ} → GivesProduct p W d f t r W' → factors_refusal p W d f t ≡ 0
+pub product_of : {p : ℕ} {W : List ℕ} {d f t : ℕ} (r : Result ℕ Refusal) {W' : List ℕ} → GivesProduct p W d f t r W' → factors_refusal p W d f t ≡ 0
     → Multiplied p W d f t W'
-product_of {r = Degree n} g z = (g.product n refl).2
-product_of {r = Refused k} g z = let said = g.refused k refl in absurd (said.1 (sym said.0 ∙ z))
+product_of (Ok n) g z = g.2
+product_of (Err r) g z = absurd (g.1 (sym g.0 ∙ z))
 
 -- ---- the checks
 
@@ -278,20 +263,19 @@ fits_of places d f t e =
       ltb-true (f + t) places (and_right (leb (d + t) 8192 && ltb (d + t) f) (ltb (f + t) places) e),
     )
 
-pub fits_not : (places d f t : ℕ) → ((d + t ≤ 8192) × (d + t < f) × (f + t < places) → ⊥) → factors_fit places d f t ≡ false
-fits_not places d f t n = go (test_cases (factors_fit places d f t))
-  where
-    go : (factors_fit places d f t ≡ true) ⊎ (factors_fit places d f t ≡ false) → factors_fit places d f t ≡ false
-    go (inl e) = absurd (n (fits_of places d f t e))
-    go (inr e) = e
-
--- a sum that might not fit a word is not taken
-pub fits_by : (places d f t : ℕ) → f < places → (leb (d + t) 8192 && ltb (d + t) f && ltb t (places - f)) ≡ factors_fit places d f t
+-- the test as the code makes it: a sum that does not fit a word counts as the greatest one
+pub fits_by : (places d f t degree last : ℕ) → places < 2 ^ 64 → f < 2 ^ 64 → degree ≡ min (d + t) (2 ^ 64 - 1) → last ≡ min (f + t) (2 ^ 64 - 1)
+    → leb degree 8192 && ltb degree f && ltb last places ≡ factors_fit places d f t
 unfolding factors_fit
-fits_by places d f t l =
-    ap (λ b. leb (d + t) 8192 && ltb (d + t) f && b)
-    (same_test (ltb t (places - f)) (ltb (f + t) places) (λ e. lt-ltb (f + t) places (omega (arith, ltb-true t (places - f) e, l)))
-    (λ e. lt-ltb t (places - f) (omega (arith, ltb-true (f + t) places e))))
+fits_by places d f t degree last fit fit_f e g =
+    ap₂ ◌&&◌
+    (ap₂ ◌&&◌
+    (same_test (leb degree 8192) (leb (d + t) 8192) (λ h. le-leb (d + t) 8192 (omega (arith, e, leb-true degree 8192 h)))
+    (λ h. le-leb degree 8192 (omega (arith, e, leb-true (d + t) 8192 h))))
+    (same_test (ltb degree f) (ltb (d + t) f) (λ h. lt-ltb (d + t) f (omega (arith, e, fit_f, ltb-true degree f h)))
+    (λ h. lt-ltb degree f (omega (arith, e, ltb-true (d + t) f h)))))
+    (same_test (ltb last places) (ltb (f + t) places) (λ h. lt-ltb (f + t) places (omega (arith, g, fit, ltb-true last places h)))
+    (λ h. lt-ltb last places (omega (arith, g, ltb-true (f + t) places h))))
 
 -- what no check turned down, and back
 pub factors_of : (p : ℕ) (W : List ℕ) (d f t : ℕ) → factors_refusal p W d f t ≡ 0 → (within 2 2147483647 p ≡ true) × Factors p W d f t
@@ -378,3 +362,11 @@ multiplied_lent {p} {W} {d} {f} {t} m {Y} a b l same q =
         ap (at (lent W 0 m Y)) (sym (zero-add i)) ∙ sym (at_part 0 m (lent W 0 m Y) i k) ∙ ap (λ r. at r i) (part_lent W 0 m Y fits same)
         ∙ same_after (d + t + 1) i (part 0 m W) Y q.rest h ∙ at_part 0 m W i k ∙ ap (at W) (zero-add i)
     go i h (no k) = same_after (0 + m) i W (lent W 0 m Y) (drop_lent W 0 m Y fits same) (omega (arith, k))
+
+-- where the places do not fit, the test fails
+pub fits_not : (places d f t : ℕ) → ((d + t ≤ 8192) × (d + t < f) × (f + t < places) → ⊥) → factors_fit places d f t ≡ false
+fits_not places d f t n = go (test_cases (factors_fit places d f t))
+  where
+    go : (factors_fit places d f t ≡ true) ⊎ (factors_fit places d f t ≡ false) → factors_fit places d f t ≡ false
+    go (inl e) = absurd (n (fits_of places d f t e))
+    go (inr e) = e

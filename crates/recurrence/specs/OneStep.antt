@@ -3,13 +3,13 @@
 --     register_fits             8 of a register: r is 1 to count; L, and t with its zeros, are no longer than r − 1 allows; t and the spare region
 --     state_elements            9: the first r terms and q are elements, q ends with L, and the inverse is that of e
 --     step_refusal              the number of a step's refusal
---     Answers                  what a call answers and leaves: a register, or the number of its refusal; answers_made, answers_refused
+--     Answers                  what a call answers and leaves: a register, or its refusal
 --     Starts, StepsOn          the two calls': document 01's start, and its step for r of what was found
---     Fits, fits_of, fits_not, fits_by        what register_fits says; that it fails; as the code makes it
+--     Fits, fits_of, fits_by        what register_fits says; as the code makes it
 --     makes_modulus, makes_one the modulus by its other name; a step of the steps
 --     room_ready, step_asked   what no check turns down is what a start, and a step, ask
 --     step_taken               .. and what follows the steps modulo a prime is not turned down
-use Rattle.std.specs.Prelude.{◌≡◌, refl, ◌≢◌, ◌⊎◌, Bool, true, false, not, ◌&&◌, ◌||◌, List, [], ◌∷◌, ◌++◌, ℕ, ◌+◌, ◌-◌, ◌*◌, ◌%◌, ◌≤◌, ◌<◌, eqb, ltb, leb, length, take}
+use Rattle.std.specs.Prelude.{◌≡◌, ◌≢◌, ◌⊎◌, Bool, true, false, not, ◌&&◌, ◌||◌, List, [], ◌∷◌, ◌++◌, Result, Ok, Err, ℕ, ◌+◌, ◌-◌, ◌*◌, ◌%◌, ◌≤◌, ◌<◌, ◌^◌, min, eqb, ltb, leb, length, take}
 use Rattle.std.proofs.Common.{sym, ap, ◌∙◌, subst, inl, inr, arith, get_or-take, length-take-le, eqb-true, eq-eqb, ltb-true, lt-ltb, leb-true, le-leb}
 use Rattle.std.proofs.Math.Decide.{dec_lt}
 use Rattle.meaning.specs.List.{at}
@@ -18,12 +18,12 @@ use Rattle.laws.specs.Bool.{and_left, and_right, and_both, and_five, or_true_lef
 use Rattle.laws.specs.Part.{part, length_part, at_part}
 use Rattle.laws.specs.Recurrence.{e_element}
 use Rattle.laws.specs.Refusal.{first_nil, first_passed, first_pass, first_append_none, first_append_zero, within_low, within_high, within_of}
+use Rattle.refusal.specs.declared.Refusal.{Refusal}
+use Rattle.refusal.specs.Number.{number_of}
 use Rattle.residue.specs.Prime.{Prime}
 use Rattle.residue.specs.Inverse.{inverse_is, inverse_lt, mul_inverse}
 use Rattle.checks.specs.Valid.{Vector, vector_of, elements_of_law}
 use Rattle.recurrence.specs.declared.steps.Register.{Register}
-use Rattle.recurrence.specs.declared.Stepped.{Stepped}
-use Rattle.recurrence.specs.declared.Stepped.TheVariants.{Made, Refused}
 use Rattle.recurrence.specs.Recurrence.{room_checks, numbered_room, room_of, room_to}
 use Rattle.recurrence.specs.Steps.{FollowsSteps, represented, Places, Laid, TermsStay, FirstTerms, Sound, BeforeStep, MakesStep, MakesSteps, sound_follows}
 
@@ -47,35 +47,21 @@ unfoldable pub step_refusal : ℕ → ℕ → ℕ → List ℕ → Register → 
 step_refusal p count r W c =
     first (room_checks p count W ++ (check 8 (not (register_fits count r c)) ∷ check 9 (not (state_elements p count r W c)) ∷ []))
 
-pub record Answers (number : ℕ) (Left : Register → Type 0) (W : List ℕ) (a : Stepped) (W' : List ℕ) : Type 0 where
-  pub made : (c : Register) → a ≡ Made c → (number ≡ 0) × Left c
-  -- "every lent slice keeps its contents"
-  pub refused : (k : ℕ) → a ≡ Refused k → (number ≡ k) × (k ≢ 0) × (W' ≡ W)
+abbrev pub Answers : ℕ → (Register → Type 0) → List ℕ → Result Register Refusal → List ℕ → Type 0
+Answers number Left W (Ok c) W' = (number ≡ 0) × Left c
+-- "every lent slice keeps its contents"
+Answers number Left W (Err r) W' = (number ≡ number_of r) × (number_of r ≢ 0) × (W' ≡ W)
 
 pub record Started (p count : ℕ) (W W' : List ℕ) (c : Register) : Type 0 where
   pub follows : FollowsSteps p (take 0 W) 0 c.d (represented count W' c)
   pub laid : Laid p count 0 c
   pub stay : TermsStay count W W'
 
-abbrev pub Starts : ℕ → ℕ → List ℕ → Stepped → List ℕ → Type 0
+abbrev pub Starts : ℕ → ℕ → List ℕ → Result Register Refusal → List ℕ → Type 0
 Starts p count W a W' = Answers (first (room_checks p count W)) (Started p count W W') W a W'
 
-abbrev pub StepsOn : ℕ → ℕ → ℕ → List ℕ → Register → Stepped → List ℕ → Type 0
+abbrev pub StepsOn : ℕ → ℕ → ℕ → List ℕ → Register → Result Register Refusal → List ℕ → Type 0
 StepsOn p count r W c a W' = Answers (step_refusal p count r W c) (MakesStep p count r W c W') W a W'
-
-pub answers_made : {number : ℕ} (Left : Register → Type 0) {W W' : List ℕ} {c : Register} → number ≡ 0 → Left c → Answers number Left W (Made c) W'
-answers_made Left {c} z h =
-    record {
-      made = λ x e. let same : c ≡ x = cc in (z, subst Left same h);
-      refused = λ k e. absurd (let y : ◌≡◌ {A = ℕ} 0 1 = cc in omega arith);
-    }
-
-pub answers_refused : {number : ℕ} {Left : Register → Type 0} {W : List ℕ} {k : ℕ} → number ≡ k → k ≢ 0 → Answers number Left W (Refused k) W
-answers_refused {k} z n =
-    record {
-      made = λ c e. absurd (let y : ◌≡◌ {A = ℕ} 0 1 = cc in omega arith);
-      refused = λ j e. let same : k ≡ j = cc in (z ∙ same, (λ q. n (same ∙ q)), refl);
-    }
 
 pub makes_modulus : {m p count r : ℕ} {W : List ℕ} {c : Register} {W' : List ℕ} {c' : Register} → m ≡ p → MakesStep m count r W c W' c'
     → MakesStep p count r W c W' c'
@@ -155,27 +141,31 @@ fits_to {count} {r} {c} h =
     (le-leb (c.L + (c.shift + c.held)) r h.end))
     (places_to count c.t c.spare h.regions)
 
-pub fits_not : (count r : ℕ) (c : Register) → (Fits count r c → ⊥) → register_fits count r c ≡ false
-fits_not count r c n = go (test_cases (register_fits count r c))
-  where
-    go : (register_fits count r c ≡ true) ⊎ (register_fits count r c ≡ false) → register_fits count r c ≡ false
-    go (inl e) = absurd (n (fits_of e))
-    go (inr e) = e
-
--- the test as the code makes it: sums that might not fit a word are not taken
-pub fits_by : (count r : ℕ) (c : Register) → 0 < r → r ≤ count → c.L < r → c.shift < r → c.held < r - c.shift
-    → leb (c.L + (c.shift + c.held)) r && places count c.t c.spare ≡ register_fits count r c
-fits_by count r c low high within_r shift held =
-    same_test (leb (c.L + (c.shift + c.held)) r && places count c.t c.spare) (register_fits count r c)
-    (λ e. fits_to (record {
-      low = low;
+-- the test as the code makes it: a sum that does not fit a word counts as the greatest one, which is above r
+pub fits_by : (count r : ℕ) (c : Register) (length end : ℕ) → count ≤ 8192 → length ≡ min (c.shift + c.held) (2 ^ 64 - 1)
+    → end ≡ min (c.L + length) (2 ^ 64 - 1)
+    → leb 1 r && leb r count && ltb c.L r && ltb length r && leb end r && places count c.t c.spare ≡ register_fits count r c
+fits_by count r c length end few l e =
+    same_test (within 1 count r && ltb c.L r && ltb length r && leb end r && places count c.t c.spare) (register_fits count r c)
+    (λ h. let t = and_five (within 1 count r) (ltb c.L r) (ltb length r) (leb end r) (places count c.t c.spare) h in
+    let high = within_high 1 count r t.0 in
+    let short = ltb-true length r t.2 in
+    let low = leb-true end r t.3 in
+    fits_to (record {
+      low = within_low 1 count r t.0;
       high = high;
-      within_r = within_r;
-      short = omega (arith, shift, held);
-      end = leb-true (c.L + (c.shift + c.held)) r (and_left (leb (c.L + (c.shift + c.held)) r) (places count c.t c.spare) e);
-      regions = places_of count c.t c.spare (and_right (leb (c.L + (c.shift + c.held)) r) (places count c.t c.spare) e);
+      within_r = ltb-true c.L r t.1;
+      short = omega (arith, few, l, high, short);
+      end = omega (arith, few, l, e, high, short, low);
+      regions = places_of count c.t c.spare t.4;
     }))
-    (λ e. let fit = fits_of e in and_both (le-leb (c.L + (c.shift + c.held)) r fit.end) (places_to count c.t c.spare fit.regions))
+    (λ h. let fit = fits_of h in
+    and_both
+    (and_both
+    (and_both (and_both (within_of 1 count r fit.low fit.high) (lt-ltb c.L r fit.within_r))
+    (lt-ltb length r (omega (arith, fit.short, l))))
+    (le-leb end r (omega (arith, fit.end, l, e))))
+    (places_to count c.t c.spare fit.regions))
 
 record Elements (p count r : ℕ) (W : List ℕ) (c : Register) : Type 0 where
   terms : Vector p r (take r W)
@@ -327,3 +317,11 @@ step_taken {p} {count} {r} {d} {W} {c} prime low first follows laid =
 
     one : c.e * c.inverse % p ≡ 1
     one = ap (λ x. c.e * x % p) laid.inverted ∙ mul_inverse p prime c.e known.0 known.1
+
+-- where a register does not fit, the test fails
+pub fits_not : (count r : ℕ) (c : Register) → (Fits count r c → ⊥) → register_fits count r c ≡ false
+fits_not count r c n = go (test_cases (register_fits count r c))
+  where
+    go : (register_fits count r c ≡ true) ⊎ (register_fits count r c ≡ false) → register_fits count r c ≡ false
+    go (inl e) = absurd (n (fits_of e))
+    go (inr e) = e

@@ -3,13 +3,14 @@
 --     Ready            what the steps ask: p of 2 to 2³¹ − 1, prime or not; `count` terms at the slice's front, all below p; room for four regions
 --     Reversed         a slice after L + 1 places of it, from a on, were put in reverse order; reversed_lent: the part was lent
 --     HoldsGenerator   a slice before and after the core: L, and f with zeros after it in the second region
---     room_checks       3, 8 and 11 of the regions: p of 2 to 2³¹ − 1, prime or not; at most 8,192 terms; the slice. HasRoom, room_of, room_to: what they say
+--     room_checks       3, 8 and 11 of the regions: p of 2 to 2³¹ − 1, prime or not; at most 8,192 terms; the slice. HasRoom, room_of, room_to: what they say; room_terms: the terms
+--                      stand in the slice
 --     terms_refusal     these, and 9 of terms at the front of the slice
 --     Generates        what a call in place answers and leaves
 --     terms_ready, terms_taken      terms in place that no check turns down are ready, and back
 --     GivesDegree      what each case of an answer says: document 01's number of the refusal, 0 for none, and L
 --     Recurred         what a call answers and leaves, and Massey's promise of it
-use Rattle.std.specs.Prelude.{◌≡◌, refl, ◌≢◌, not, List, [], ◌∷◌, ◌++◌, ℕ, ◌+◌, ◌-◌, ◌*◌, ◌≤◌, ◌<◌, leb, length, take, drop}
+use Rattle.std.specs.Prelude.{◌≡◌, refl, ◌≢◌, not, List, [], ◌∷◌, ◌++◌, Result, Ok, Err, ℕ, ◌+◌, ◌-◌, ◌*◌, ◌≤◌, ◌<◌, leb, length, take, drop}
 use Rattle.std.proofs.Common.{sym, ap, ◌∙◌, subst, arith, get_or-take, length-take-le, leb-true, ltb-true, le-leb}
 use Rattle.meaning.specs.List.{at, table, every, padded}
 use Rattle.meaning.specs.Recurrence.{IsShortest, degree, generator}
@@ -21,8 +22,8 @@ use Rattle.laws.specs.Lent.{lent, written_lent}
 use Rattle.laws.specs.Refusal.{Numbered, first_nil, first_passed, first_pass, first_append_none, first_append_zero, within_low, within_high, within_of}
 use Rattle.checks.specs.Valid.{elements_of_law}
 use Rattle.meaning.specs.Calls.{recurrence_refusal, recurrence_answer, recurrence_after}
-use Rattle.recurrence.specs.declared.Answer.{Answer}
-use Rattle.recurrence.specs.declared.Answer.TheVariants.{Degree, Refused}
+use Rattle.refusal.specs.declared.Refusal.{Refusal}
+use Rattle.refusal.specs.Number.{number_of}
 
 pub record Ready (p count : ℕ) (W : List ℕ) : Type 0 where
   pub two : 1 < p
@@ -85,25 +86,29 @@ room_to {p} {count} {W} h =
     (first_pass 8 (leb count 8192) _ (le-leb count 8192 h.few)
     (first_pass 11 (leb (4 * count + 8) (length W)) _ (le-leb (4 * count + 8) (length W) h.room) first_nil))
 
+-- the terms stand in the slice
+pub room_terms : (p count : ℕ) (W : List ℕ) → 0 ≡ first (room_checks p count W) → count ≡ length (take count W)
+room_terms p count W z = let has = room_of (sym z) in sym (length-take-le count W (omega (arith, has.room)))
+
 unfoldable pub terms_refusal : ℕ → ℕ → List ℕ → ℕ
 terms_refusal p count W = first (room_checks p count W ++ (check 9 (not (elements p (take count W))) ∷ []))
 
-pub record Generates (p count : ℕ) (W : List ℕ) (r : Answer) (W' : List ℕ) : Type 0 where
-  pub degree : (L : ℕ) → r ≡ Degree L → (terms_refusal p count W ≡ 0) × HoldsGenerator p count W W' L
-  -- "every lent slice keeps its contents"
-  pub refused : (k : ℕ) → r ≡ Refused k → (terms_refusal p count W ≡ k) × (k ≢ 0) × (W' ≡ W)
+abbrev pub Generates : ℕ → ℕ → List ℕ → Result ℕ Refusal → List ℕ → Type 0
+Generates p count W (Ok L) W' = (terms_refusal p count W ≡ 0) × HoldsGenerator p count W W' L
+-- "every lent slice keeps its contents"
+Generates p count W (Err r) W' = (terms_refusal p count W ≡ number_of r) × (number_of r ≢ 0) × (W' ≡ W)
 
 -- "a refusal returns its number and no other answer (any count, length or element beside it is 0)"
-abbrev pub GivesDegree : Answer → ℕ → ℕ → Type 0
-GivesDegree (Degree L) number degree = (number ≡ 0) × (degree ≡ L)
-GivesDegree (Refused k) number degree = (number ≡ k) × (k ≢ 0) × (degree ≡ 0)
+abbrev pub GivesDegree : Result ℕ Refusal → ℕ → ℕ → Type 0
+GivesDegree (Ok L) number degree = (number ≡ 0) × (degree ≡ L)
+GivesDegree (Err r) number degree = (number ≡ number_of r) × (number_of r ≢ 0) × (degree ≡ 0)
 
-pub record Recurred (p : ℕ) (s polynomial work : List ℕ) (r : Answer) (polynomial' work' : List ℕ) : Type 0 where
+pub record Recurred (p : ℕ) (s polynomial work : List ℕ) (r : Result ℕ Refusal) (polynomial' work' : List ℕ) : Type 0 where
   pub gives : GivesDegree r (recurrence_refusal p s polynomial work) (recurrence_answer p s polynomial work)
   pub after : polynomial' ≡ recurrence_after p s polynomial work
   -- "every lent slice keeps its contents"
   pub kept : recurrence_refusal p s polynomial work ≢ 0 → work' ≡ work
-  pub shortest : (L : ℕ) → r ≡ Degree L → IsShortest p s L (take (L + 1) polynomial')
+  pub shortest : (L : ℕ) → r ≡ Ok L → IsShortest p s L (take (L + 1) polynomial')
 
 -- ---- terms in place
 

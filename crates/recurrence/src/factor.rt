@@ -1,12 +1,13 @@
 // The product of two polynomials in one slice: F at its front, f further up. It takes F's place.
 ghost use Rattle.std.specs.Prelude.{◌≡◌, ◌+◌, ◌≤◌, length};
 ghost use Rattle.modular.specs.Modulus.{Modular};
+ghost use Rattle.refusal.specs.Number.{refused_by};
 ghost use Rattle.recurrence.specs.Factor.{Factors, product_at, Multiplied, factors_fit, factors_refusal, GivesProduct};
 
-use crate::Answer;
 use crate::convolution::crossed;
 use checks::are_elements;
 use modular::modulus::Modulus;
+use refusal::Refusal;
 use slices::copy_within;
 
 // Coefficient k of the product of F, of degree d, and f, of degree t at `f`: the sum over the places where both have a coefficient.
@@ -16,8 +17,7 @@ fn coefficient(m: Modulus, work: &[u32], d: usize, f: usize, t: usize, k: usize)
 {
     let from = if k < t { 0 } else { k - t };
     let to = if k < d { k + 1 } else { d + 1 };
-    let front: usize = 0;
-    crossed(work, front, f + k, from, to).residue(m)
+    crossed(work, 0, f + k, from, to).residue(m)
 }
 
 // F becomes F × f, from the highest coefficient down: those that are still read stand below.
@@ -25,9 +25,7 @@ fn multiply_within(m: Modulus, work: &mut [u32], d: usize, f: usize, t: usize)
     requires { Modular m × Factors m.p work.old d f t }
     ensures { Multiplied m.p work.old d f t work.new }
 {
-    let mut k = d + t + 1;
-    while 0 < k {
-        k -= 1;
+    for k in (0..d + t + 1).rev() {
         work[k] = coefficient(m, work, d, f, t, k);
     }
 }
@@ -36,51 +34,36 @@ fn multiply_within(m: Modulus, work: &mut [u32], d: usize, f: usize, t: usize)
 fn factors_fit(places: usize, d: usize, f: usize, t: usize) -> bool
     ensures { result ≡ factors_fit places d f t }
 {
-    if d > 8192 {
-        return false;
-    }
-    if t > 8192 {
-        return false;
-    }
-    if places <= f {
-        return false;
-    }
-    (d + t <= 8192) & (d + t < f) & (t < places - f)
+    let degree = d.saturating_add(t);
+    (degree <= 8192) & (degree < f) & (f.saturating_add(t) < places)
 }
 
 // 3, 8 and 9 of two factors: p is 2 to 2,147,483,647, prime or not; their places; their coefficients.
-fn factors_refusal(p: u32, work: &[u32], d: usize, f: usize, t: usize) -> u32
-    ensures { result ≡ factors_refusal p work.now d f t }
+fn check_factors(p: u32, work: &[u32], d: usize, f: usize, t: usize) -> Result<(), Refusal>
+    ensures { refused_by result ≡ factors_refusal p work.now d f t }
 {
     if !((p >= 2) & (p <= 2147483647)) {
-        return 3;
+        return Err(Refusal::Modulus);
     }
     if !factors_fit(work.len(), d, f, t) {
-        return 8;
+        return Err(Refusal::Lengths);
     }
-    let front: usize = 0;
-    let end = d + 1;
-    let to = f + (t + 1);
-    if !(are_elements(p, &work[front..end]) & are_elements(p, &work[f..to])) {
-        return 9;
+    if !(are_elements(p, &work[..d + 1]) & are_elements(p, &work[f..f + t + 1])) {
+        return Err(Refusal::Elements);
     }
-    0
+    Ok(())
 }
 
 // F × f in F's place, for F of degree d at the front and f of degree t at `f`: the answer is the product's degree.
-pub fn multiply(p: u32, work: &mut [u32], d: usize, f: usize, t: usize) -> Answer
+pub fn multiply(p: u32, work: &mut [u32], d: usize, f: usize, t: usize) -> Result<usize, Refusal>
     ensures { GivesProduct p work.old d f t result work.new }
 {
-    let number = factors_refusal(p, work, d, f, t);
-    if number != 0 {
-        return Answer::Refused(number);
-    }
-    let front: usize = 0;
+    check_factors(p, work, d, f, t)?;
     // F = 1, as a run's first pass has it: the product is f.
-    if (d == 0) & (work[front] == 1) {
-        copy_within(work, f, front, t + 1);
-        return Answer::Degree(t);
+    if d == 0 && work[0] == 1 {
+        copy_within(work, f, 0, t + 1);
+        return Ok(t);
     }
     multiply_within(Modulus::of(p), work, d, f, t);
-    Answer::Degree(d + t)
+    Ok(d + t)
 }

@@ -25,7 +25,7 @@ use modular::multiplier::Multiplier;
 use slices::{clear, copy_within, reverse};
 
 // What the steps keep beside the regions.
-#[derive(Clone, Copy)]
+#[derive(Clone, Copy, Debug, PartialEq, Eq)]
 pub struct Register {
     // d, the discrepancy of r; before the first r it says nothing
     pub d: u32,
@@ -52,10 +52,8 @@ fn subtract(m: Modulus, factor: u32, work: &mut [u32], q: usize, t: usize, size:
         (λ i. minus m.p (at work.old (q + i)) (times m.p factor (at work.old (t + i)))) work.new }
 {
     let k = Multiplier::of(m, factor);
-    let mut i = 0;
-    while i < size {
+    for i in 0..size {
         work[q + i] = m.difference(work[q + i], k.times(m.p, work[t + i]));
-        i += 1;
     }
 }
 
@@ -68,8 +66,7 @@ pub(crate) fn start(p: u32, count: usize, work: &mut [u32]) -> Register
     ensures laid { Laid p count 0 result × TermsStay count work.old work.new }
 {
     let q = count + 2;
-    let end = 2 * q;
-    clear(&mut work[q..end]);
+    clear(&mut work[q..2 * q]);
     work[q] = 1;
     Register {
         d: 0,
@@ -142,10 +139,8 @@ pub(crate) fn make_steps(
     ensures { MakesSteps m.p count from to work.old before work.new result }
 {
     let mut c = before;
-    let mut r = from;
-    while r < to {
-        r += 1;
-        c = step(m, count, work, r, c);
+    for made in from..to {
+        c = step(m, count, work, made + 1, c);
     }
     c
 }
@@ -159,7 +154,6 @@ pub(crate) fn shortest(m: Modulus, count: usize, work: &mut [u32]) -> usize
     let fresh = start(m.p, count, work);
     let c = make_steps(m, count, work, 0, count, fresh);
     let q = count + 2;
-    let end = q + (c.L + 1);
-    reverse(&mut work[q..end]);
+    reverse(&mut work[q..q + c.L + 1]);
     c.L
 }

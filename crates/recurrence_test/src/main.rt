@@ -3,20 +3,20 @@
 // behind it; and of the work slice what a call may not change, two places behind it and, where it refuses, all. vectors.py makes calls and output.
 #![tactic(auto)]
 
-use recurrence::Answer;
+use refusal::Refusal;
 use std::io;
-use test_io::{at, front, list, place, print, show};
+use test_io::{FREE, LENT, MEMORY, at, filled, front, list, place, print, show};
 
 // The answer; the places that the call was free to change.
-fn print_answer(rt: &impl Print, answer: Answer, work: usize) -> io::Result<usize> {
+fn print_answer(rt: &impl Print, answer: Result<usize, Refusal>, work: usize) -> io::Result<usize> {
     match answer {
-        Answer::Degree(degree) => {
+        Ok(degree) => {
             print(rt, 0)?;
             print(rt, degree as u64)?;
             Ok(work)
         }
-        Answer::Refused(number) => {
-            print(rt, number as u64)?;
+        Err(refusal) => {
+            print(rt, u64::from(u32::from(refusal)))?;
             Ok(0)
         }
     }
@@ -26,8 +26,8 @@ fn call(rt: &impl Print, memory: &[u32], from: usize) -> io::Result<()> {
     let head = list(memory, from, 0);
     let places = place(head, 1);
     let room = place(head, 2);
-    let mut polynomial = test_io::lent();
-    let mut work = test_io::lent();
+    let mut polynomial: [u32; LENT] = filled(FREE);
+    let mut work: [u32; LENT] = filled(FREE);
     let answer = recurrence::recurrence(
         field::Field { p: at(head, 0) },
         list(memory, from, 1),
@@ -41,7 +41,7 @@ fn call(rt: &impl Print, memory: &[u32], from: usize) -> io::Result<()> {
 }
 
 fn main(rt: HostRuntime) -> io::Result<()> {
-    let mut room = test_io::memory();
+    let mut room: [u32; MEMORY] = filled(0);
     test_io::read_numbers(&mut rt.stdin(), &mut room)?;
     let memory: &[u32] = &room;
     let calls = at(memory, 0);

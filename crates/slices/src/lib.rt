@@ -11,57 +11,36 @@ ghost use Rattle.slices.specs.Copy.{Copies};
 pub fn element(v: &[u32], i: usize) -> u32
     ensures { result ≡ at v.now i }
 {
-    if i < v.len() { v[i] } else { 0 }
+    v.get(i).copied().unwrap_or(0)
 }
 
 // Whether each element is 0.
 pub fn is_zero(v: &[u32]) -> bool
     ensures { result ≡ is_zero v.now }
 {
-    let mut i = 0;
-    while i < v.len() {
-        if v[i] != 0 {
-            return false;
-        }
-        i += 1;
-    }
-    true
+    v.iter().all(|x| *x == 0)
 }
 
 // Zeros in every place.
 pub fn clear(out: &mut [u32])
     ensures { out.new ≡ zeros (length out.old) }
 {
-    let mut i = 0;
-    while i < out.len() {
-        out[i] = 0;
-        i += 1;
-    }
+    out.fill(0);
 }
 
 // All places in reverse order.
 pub fn reverse(v: &mut [u32])
     ensures { v.new ≡ table (length v.old) (λ i. at v.old (length v.old - 1 - i)) }
 {
-    let n = v.len();
-    let mut i = 0;
-    while i < n / 2 {
-        let j = n - 1 - i;
-        let low = v[i];
-        v[i] = v[j];
-        v[j] = low;
-        i += 1;
-    }
+    v.reverse();
 }
 
 // The source into out, zeros after it.
 pub fn write_padded(source: &[u32], out: &mut [u32])
     ensures { out.new ≡ padded (length out.old) source.now }
 {
-    let mut i = 0;
-    while i < out.len() {
+    for i in 0..out.len() {
         out[i] = element(source, i);
-        i += 1;
     }
 }
 
@@ -74,18 +53,12 @@ pub fn copy_within(work: &mut [u32], from: usize, to: usize, size: usize)
         return;
     }
     let last = work.len() - size;
-    if from > last {
+    if from > last || to > last {
         return;
     }
-    if to > last {
+    let end = from + size;
+    if from < to && to < end {
         return;
     }
-    if (from < to) & (to < from + size) {
-        return;
-    }
-    let mut i = 0;
-    while i < size {
-        work[to + i] = work[from + i];
-        i += 1;
-    }
+    work.copy_within(from..end, to);
 }

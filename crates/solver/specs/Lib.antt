@@ -2,3 +2,4 @@
 pub mod Bill
 pub mod Run
 pub mod Verdict
+pub mod System

@@ -12,7 +12,7 @@
 --     Finished, midway_end     r = 0: the whole run is what is held
 --     Bounded                  how large the counts of all passes may be
 --     Closable, closable       what the end asks: F is monic of degree D ≤ n
-use Rattle.std.specs.Prelude.{◌≡◌, refl, ◌⊎◌, true, false, not, cond, List, [], ◌∷◌, ◌++◌, ℕ, ◌+◌, ◌*◌, ◌≤◌, ◌<◌, take, drop, get_or, set, eqb}
+use Rattle.std.specs.Prelude.{Result, Ok, Err, ◌≡◌, refl, ◌⊎◌, true, false, not, cond, List, [], ◌∷◌, ◌++◌, ℕ, ◌+◌, ◌*◌, ◌≤◌, ◌<◌, take, drop, get_or, set, eqb}
 use Rattle.std.proofs.Math.Path.{sym, ap, subst}
 use Rattle.std.proofs.Common.{ap₂, ◌∙◌, inl, inr, zero-add, eq-or-lt_of_le, add-one, arith, length-set, length-append, take-append-drop, take-suc, take_all, get_or-set_same, get_or-set_other, eqb-true}
 use Rattle.std.proofs.Math.Decide.{dec_lt}
@@ -40,8 +40,7 @@ use Rattle.checks.specs.Valid.{ValidScaled, Vector, valid_scaled, vector_element
 use Rattle.checks.specs.Matrix.{vector_checks, scaled_valid}
 use Rattle.checks.specs.Products.{per_product_low}
 use Rattle.wiedemann.specs.declared.pass.Pass.{Pass as CodePass}
-use Rattle.wiedemann.specs.declared.pass.Passed.{Passed}
-use Rattle.wiedemann.specs.declared.pass.Passed.TheVariants.{Made, Refused}
+use Rattle.refusal.specs.declared.Refusal.{Refusal}
 use Rattle.laws.specs.Part.{part, at_part, part_ext}
 use Rattle.laws.specs.Lent.{lent, length_lent, part_lent, part_at, part_cons}
 use Rattle.checks.specs.Pass.{residual_at, pass_refusal, refused_state, state_0}
@@ -301,13 +300,13 @@ module _ {p : ℕ} {A : Matrix} {X b words : List ℕ} {w : ℕ} {B B' W : List 
       (and_both (vector_elements factor) (vector_elements residual))
 
   -- whatever its projection
-  pub midway_made : is_zero (part (residual_at (size A)) (size A) W) ≡ false → words_taken (size A) words ≡ true → (i : ℕ) (W' : List ℕ) (r : Passed) (k : ℕ)
-      → r ≡ Refused k → Passes p A X words w i c.degree W r W' → ⊥
+  pub midway_made : is_zero (part (residual_at (size A)) (size A) W) ≡ false → words_taken (size A) words ≡ true → (i : ℕ) (W' : List ℕ) (r : Result CodePass Refusal) (k : Refusal)
+      → r ≡ Err k → Passes p A X words w i c.degree W r W' → ⊥
   midway_made z t i W' r k e said =
       let q = subst (λ x. Passes p A X words w i c.degree W x W') e said in q.1 (sym q.0 ∙ midway_state z t)
 
   -- the numbers that a pass adds, whatever its projection
-  pub midway_fits : is_zero (part (residual_at (size A)) (size A) W) ≡ false → (i : ℕ) (W' : List ℕ) (r : Passed) (q : CodePass) → r ≡ Made q
+  pub midway_fits : is_zero (part (residual_at (size A)) (size A) W) ≡ false → (i : ℕ) (W' : List ℕ) (r : Result CodePass Refusal) (q : CodePass) → r ≡ Ok q
       → Passes p A X words w i c.degree W r W' → Fits c q
   midway_fits z i W' r q e said =
       let made = subst (λ x. Passes p A X words w i c.degree W x W') e said in
@@ -331,7 +330,7 @@ module _ {p : ℕ} {A : Matrix} {X b words : List ℕ} {w : ℕ} {B B' W : List 
         entries_low = omega (arith, made.1.by_entry, multiplied_most M 65536 q.applications (per_product_low (valid_scaled X s.valid.valid)), cost);
       }
 
-  pub midway_next : is_zero (part (residual_at (size A)) (size A) W) ≡ false → (W' : List ℕ) (r : Passed) (q : CodePass) → r ≡ Made q
+  pub midway_next : is_zero (part (residual_at (size A)) (size A) W) ≡ false → (W' : List ℕ) (r : Result CodePass Refusal) (q : CodePass) → r ≡ Ok q
       → Passes p A X words w j c.degree W r W' → (length W' ≡ length W) × Midway p M b words w B (entered B' j (pass_of q)) W' (j + 1) (counted c q)
   midway_next z W' r q e said =
       let made = subst (λ x. Passes p A X words w j c.degree W x W') e said in

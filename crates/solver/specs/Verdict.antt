@@ -12,7 +12,7 @@
 --     constant, divisor, coefficients, taken_in      F[0], its inverse and G in the polynomial slice; G(A)b is not refused
 --     closed             so it is the meaning's `solve`; found_used: also where only the scales that count were used
 -- A call that was refused, and one that was not, by these: proofs/Call.antt, `refused` and `taken`.
-use Rattle.std.specs.Prelude.{◌≡◌, refl, ◌≢◌, not, ◌&&◌, ℕ, ◌+◌, ◌-◌, ◌*◌, ◌≤◌, ◌<◌, eqb, leb, length, take, drop}
+use Rattle.std.specs.Prelude.{Result, Ok, Err, ◌≡◌, refl, ◌≢◌, not, ◌&&◌, ℕ, ◌+◌, ◌-◌, ◌*◌, ◌≤◌, ◌<◌, eqb, leb, length, take, drop}
 use Rattle.std.proofs.Common.{sym, ap, ap₂, ◌∙◌, subst, arith, length-drop, take_all, get_or-drop, eq-eqb, le-leb}
 use mathlib.Core.List.{List, [], ◌∷◌}
 use Rattle.meaning.specs.List.{at, padded}
@@ -26,7 +26,9 @@ use Rattle.residue.specs.Inverse.{inverse_lt}
 use Rattle.bridge.specs.ThirdCondition.{every_run, every_two_runs, solve_same, verdict_vector}
 use Rattle.solver.specs.declared.Counts.{Counts}
 use Rattle.solver.specs.declared.Verdict.{Verdict}
-use Rattle.solver.specs.declared.Verdict.TheVariants.{Solved, Singular, Refused}
+use Rattle.solver.specs.declared.Verdict.TheVariants.{Solved, Singular}
+use Rattle.refusal.specs.declared.Refusal.{Refusal}
+use Rattle.refusal.specs.Number.{number_of}
 use Rattle.laws.specs.Part.{part, at_part, length_part}
 use Rattle.laws.specs.Lent.{part_of_take, take_padded}
 use Rattle.checks.specs.declared.Products.{Products}
@@ -54,10 +56,10 @@ pub record ByEntry (A : Matrix) (o : Outcome) : Type 0 where
   pub fits : o.multiplied ≤ 13194407968768
 
 -- "a refusal returns its number and no other answer"
-abbrev pub Says : Verdict → ℕ → Outcome → Type 0
-Says (Solved c) number o = (number ≡ 0) × (o.kind ≡ solved) × Counted c o
-Says (Singular c) number o = (number ≡ 0) × (o.kind ≡ singular) × Counted c o
-Says (Refused k) number o = (number ≡ k) × (k ≢ 0)
+abbrev pub Says : Result Verdict Refusal → ℕ → Outcome → Type 0
+Says (Ok (Solved c)) number o = (number ≡ 0) × (o.kind ≡ solved) × Counted c o
+Says (Ok (Singular c)) number o = (number ≡ 0) × (o.kind ≡ singular) × Counted c o
+Says (Err r) number o = (number ≡ number_of r) × (number_of r ≢ 0)
 
 pub record Leaves (p : ℕ) (A : Matrix) (X b words : List ℕ) (window : ℕ) (vector polynomial bill work vector' polynomial' bill' work' : List ℕ) : Type 0 where
   pub vector_after_law : vector' ≡ vector_after p A X b words window vector polynomial work
@@ -69,7 +71,7 @@ pub record Leaves (p : ℕ) (A : Matrix) (X b words : List ℕ) (window : ℕ) (
   pub condition : solver_refusal p A X b words window vector polynomial work ≡ 0 → ThirdCondition p A X b words window (solve p A X b words window)
   pub by_entry : solver_refusal p A X b words window vector polynomial work ≡ 0 → ByEntry A (solve p A X b words window)
 
-pub record Solves (p : ℕ) (A : Matrix) (X b words : List ℕ) (window : ℕ) (vector polynomial bill work : List ℕ) (r : Verdict) (vector' polynomial' bill' work' : List ℕ) : Type 0 where
+pub record Solves (p : ℕ) (A : Matrix) (X b words : List ℕ) (window : ℕ) (vector polynomial bill work : List ℕ) (r : Result Verdict Refusal) (vector' polynomial' bill' work' : List ℕ) : Type 0 where
   pub says : Says r (solver_refusal p A X b words window vector polynomial work) (solve p A X b words window)
   pub leaves : Leaves p A X b words window vector polynomial bill work vector' polynomial' bill' work'
 
@@ -111,24 +113,24 @@ same_slices {p} {A} {X} {b} {words} {window} {v} {f} {B} {w} {words₁} {window�
     )
 
 -- the kind of an answer that is no refusal
-abbrev pub kind_of : Verdict → Kind → Type 0
-kind_of (Solved c) k = k ≡ solved
-kind_of (Singular c) k = k ≡ singular
-kind_of (Refused n) k = ⊥
+abbrev pub kind_of : Result Verdict Refusal → Kind → Type 0
+kind_of (Ok (Solved c)) k = k ≡ solved
+kind_of (Ok (Singular c)) k = k ≡ singular
+kind_of (Err r) k = ⊥
 
-pub record SameRun (p : ℕ) (A : Matrix) (X b : List ℕ) (r r' : Verdict) (vector vector' polynomial polynomial' : List ℕ) : Type 0 where
+pub record SameRun (p : ℕ) (A : Matrix) (X b : List ℕ) (r r' : Result Verdict Refusal) (vector vector' polynomial polynomial' : List ℕ) : Type 0 where
   pub kind : Kind
   pub this : kind_of r kind
   pub that : kind_of r' kind
   pub same_vector : vector ≡ vector'
   pub same_polynomial : polynomial ≡ polynomial'
 
-kind_says : (r : Verdict) (number : ℕ) (o : Outcome) → number ≡ 0 → Says r number o → kind_of r o.kind
-kind_says (Solved c) number o e s = s.1
-kind_says (Singular c) number o e s = s.1
-kind_says (Refused k) number o e s = s.1 (sym s.0 ∙ e)
+kind_says : (r : Result Verdict Refusal) (number : ℕ) (o : Outcome) → number ≡ 0 → Says r number o → kind_of r o.kind
+kind_says (Ok (Solved c)) number o e s = s.1
+kind_says (Ok (Singular c)) number o e s = s.1
+kind_says (Err r) number o e s = s.1 (sym s.0 ∙ e)
 
-module _ (p : ℕ) (A : Matrix) (X b words : List ℕ) (window : ℕ) (v f B w words₁ : List ℕ) (window₁ : ℕ) (v₁ f₁ B₁ w₁ : List ℕ) (r r₁ : Verdict) (v' f' B' w' v₁' f₁' B₁' w₁' : List ℕ) where
+module _ (p : ℕ) (A : Matrix) (X b words : List ℕ) (window : ℕ) (v f B w words₁ : List ℕ) (window₁ : ℕ) (v₁ f₁ B₁ w₁ : List ℕ) (r r₁ : Result Verdict Refusal) (v' f' B' w' v₁' f₁' B₁' w₁' : List ℕ) where
   pub same_run : Solves p A X b words window v f B w r v' f' B' w' → Solves p A X b words₁ window₁ v₁ f₁ B₁ w₁ r₁ v₁' f₁' B₁' w₁' → solver_refusal p A X b words window v f w ≡ 0
       → solver_refusal p A X b words₁ window₁ v₁ f₁ w₁ ≡ 0 → SameRun p A X b r r₁ v' v₁' f' f₁'
   same_run s s₁ e e₁ =
@@ -166,7 +168,6 @@ closing_none A c e =
 abbrev pub Ends : Verdict → Kind → Counts → Type 0
 Ends (Solved c) k d = (k ≡ solved) × (c ≡ d)
 Ends (Singular c) k d = (k ≡ singular) × (c ≡ d)
-Ends (Refused n) k d = ⊥
 
 pub record Closed (p : ℕ) (A : Matrix) (b W : List ℕ) (c : Counts) (r : Verdict) (vector polynomial : List ℕ) : Type 0 where
   -- "D − 1 for G(A)b where D is at least 1"
@@ -243,7 +244,7 @@ module _ {p : ℕ} {A : Matrix} {X b W : List ℕ} {c : Counts} (s : CheckedSyst
 
 -- what the whole run found
 pub record Found (p : ℕ) (A : Matrix) (X b words : List ℕ) (window : ℕ) (bill : List ℕ) (r : Verdict) (vector polynomial bill' : List ℕ) : Type 0 where
-  pub says : Says r 0 (solve p A X b words window)
+  pub says : Says (Ok r) 0 (solve p A X b words window)
   pub vector_is : vector ≡ (solve p A X b words window).vector
   pub polynomial_is : polynomial ≡ padded (size A + 1) (solve p A X b words window).polynomial
   pub bill_is : bill' ≡ billed bill (solve p A X b words window).passes
@@ -254,7 +255,7 @@ pub closed : {p : ℕ} {A : Matrix} {X b words : List ℕ} {window : ℕ} {B B' 
 unfolding solve answered outcome close
 closed {p} {A} {X} {b} {words} {window} {B} {B'} {W} {c} {r} {vector} {polynomial} s f q =
     record {
-      says = subst (λ o. Says r 0 o) found (go r q.ended.ends);
+      says = subst (λ o. Says (Ok r) 0 o) found (go r q.ended.ends);
       vector_is = q.vector_is ∙ ap (diagonal p X) q.ended.vector_is ∙ ap (λ (o : Outcome). o.vector) found;
       polynomial_is = q.ended.polynomial_is ∙ ap (λ (o : Outcome). padded (size A + 1) o.polynomial) found;
       bill_is = f.bill ∙ ap (λ (o : Outcome). billed B o.passes) found;
@@ -289,17 +290,16 @@ closed {p} {A} {X} {b} {words} {window} {B} {B'} {W} {c} {r} {vector} {polynomia
         subst (λ k. Counted k (end)) (sym e)
         (record { degree = refl; passes = f.passes; applications = ap (λ k. k + (c.degree - 1)) f.applications; multiplied = multiplied_here })
 
-    go : (r : Verdict) → Ends r (verdict p M b (part 0 (c.degree + 1) W) c.degree).0 (closing c (products_with (c.degree - 1) M)) → Says r 0 (end)
+    go : (r : Verdict) → Ends r (verdict p M b (part 0 (c.degree + 1) W) c.degree).0 (closing c (products_with (c.degree - 1) M)) → Says (Ok r) 0 (end)
     go (Solved d) e = (refl, e.0, counted d e.1)
     go (Singular d) e = (refl, e.0, counted d e.1)
-    go (Refused n) e = absurd e
 
 -- what was found with the scales that count was found with all of them
 pub found_used : {p : ℕ} {A : Matrix} {X b words : List ℕ} {window : ℕ} {B : List ℕ} {r : Verdict} {v f B' : List ℕ} (k : ℕ) → k ≡ used X
     → Found p A (part 0 k X) b words window B r v f B' → Found p A X b words window B r v f B'
 found_used {p} {A} {X} {b} {words} {window} {B} {r} k e q =
     record {
-      says = subst (λ o. Says r 0 o) same q.says;
+      says = subst (λ o. Says (Ok r) 0 o) same q.says;
       vector_is = q.vector_is ∙ ap (λ (o : Outcome). o.vector) same;
       polynomial_is = q.polynomial_is ∙ ap (λ (o : Outcome). padded (size A + 1) o.polynomial) same;
       bill_is = q.bill_is ∙ ap (λ (o : Outcome). billed B o.passes) same;

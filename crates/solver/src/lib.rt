@@ -5,34 +5,40 @@
 // pass), specs/Run.antt (what the work slice holds between two passes) and specs/Verdict.antt (what an answer says, and the third condition).
 #![tactic(auto)]
 
+mod system;
+
 ghost use Rattle.std.specs.Prelude.{◌≡◌, true, [], ◌+◌, ◌-◌, ◌*◌, ◌≤◌, ◌<◌, length};
 ghost use Rattle.meaning.specs.List.{at, table, is_zero};
 ghost use Rattle.meaning.specs.Field.{minus, times};
-ghost use Rattle.meaning.specs.Matrix.{matrix, apply, scaled};
+ghost use Rattle.meaning.specs.Matrix.{apply};
 ghost use Rattle.meaning.specs.Refusal.{words_taken};
 ghost use Rattle.checks.specs.Matrix.{scaled_apply_refusal};
 ghost use Rattle.meaning.specs.Solver.{begin};
 ghost use Rattle.checks.specs.Products.{products_with, Few};
+ghost use Rattle.checks.specs.Slices.{matrix_of};
 ghost use Rattle.checks.specs.Valid.{Vector};
 ghost use Rattle.modular.specs.Modulus.{Multiplies};
 ghost use Rattle.laws.specs.Part.{part};
 ghost use Rattle.checks.specs.Pass.{residual_at};
 ghost use Rattle.wiedemann.specs.Pass.{held, pass_of};
 ghost use Rattle.solver.specs.Bill.{entered};
-ghost use Rattle.solver.specs.Run.{CheckedSystem, used, none, counted, Fits, Finished, Bounded, Closable};
+ghost use Rattle.solver.specs.System.{plain, operator, rows};
+ghost use Rattle.solver.specs.Run.{used, none, counted, Fits, Finished, Bounded, Closable};
 ghost use Rattle.solver.specs.Verdict.{closing, Closed, Answered, Solves};
 
-use checks::{Products, Writing, all_ones, residual_at, solver_refusal};
+use checks::{Matrix, Products, all_ones, check_solve, residual_at};
 use field::{Field, inverse_modulo};
 use modular::diagonal::scale;
 use modular::modulus::Modulus;
 use modular::multiplier::Multiplier;
+use refusal::Refusal;
 use slices::{is_zero, write_padded};
+use system::System;
 use wiedemann::matrix::apply_scaled;
-use wiedemann::pass::{Pass, Passed, make_pass};
+use wiedemann::pass::{Pass, make_pass};
 
 // D, the passes, the applications and the entries that these multiplied.
-#[derive(Clone, Copy)]
+#[derive(Clone, Copy, Debug, Default, PartialEq, Eq)]
 pub struct Counts {
     pub degree: usize,
     pub passes: u64,
@@ -40,13 +46,11 @@ pub struct Counts {
     pub multiplied: u64,
 }
 
-// What a run answers. No 'failed' kind exists.
-#[derive(Clone, Copy)]
+// What a run that is not refused answers. No 'failed' kind exists.
+#[derive(Clone, Copy, Debug, PartialEq, Eq)]
 pub enum Verdict {
     Solved(Counts),
     Singular(Counts),
-    // The number of the first check that turned the input down.
-    Refused(u32),
 }
 
 // ---- slices
@@ -66,10 +70,8 @@ fn divide(p: u32, inverse: u32, v: &mut [u32])
     ensures { v.new ≡ table (length v.old) (λ i. times p (minus p 0 (at v.old i)) inverse) }
 {
     let k = Multiplier::of(Modulus::of(p), inverse);
-    let mut i = 0;
-    while i < v.len() {
+    for i in 0..v.len() {
         v[i] = quotient(p, k, v[i]);
-        i += 1;
     }
 }
 
@@ -85,12 +87,7 @@ fn begin(b: &[u32], work: &mut [u32]) -> Counts
     let to = from + b.len();
     write_padded(b, &mut work[from..to]);
     work[0] = 1;
-    Counts {
-        degree: 0,
-        passes: 0,
-        applications: 0,
-        multiplied: 0,
-    }
+    Counts::default()
 }
 
 // Whether r is zero.
@@ -132,31 +129,16 @@ fn count(c: Counts, q: Pass) -> Counts
 }
 
 // While r is not zero, a pass with the next projection. A pass of a run's own state is never refused.
-fn run(
-    field: Field,
-    starts: &[u32],
-    columns: &[u32],
-    values: &[u32],
-    scales: &[u32],
-    b: &[u32],
-    words: &[u32],
-    window: u32,
-    bill: &mut [u32],
-    work: &mut [u32],
-) -> Counts
-    requires checked_system { CheckedSystem field.p (matrix starts.now columns.now values.now) scales.now b.now }
-    requires words_value { (words_taken (length starts.now - 1) words.now ≡ true) × (16 * (length starts.now - 1) + 16 ≤ length work.old) }
-    ensures { Finished field.p (scaled field.p (matrix starts.now columns.now values.now) scales.now)
-        b.now words.now window bill.old bill.new work.new result }
+fn run(s: &System, words: &[u32], window: u32, bill: &mut [u32], work: &mut [u32]) -> Counts
+    requires { (words_taken (rows s.now) words.now ≡ true) × (16 * rows s.now + 16 ≤ length work.old) }
+    ensures { Finished s.now.field.p (operator s.now) s.now.b.now words.now window bill.old bill.new work.new result }
 {
-    let n = starts.len() - 1;
-    let mut c = begin(b, work);
+    let n = s.a.starts.len() - 1;
+    let mut c = begin(s.b, work);
     let mut j = 0;
     while !is_settled(n, work) {
-        let answer = make_pass(
-            field, starts, columns, values, scales, words, window, j, c.degree, work,
-        );
-        let Passed::Made(q) = answer else {
+        let answer = make_pass(s.field, s.a, s.scales, words, window, j, c.degree, work);
+        let Ok(q) = answer else {
             return c;
         };
         c = count(c, q);
@@ -182,101 +164,57 @@ fn closed(c: Counts, done: Products) -> Counts
 }
 
 // G(AX)b into the vector slice; the answer is the products that it took. A run's own G is never refused.
-fn apply_to_b(
-    field: Field,
-    starts: &[u32],
-    columns: &[u32],
-    values: &[u32],
-    scales: &[u32],
-    g: &[u32],
-    b: &[u32],
-    vector: &mut [u32],
-    work: &mut [u32],
-) -> Products
-    requires { scaled_apply_refusal field.p (matrix starts.now columns.now values.now) scales.now g.now b.now vector.old work.old ≡ 0 }
-    ensures { (result ≡ products_with (length g.now - 1) (scaled field.p (matrix starts.now columns.now values.now) scales.now))
-        × (vector.new ≡ apply field.p (scaled field.p (matrix starts.now columns.now values.now) scales.now) g.now b.now) }
+fn apply_to_b(s: &System, g: &[u32], vector: &mut [u32], work: &mut [u32]) -> Products
+    requires { scaled_apply_refusal s.now.field.p (plain s.now) s.now.scales.now g.now s.now.b.now vector.old work.old ≡ 0 }
+    ensures { (result ≡ products_with (length g.now - 1) (operator s.now))
+        × (vector.new ≡ apply s.now.field.p (operator s.now) g.now s.now.b.now) }
 {
-    match apply_scaled(field, starts, columns, values, scales, g, b, vector, work) {
-        Writing::Done(done) => done,
-        Writing::Refused(_) => Products {
-            made: 0,
-            multiplied: 0,
-        },
-    }
+    apply_scaled(s.field, s.a, s.scales, g, s.b, vector, work).unwrap_or(Products::default())
 }
 
 // When r is zero: F into the polynomial slice, and what it makes of b into the vector slice. G is F without its first coefficient.
 fn finish(
-    field: Field,
-    starts: &[u32],
-    columns: &[u32],
-    values: &[u32],
-    scales: &[u32],
-    b: &[u32],
+    s: &System,
     work: &mut [u32],
     c: Counts,
     vector: &mut [u32],
     polynomial: &mut [u32],
 ) -> Verdict
-    requires checked_system { CheckedSystem field.p (matrix starts.now columns.now values.now) scales.now b.now }
-    requires closable { Closable field.p (scaled field.p (matrix starts.now columns.now values.now) scales.now) work.old c }
-    requires vector_len { (length vector.old ≡ length starts.now - 1) × (length polynomial.old ≡ length starts.now - 1 + 1) }
-    ensures { Closed field.p (scaled field.p (matrix starts.now columns.now values.now) scales.now)
-        b.now work.old c result vector.new polynomial.new }
+    requires closable { Closable s.now.field.p (operator s.now) work.old c }
+    requires vector_len { (length vector.old ≡ rows s.now) × (length polynomial.old ≡ rows s.now + 1) }
+    ensures { Closed s.now.field.p (operator s.now) s.now.b.now work.old c result vector.new polynomial.new }
 {
-    let front: usize = 0;
-    let one: usize = 1;
     let d = c.degree;
     let end = d + 1;
-    write_padded(&work[front..end], polynomial);
+    write_padded(&work[..end], polynomial);
     if d == 0 {
-        let n = b.len();
-        write_padded(&b[n..], vector);
+        write_padded(&[], vector);
         return Verdict::Solved(c);
     }
-    let done = apply_to_b(
-        field,
-        starts,
-        columns,
-        values,
-        scales,
-        &polynomial[one..end],
-        b,
-        vector,
-        work,
-    );
-    let constant = polynomial[front];
+    let done = apply_to_b(s, &polynomial[1..end], vector, work);
+    let constant = polynomial[0];
     if constant == 0 {
         return Verdict::Singular(closed(c, done));
     }
-    divide(field.p, inverse_modulo(field.p, constant), vector);
+    let p = s.field.p;
+    divide(p, inverse_modulo(p, constant), vector);
     Verdict::Solved(closed(c, done))
 }
 
 // The end of a run: what F makes of b, and X times it.
 fn answer(
-    field: Field,
-    starts: &[u32],
-    columns: &[u32],
-    values: &[u32],
-    scales: &[u32],
-    b: &[u32],
+    s: &System,
     work: &mut [u32],
     c: Counts,
     vector: &mut [u32],
     polynomial: &mut [u32],
 ) -> Verdict
-    requires checked_system { CheckedSystem field.p (matrix starts.now columns.now values.now) scales.now b.now }
-    requires closable { Closable field.p (scaled field.p (matrix starts.now columns.now values.now) scales.now) work.old c }
-    requires vector_len { (length vector.old ≡ length starts.now - 1) × (length polynomial.old ≡ length starts.now - 1 + 1) }
-    ensures { Answered field.p (matrix starts.now columns.now values.now) scales.now
-        b.now work.old c result vector.new polynomial.new }
+    requires closable { Closable s.now.field.p (operator s.now) work.old c }
+    requires vector_len { (length vector.old ≡ rows s.now) × (length polynomial.old ≡ rows s.now + 1) }
+    ensures { Answered s.now.field.p (plain s.now) s.now.scales.now s.now.b.now work.old c result vector.new polynomial.new }
 {
-    let verdict = finish(
-        field, starts, columns, values, scales, b, work, c, vector, polynomial,
-    );
-    scale(Modulus::of(field.p), scales, vector);
+    let verdict = finish(s, work, c, vector, polynomial);
+    scale(Modulus::of(s.field.p), s.scales, vector);
     verdict
 }
 
@@ -292,9 +230,7 @@ fn needed(scales: &[u32]) -> usize
 // words and window are, kind, vector and polynomial are those of A, X and b. The bill gets three numbers for each pass, left, degree and applications, for as many passes as it has room for; it may be empty.
 pub fn solve(
     field: Field,
-    starts: &[u32],
-    columns: &[u32],
-    values: &[u32],
+    a: &Matrix,
     scales: &[u32],
     b: &[u32],
     words: &[u32],
@@ -303,24 +239,19 @@ pub fn solve(
     polynomial: &mut [u32],
     bill: &mut [u32],
     work: &mut [u32],
-) -> Verdict
-    ensures { Solves field.p (matrix starts.now columns.now values.now) scales.now b.now
-        words.now window vector.old polynomial.old bill.old work.old result
+) -> Result<Verdict, Refusal>
+    ensures { Solves field.p (matrix_of a.now) scales.now b.now words.now window vector.old polynomial.old bill.old work.old result
         vector.new polynomial.new bill.new work.new }
 {
-    let number = solver_refusal(
-        field.p, starts, columns, values, scales, b, words, window, vector, polynomial, work,
-    );
-    if number != 0 {
-        return Verdict::Refused(number);
-    }
-    let front: usize = 0;
-    let end = needed(scales);
-    let x = &scales[front..end];
-    let c = run(
-        field, starts, columns, values, x, b, words, window, bill, work,
-    );
-    answer(
-        field, starts, columns, values, x, b, work, c, vector, polynomial,
-    )
+    check_solve(
+        field.p, a, scales, b, words, window, vector, polynomial, work,
+    )?;
+    let system = System {
+        field,
+        a,
+        scales: &scales[..needed(scales)],
+        b,
+    };
+    let c = run(&system, words, window, bill, work);
+    Ok(answer(&system, work, c, vector, polynomial))
 }

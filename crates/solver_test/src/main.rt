@@ -4,9 +4,11 @@
 // it; and of the work slice what a call may not change, two places behind it and, where it refuses, all. vectors.py makes calls and output.
 #![tactic(auto)]
 
+use checks::Matrix;
+use refusal::Refusal;
 use solver::{Counts, Verdict};
 use std::io;
-use test_io::{at, front, list, place, print, show};
+use test_io::{FREE, LENT, MEMORY, at, filled, front, list, place, print, show};
 
 fn print_counts(rt: &impl Print, solved: u64, counts: Counts) -> io::Result<()> {
     print(rt, 0)?;
@@ -18,18 +20,22 @@ fn print_counts(rt: &impl Print, solved: u64, counts: Counts) -> io::Result<()> 
 }
 
 // The answer; the places that the call was free to change.
-fn print_verdict(rt: &impl Print, verdict: Verdict, work: usize) -> io::Result<usize> {
+fn print_verdict(
+    rt: &impl Print,
+    verdict: Result<Verdict, Refusal>,
+    work: usize,
+) -> io::Result<usize> {
     match verdict {
-        Verdict::Solved(counts) => {
+        Ok(Verdict::Solved(counts)) => {
             print_counts(rt, 1, counts)?;
             Ok(work)
         }
-        Verdict::Singular(counts) => {
+        Ok(Verdict::Singular(counts)) => {
             print_counts(rt, 0, counts)?;
             Ok(work)
         }
-        Verdict::Refused(number) => {
-            print(rt, number as u64)?;
+        Err(refusal) => {
+            print(rt, u64::from(u32::from(refusal)))?;
             Ok(0)
         }
     }
@@ -41,15 +47,18 @@ fn call(rt: &impl Print, memory: &[u32], from: usize) -> io::Result<()> {
     let coefficients = place(head, 3);
     let billed = place(head, 4);
     let room = place(head, 5);
-    let mut vector = test_io::lent();
-    let mut polynomial = test_io::lent();
-    let mut bill = test_io::lent();
-    let mut work = test_io::lent();
+    let mut vector: [u32; LENT] = filled(FREE);
+    let mut polynomial: [u32; LENT] = filled(FREE);
+    let mut bill: [u32; LENT] = filled(FREE);
+    let mut work: [u32; LENT] = filled(FREE);
+    let a = Matrix {
+        starts: list(memory, from, 1),
+        columns: list(memory, from, 2),
+        values: list(memory, from, 3),
+    };
     let verdict = solver::solve(
         field::Field { p: at(head, 0) },
-        list(memory, from, 1),
-        list(memory, from, 2),
-        list(memory, from, 3),
+        &a,
         list(memory, from, 4),
         list(memory, from, 5),
         list(memory, from, 6),
@@ -68,7 +77,7 @@ fn call(rt: &impl Print, memory: &[u32], from: usize) -> io::Result<()> {
 }
 
 fn main(rt: HostRuntime) -> io::Result<()> {
-    let mut room = test_io::memory();
+    let mut room: [u32; MEMORY] = filled(0);
     test_io::read_numbers(&mut rt.stdin(), &mut room)?;
     let memory: &[u32] = &room;
     let calls = at(memory, 0);

@@ -1,8 +1,8 @@
 -- The second pass: what the slices hold after k lines.
---     laid_more, laid_all              k places of a list are laid over another; one place more; all places
---     front_fill                       a table laid over a list, extended by a run of one value
+--     laid_more                        k places of a list are laid over another: one place more
+--     table_run, front_fill            a table extended by a run of one value; the same laid over a list
 --     Reached                          k lines of one form are done; reached_none, line_there, reached_more: its begin, and its turn
---     EntriesFilled                    after k `a` lines; entries_begin, entry_bounds, entry_turn, starts_done, columns_done, values_done: its begin, its turn and its end
+--     EntriesFilled                    after k `a` lines; entries_begin; entry_there, entry_bounds, entry_turn; starts_done: its begin, its turn and its end
 use mathlib.Core.Path.{◌≡◌, refl, sym, ap, ap₂, ◌∙◌, subst}
 use mathlib.Core.Logic.{◌⊎◌, inl, inr}
 use mathlib.Core.Bool.{Bool, true, false, not, ◌&&◌, ◌||◌}
@@ -13,7 +13,9 @@ use native.Mathlib.Nat.{add-zero}
 use native.Mathlib.Numerals.{add-one}
 use lib.Dec.{eqb, ltb, leb}
 use lib.ListN.{get_or, length, take, drop, set, replicate, length-drop, length-set, length-map, take-append-drop, drop_of_length-le, get_or-map}
-use lib.Seq.{sets, drop-cons, take-suc, take-length, length-take-le, set_at, append_snoc, drop-drop}
+use lib.Seq.{drop-cons, take-suc, length-take-le, set_at, append_snoc, drop-drop, take_at, drop_at}
+use borrow.Rule.Slice.PartMut.{put_mid, mid_of, post_of, same_len_mid, mid_len}
+use Rattle.std.proofs.lemmas.List.{replicate_more, length-replicate}
 use borrow.Author.Tests.{leb-true, le-leb, lt-leb, ltb-true, eqb-true, eq-eqb, not-true}
 use Rattle.meaning.specs.List.{at, table, every, select, overwrite}
 use Rattle.meaning.specs.Text as text
@@ -23,10 +25,11 @@ use Rattle.laws.specs.Bool.{and_left, and_right, test_cases}
 use Rattle.laws.specs.List.{table_suc, table_zero, length_table, every_nil}
 use Rattle.text_laws.specs.Lists.{select_nil, select_no, select_append, select_all, every_join, every_one, every_head, every_tail, every_more, every_weaken}
 use Rattle.system_reader.specs.Order.{onward, forms_after, fresh, order_more, order_none}
-use Rattle.system_reader.specs.Lines.{Here, said, Missing, LineAt, entry_word, form_missing}
+use Rattle.system_reader.specs.Lines.{Here, said, LineOf, LineAt, entry_word, form_missing}
 use Rattle.system_reader.specs.Places.{entry_taken, place_taken, entries_taken, entries_taken_cons, entries_of, saying_here, entry_fresh}
 use Rattle.system_reader.specs.Fill.{starts_of, columns_of, values_of, Ahead, EntriesAhead}
-use Rattle.system_reader.specs.declared.numeral.Numbers.{Numbers}
+use Rattle.system_reader.specs.declared.numeral.Line.{Line}
+use Rattle.std.proofs.Common.{Option, Some, None, IsSome, length-append, append_assoc}
 
 -- ---- a list laid over another
 
@@ -40,25 +43,29 @@ laid_more new old k x l m e =
     ∙ ap (λ t. t ++ drop (suc k) old) (sym (take-suc new k 0 l))
     ∙ ap (λ j. take j new ++ drop j old) (sym (add-one k))
 
-pub laid_all : (new old : List ℕ) (k : ℕ) → length new ≡ k → take k new ++ drop k old ≡ overwrite new old
-laid_all new old k e = ap (λ j. take j new ++ drop j old) (sym e) ∙ ap (λ t. t ++ drop (length new) old) (take-length new)
+-- a table extended by a run of one value
+pub table_run : (m d v : ℕ) (g : ℕ → ℕ) → ((i : ℕ) → m ≤ i → i < m + d → g i ≡ v) → table (m + d) g ≡ table m g ++ replicate d v
+table_run m zero v g h = ap (λ j. table j g) (add-zero m) ∙ sym (append-nil (table m g))
+table_run m (suc d) v g h =
+    let e : m + suc d ≡ suc (m + d) = omega arith in
+    ap (λ j. table j g) e ∙ table_suc (m + d) g
+    ∙ ap₂ (λ l a. l ++ (a ∷ [])) (table_run m d v g (λ i a b. h i a (omega arith))) (h (m + d) (omega arith) (omega arith))
+    ∙ append_assoc (table m g) (replicate d v) (v ∷ []) ∙ ap (λ r. table m g ++ r) (replicate_more d v ∙ ap (λ j. replicate j v) (add-one d))
 
-front_set : (m : ℕ) (g : ℕ → ℕ) (old : List ℕ) → m < length old → set (table m g ++ drop m old) m (g m) ≡ table (suc m) g ++ drop (suc m) old
-front_set m g old l =
-    ap (λ t. set (table m g ++ t) m (g m)) (drop-cons old m 0 l)
-    ∙ set_at (table m g) (get_or old m 0) (drop (suc m) old) (g m) m (length_table m g)
-    ∙ sym (append_snoc (table m g) (g m) (drop (suc m) old))
-    ∙ ap (λ t. t ++ drop (suc m) old) (sym (table_suc m g))
-
-pub front_fill : (m d v : ℕ) (g : ℕ → ℕ) (old : List ℕ) → m + d ≤ length old → ((i : ℕ) → m ≤ i → i < m + d → g i ≡ v)
-    → sets (table m g ++ drop m old) m (replicate d v) ≡ table (m + d) g ++ drop (m + d) old
-front_fill m zero v g old l h = ap (λ j. table j g ++ drop j old) (sym (add-zero m))
-front_fill m (suc d) v g old l h =
-    let e : suc m + d ≡ m + suc d = omega arith in
-    ap (λ x. sets (set (table m g ++ drop m old) m x) (suc m) (replicate d v)) (sym (h m (omega arith) (omega arith)))
-    ∙ ap (λ t. sets t (suc m) (replicate d v)) (front_set m g old (omega arith))
-    ∙ front_fill (suc m) d v g old (omega arith) (λ i a b. h i (omega arith) (omega arith))
-    ∙ ap (λ j. table j g ++ drop j old) e
+-- .. laid over a list
+pub front_fill : (m to v : ℕ) (g : ℕ → ℕ) (old part : List ℕ) → m ≤ to → to ≤ length old → ((i : ℕ) → m ≤ i → i < to → g i ≡ v)
+    → part ≡ replicate (length (mid_of m (to - m) (table m g ++ drop m old))) v
+    → put_mid m (to - m) (table m g ++ drop m old) part ≡ table to g ++ drop to old
+front_fill m to v g old part o l h e =
+    let q : m + (to - m) ≡ to = omega arith in
+    let n : length (table m g ++ drop m old) ≡ length old = length-append (table m g) (drop m old) ∙ (omega (arith, length_table m g, length-drop m old)) in
+    let k = mid_len m to (table m g ++ drop m old) (omega (arith, n)) in
+    ap₂ (λ s t. s ++ (t ++ post_of m (to - m) (table m g ++ drop m old))) (take_at (table m g) (drop m old) m (length_table m g))
+    (e ∙ ap (λ i. replicate i v) k)
+    ∙ ap (λ t. table m g ++ (replicate (to - m) v ++ drop (to - m) t)) (drop_at (table m g) (drop m old) m (length_table m g))
+    ∙ ap (λ t. table m g ++ (replicate (to - m) v ++ t)) (drop-drop (to - m) m old ∙ ap (λ j. drop j old) q)
+    ∙ sym (append_assoc (table m g) (replicate (to - m) v) (drop to old))
+    ∙ ap (λ t. t ++ drop to old) (sym (table_run m (to - m) v g (λ i a b. h i a (omega (arith, q)))) ∙ ap (λ j. table j g) q)
 
 -- ---- selections of lines
 
@@ -148,16 +155,12 @@ module _ (f : text.Form) (test : List (List ℕ) → Bool) (s : List ℕ) (from 
     reached_inside = subst (λ c. k < c) (sym a.all) h
 
     -- before the last: a line is there
-    pub line_there : fresh f (forms_after f) ≡ true → (t : Bool) (e : List ℕ) (next : ℕ) → (t ≡ true → Here s i next f e)
-        → (t ≡ false → Missing f (lines (drop i s))) → Here s i next f e
-    line_there d t e next found missing = go (test_cases t)
-      where
-        go : (t ≡ true) ⊎ (t ≡ false) → Here s i next f e
-        go (inl q) = found q
-        go (inr q) =
-            let none : drop k all_lines ≡ [] =
-            sym r.rest ∙ order_none f (forms_after f) d (lines (drop i s)) (sym (form_missing (lines (drop i s)) f (forms_after f) (missing q)) ∙ r.form) in
-            absurd (omega (arith, ap length none, length-drop k all_lines, reached_inside))
+    pub line_there : fresh f (forms_after f) ≡ true → (m : ℕ) (l : Option (Line m)) → LineOf f s i m l → IsSome l
+    line_there d m None missing =
+        let none : drop k all_lines ≡ [] =
+        sym r.rest ∙ order_none f (forms_after f) d (lines (drop i s)) (sym (form_missing (lines (drop i s)) f (forms_after f) missing) ∙ r.form) in
+        absurd (omega (arith, ap length none, length-drop k all_lines, reached_inside))
+    line_there d m (Some l) here = refl
 
     module _ (e : List ℕ) (next : ℕ) (line : Here s i next f e) where
       pub reached_split : drop k all_lines ≡ e ∷ saying f (lines (drop next s))
@@ -208,45 +211,50 @@ entries_begin s from count n starts columns values a =
       values_now = refl;
     }
 
-module _ (s : List ℕ) (from count n : ℕ) (starts₀ columns₀ values₀ starts columns values : List ℕ) (i above k : ℕ)
+module _ {s : List ℕ} {from count n : ℕ} {starts₀ columns₀ values₀ starts columns values : List ℕ} {i above k : ℕ}
     (a : EntriesAhead s from count n) (f : EntriesFilled s from count n starts₀ columns₀ values₀ starts columns values i above k) where
   abbrev all_entries : List (List ℕ)
   all_entries = entries_of (drop from s)
 
-  -- before the last, and the line that is there
-  module _ (h : k < count) (r : Numbers) (l : LineAt s i (97 ∷ []) 3 r) where
-    abbrev x : ℕ
-    x = r.first
+  -- before the last: a line is there
+  pub entry_there : k < count → (o : Option (Line 3)) → LineAt s i (97 ∷ []) 3 o → IsSome o
+  entry_there h o stands = line_there text.entry (entries_taken n 0 0) s from count n a i k f.reached h entry_fresh 3 o (stands text.entry refl entry_word refl)
 
-    abbrev y : ℕ
-    y = r.second
-
-    abbrev z : ℕ
-    z = r.third
+  -- .. and that line
+  module _ (h : k < count) {o : Option (Line 3)} {l : Line 3} (some : o ≡ Some l) (stands : LineAt s i (97 ∷ []) 3 o) where
+    abbrev e : List ℕ
+    e = l.numbers
 
     abbrev next : ℕ
-    next = r.next
+    next = l.next
 
-    line : Here s i next text.entry (x ∷ y ∷ z ∷ [])
-    line =
-        let o = l text.entry refl entry_word refl in
-        line_there text.entry (entries_taken n 0 0) s from count n a i k f.reached h entry_fresh r.taken _ next o.found o.missing
+    line : Here s i next text.entry e
+    line = subst (LineAt s i (97 ∷ []) 3) some stands text.entry refl entry_word refl
+
+    abbrev x : ℕ
+    x = row e
+
+    abbrev y : ℕ
+    y = at e 1
+
+    abbrev z : ℕ
+    z = at e 2
 
     inside : k < length all_entries
     inside = reached_inside text.entry (entries_taken n 0 0) s from count n a i k f.reached h
 
-    split : drop k all_entries ≡ (x ∷ y ∷ z ∷ []) ∷ entries_of (drop next s)
-    split = reached_split text.entry (entries_taken n 0 0) s from count n a i k f.reached h (x ∷ y ∷ z ∷ []) next line
+    split : drop k all_entries ≡ e ∷ entries_of (drop next s)
+    split = reached_split text.entry (entries_taken n 0 0) s from count n a i k f.reached h e next line
 
-    here_is : get_or all_entries k [] ≡ x ∷ y ∷ z ∷ []
-    here_is = reached_here text.entry (entries_taken n 0 0) s from count n a i k f.reached h (x ∷ y ∷ z ∷ []) next line
+    here_is : get_or all_entries k [] ≡ e
+    here_is = reached_here text.entry (entries_taken n 0 0) s from count n a i k f.reached h e next line
 
     more : Reached text.entry s from count next (k + 1)
-    more = reached_more text.entry (entries_taken n 0 0) s from count n a i k f.reached h (x ∷ y ∷ z ∷ []) next line
+    more = reached_more text.entry (entries_taken n 0 0) s from count n a i k f.reached h e next line
 
     both_taken : entry_taken n above f.left x y && entries_taken n x y (entries_of (drop next s)) ≡ true
     both_taken =
-        sym (entries_taken_cons n above f.left (x ∷ y ∷ z ∷ []) (entries_of (drop next s)))
+        sym (entries_taken_cons n above f.left e (entries_of (drop next s)))
         ∙ ap (entries_taken n above f.left) (sym split) ∙ f.taken
 
     pub entry_bounds : (1 ≤ x) × (x ≤ n) × (1 ≤ y) × (above ≤ x)
@@ -255,15 +263,15 @@ module _ (s : List ℕ) (from count n : ℕ) (starts₀ columns₀ values₀ sta
     rows_from : every (λ e. leb x (row e)) (drop k all_entries) ≡ true
     rows_from =
         ap (every (λ e. leb x (row e))) split
-        ∙ every_more (λ e. leb x (row e)) (x ∷ y ∷ z ∷ []) (entries_of (drop next s)) (le-leb x x (omega arith))
+        ∙ every_more (λ e. leb x (row e)) e (entries_of (drop next s)) (le-leb x x (omega arith))
         (taken_rows n x y (entries_of (drop next s)) (and_right (entry_taken n above f.left x y) (entries_taken n x y (entries_of (drop next s))) both_taken))
 
-    pub entry_turn : (starts' : List ℕ) → n + 1 ≤ length starts₀ → count ≤ length columns₀ → count ≤ length values₀ → length starts' ≡ length starts
-        → starts' ≡ sets starts above (replicate (x - above) k)
+    pub entry_turn : (starts' part : List ℕ) → n + 1 ≤ length starts₀ → count ≤ length columns₀ → count ≤ length values₀
+        → starts' ≡ put_mid above (x - above) starts part → part ≡ replicate (length (mid_of above (x - above) starts)) k
         → EntriesFilled s from count n starts₀ columns₀ values₀ starts' (set columns k (y - 1)) (set values k z) next x (k + 1)
-    entry_turn starts' r₁ r₂ r₃ len e =
+    entry_turn starts' part r₁ r₂ r₃ q p =
         let b = entry_bounds in
-        let q : above + (x - above) ≡ x = omega (arith, b.3) in
+        let m = ap (λ t. length (mid_of above (x - above) t)) f.starts_now in
         record {
           reached = more;
           low = b.1;
@@ -271,15 +279,15 @@ module _ (s : List ℕ) (from count n : ℕ) (starts₀ columns₀ values₀ sta
           taken =
               ap (entries_taken n x y) (sym more.rest)
               ∙ and_right (entry_taken n above f.left x y) (entries_taken n x y (entries_of (drop next s))) both_taken;
-          passed = passed_more all_entries k above (x ∷ y ∷ z ∷ []) inside here_is b.3 f.passed;
-          starts_length = len ∙ f.starts_length;
+          passed = passed_more all_entries k above e inside here_is b.3 f.passed;
+          starts_length = ap length q ∙ same_len_mid above (x - above) starts part (ap length p ∙ length-replicate _ k) ∙ f.starts_length;
           columns_length = length-set columns k (y - 1) ∙ f.columns_length;
           values_length = length-set values k z ∙ f.values_length;
           starts_now =
-              e ∙ ap (λ t. sets t above (replicate (x - above) k)) f.starts_now
-              ∙ front_fill above (x - above) k (start_at all_entries) starts₀ (omega (arith, b.1, r₁, q))
-              (λ j u v. start_at_law all_entries k above x j (omega (arith, inside)) f.passed rows_from u (omega (arith, v, q)))
-              ∙ ap (λ j. table j (start_at all_entries) ++ drop j starts₀) q;
+              q ∙ ap (λ t. put_mid above (x - above) t part) f.starts_now
+              ∙ front_fill above x k (start_at all_entries) starts₀ part b.3 (omega (arith, b.1, r₁))
+              (λ j u v. start_at_law all_entries k above x j (omega (arith, inside)) f.passed rows_from u v)
+              (p ∙ ap (λ i. replicate i k) m);
           columns_now =
               ap (λ t. set t k (y - 1)) f.columns_now
               ∙ laid_more (columns_of all_entries) columns₀ k (y - 1) (subst (λ c. k < c) (sym (length-map all_entries (λ e. at e 1 - 1))) inside) (omega (arith, h, r₂))
@@ -295,19 +303,14 @@ module _ (s : List ℕ) (from count n : ℕ) (starts₀ columns₀ values₀ sta
     all_passed : k ≡ length all_entries
     all_passed = omega (arith, h, f.reached.few, a.all)
 
-    pub starts_done : (starts' : List ℕ) → n + 1 ≤ length starts₀ → starts' ≡ sets starts above (replicate (n + 1 - above) count) → starts' ≡ overwrite (starts_of n all_entries) starts₀
-    starts_done starts' r e =
-        let q : above + (n + 1 - above) ≡ n + 1 = omega (arith, f.low) in
+    pub starts_done : (starts' part : List ℕ) → n + 1 ≤ length starts₀ → starts' ≡ put_mid above (n + 1 - above) starts part
+        → part ≡ replicate (length (mid_of above (n + 1 - above) starts)) count → starts' ≡ overwrite (starts_of n all_entries) starts₀
+    starts_done starts' part r q p =
         let c : count ≡ k = omega (arith, h, f.reached.few) in
         let d : drop k all_entries ≡ [] = drop_of_length-le all_entries {i = k} (omega (arith, all_passed)) in
-        e ∙ ap₂ (λ t v. sets t above (replicate (n + 1 - above) v)) f.starts_now c
-        ∙ front_fill above (n + 1 - above) k (start_at all_entries) starts₀ (omega (arith, r, q))
+        let m = ap (λ t. length (mid_of above (n + 1 - above) t)) f.starts_now in
+        q ∙ ap (λ t. put_mid above (n + 1 - above) t part) f.starts_now
+        ∙ front_fill above (n + 1) k (start_at all_entries) starts₀ part (omega (arith, f.low)) r
         (λ j u v. start_at_law all_entries k above (suc j) j (omega (arith, all_passed)) f.passed (ap (every (λ e. leb (suc j) (row e))) d ∙ every_nil (λ e. leb (suc j) (row e))) u (omega arith))
-        ∙ ap (λ j. table j (start_at all_entries) ++ drop j starts₀) q
+        (p ∙ ap₂ replicate m c)
         ∙ ap (λ j. table (n + 1) (start_at all_entries) ++ drop j starts₀) (sym (length_table (n + 1) (start_at all_entries)))
-
-    pub columns_done : columns ≡ overwrite (columns_of all_entries) columns₀
-    columns_done = f.columns_now ∙ laid_all (columns_of all_entries) columns₀ k (length-map all_entries (λ e. at e 1 - 1) ∙ sym all_passed)
-
-    pub values_done : values ≡ overwrite (values_of all_entries) values₀
-    values_done = f.values_now ∙ laid_all (values_of all_entries) values₀ k (length-map all_entries (λ e. at e 2) ∙ sym all_passed)

@@ -1,28 +1,24 @@
--- The answers' cases: the paper's number and values for each.
---     refusal_of_read, modulus_of_read, size_of_read, count_of_read        what the reader answers
+-- The answers' cases: the values for each (its number is refused_by).
+--     modulus_of_read, size_of_read, count_of_read        what the reader answers
 --     modulus_of_document, .., right_of_system                         the parts of a document and of a system by name
 --     starts_after, columns_after, values_after, scales_after, right_after      what the reader leaves in its slices
-use Rattle.std.specs.Prelude.{List, ℕ}
+use Rattle.std.specs.Prelude.{List, ℕ, Result, Ok, Err}
 use Rattle.meaning.specs.Text.{Document, System}
 use Rattle.meaning.specs.Calls.{reader_after}
-use Rattle.system_reader.specs.declared.Reading.{Reading}
-use Rattle.system_reader.specs.declared.Reading.TheVariants.{Read, Refused}
+use Rattle.refusal.specs.declared.Refusal.{Refusal}
+use Rattle.system_reader.specs.declared.Header.{Header}
 
-abbrev pub refusal_of_read : Reading → ℕ
-refusal_of_read (Read p n k) = 0
-refusal_of_read (Refused number) = number
+abbrev pub modulus_of_read : Result Header Refusal → ℕ
+modulus_of_read (Ok h) = h.modulus
+modulus_of_read (Err r) = 0
 
-abbrev pub modulus_of_read : Reading → ℕ
-modulus_of_read (Read p n k) = p
-modulus_of_read (Refused number) = 0
+abbrev pub size_of_read : Result Header Refusal → ℕ
+size_of_read (Ok h) = h.size
+size_of_read (Err r) = 0
 
-abbrev pub size_of_read : Reading → ℕ
-size_of_read (Read p n k) = n
-size_of_read (Refused number) = 0
-
-abbrev pub count_of_read : Reading → ℕ
-count_of_read (Read p n k) = k
-count_of_read (Refused number) = 0
+abbrev pub count_of_read : Result Header Refusal → ℕ
+count_of_read (Ok h) = h.entries
+count_of_read (Err r) = 0
 
 abbrev pub modulus_of_document : Document → ℕ
 modulus_of_document d = d.modulus

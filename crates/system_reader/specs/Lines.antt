@@ -6,9 +6,10 @@
 --     LineAt               .. of the form with that word and so many numbers
 -- Laws: header_word .. ending_word: the forms' words as the code writes them; line_other, line_word: another word, or the word and its numbers;
 -- form_missing, ending_missing, header_missing: what is left of the form then; ending_here: the end of a text.
-use Rattle.std.specs.Prelude.{◌≡◌, refl, ◌⊎◌, Bool, true, false, ◌&&◌, List, [], ◌∷◌, ◌++◌, map, ℕ, suc, ◌+◌, ◌≤◌, ◌<◌, eqb, get_or, length, take, drop}
-use Rattle.std.proofs.Common.{sym, ap, ap₂, ◌∙◌, subst, inl, inr, append-nil, arith, drop_of_length-le, length-drop, drop-drop, eqb-true, eq-eqb, ne_eqb}
+use Rattle.std.specs.Prelude.{◌≡◌, refl, ◌⊎◌, Bool, true, false, ◌&&◌, List, [], ◌∷◌, ◌++◌, map, ℕ, suc, ◌+◌, ◌≤◌, ◌<◌, eqb, get_or, length, drop, Option, Some, None}
+use Rattle.std.proofs.Common.{sym, ap, ap₂, ◌∙◌, subst, inl, inr, append-nil, arith, drop_of_length-le, drop-drop, eqb-true, eq-eqb, ne_eqb}
 use Rattle.std.proofs.lemmas.Bool.{eqb-false}
+use Rattle.std.specs.List.{starts_with}
 use Rattle.meaning.specs.List.{every, equal, bytes}
 use Rattle.meaning.specs.Text as text
 use Rattle.meaning.specs.Text.{lines, parts, line_of, form_of, has_form, is_numeral, value_of, rank, is_of}
@@ -17,10 +18,10 @@ use Rattle.laws.specs.List.{equal→≡}
 use Rattle.text_laws.specs.Line.{parts_some, lines_parts}
 use Rattle.text_laws.specs.Form.{word, arity, word_free, has_form_law, has_form_other, form_of_word, form_cases, line_of_law}
 use Rattle.text_laws.specs.Document.{same_form}
-use Rattle.system_reader.specs.Scan.{drop_here, head_of, fields_of, later, after, after_split, lines_here, head_nil, head_tab, head_byte, fields_nil, fields_tab, fields_byte, later_nil, later_end, head_word, fields_word, later_word, common, common_word, common_head, common_within}
+use Rattle.system_reader.specs.Scan.{drop_here, head_of, fields_of, later, after, after_split, lines_here, head_nil, head_tab, head_byte, fields_nil, fields_tab, fields_byte, later_nil, later_end, head_word, fields_word, later_word, word_starts, other_starts}
 use Rattle.system_reader.specs.Order.{ranks, order, closing, whole, order_closing, order_other, order_last, whole_other, whole_last}
-use Rattle.system_reader.specs.Fields.{Fails, Numbered}
-use Rattle.system_reader.specs.declared.numeral.Numbers.{Numbers}
+use Rattle.system_reader.specs.Fields.{Fails, NumbersAt}
+use Rattle.system_reader.specs.declared.numeral.Line.{Line}
 
 abbrev pub said : text.Form → List ℕ → text.Line
 said f numbers = record { form = f; numbers = numbers }
@@ -36,12 +37,12 @@ pub record Missing (f : text.Form) (ls : List text.Line) : Type 0 where
   pub here : ls ≡ line ∷ more
   pub other : (is_of f line ≡ false) ⊎ (more ≡ [])
 
-pub record LineOf (f : text.Form) (s : List ℕ) (from : ℕ) (r : Numbers) : Type 0 where
-  pub found : r.taken ≡ true → Here s from r.next f (take (arity f) (r.first ∷ r.second ∷ r.third ∷ []))
-  pub missing : r.taken ≡ false → Missing f (lines (drop from s))
+abbrev pub LineOf : text.Form → List ℕ → ℕ → (k : ℕ) → Option (Line k) → Type 0
+LineOf f s from k None = Missing f (lines (drop from s))
+LineOf f s from k (Some r) = Here s from r.next f r.numbers
 
-abbrev pub LineAt : List ℕ → ℕ → List ℕ → ℕ → Numbers → Type 0
-LineAt s from w k r = (f : text.Form) → eqb (rank f) 6 ≡ false → w ≡ word f → k ≡ arity f → LineOf f s from r
+abbrev pub LineAt : List ℕ → ℕ → List ℕ → (k : ℕ) → Option (Line k) → Type 0
+LineAt s from w k r = (f : text.Form) → eqb (rank f) 6 ≡ false → w ≡ word f → k ≡ arity f → LineOf f s from k r
 
 -- ---- the words
 
@@ -116,59 +117,47 @@ module _ (f : text.Form) (known : eqb (rank f) 6 ≡ false) where
     later_here : later here ≡ later t
     later_here = later_word (word f) t (word_free f).1
 
-pub word_within : (s : List ℕ) (from : ℕ) (w : List ℕ) → from ≤ length s → from + common (drop from s) w ≤ length s
-word_within s from w l = omega (arith, common_within (drop from s) w, length-drop from s)
-
 -- another word stands there
-word_other : (f : text.Form) → eqb (rank f) 6 ≡ false → (s : List ℕ) → common s (word f) < length (word f) → Missing f (lines s)
+word_other : (f : text.Form) → eqb (rank f) 6 ≡ false → (s : List ℕ) → starts_with eqb s (word f) ≡ false → Missing f (lines s)
 word_other f known s h =
     record {
       line = line_of (fields_here s);
       more = lines_later s;
       here = lines_here s;
-      other = inl (other_form f known (fields_here s) (has_form_other (word f) (head_of s) (arity f) (fields_of s) (common_head s (word f) h)));
+      other = inl (other_form f known (fields_here s) (has_form_other (word f) (head_of s) (arity f) (fields_of s) (other_starts s (word f) h)));
     }
 
 module _ (s : List ℕ) (from : ℕ) (w : List ℕ) (k : ℕ) where
-  pub line_other : common (drop from s) w < length w → (r : Numbers) → r.taken ≡ false → LineAt s from w k r
-  line_other h r e f known ew ek =
-      record {
-        found = λ t. never r.taken t e;
-        missing = λ _. word_other f known (drop from s) (subst (λ v. common (drop from s) v < length v) ew h);
-      }
+  pub line_other : starts_with eqb (drop from s) w ≡ false → LineAt s from w k None
+  line_other h f known ew ek = word_other f known (drop from s) (ap (starts_with eqb (drop from s)) (sym ew) ∙ h)
 
-  -- the word is all there
-  pub line_word : length w ≤ common (drop from s) w → (r : Numbers) → (r.taken ≡ true → Numbered s (from + length w) k r)
-      → (r.taken ≡ false → Fails k (drop (from + length w) s)) → LineAt s from w k r
-  line_word h r numbered fails f known ew ek =
-      let t = drop (from + length w) s in
-      let d : drop from s ≡ word f ++ t = common_word (drop from s) w h ∙ ap (λ x. w ++ x) (drop-drop (length w) from s) ∙ ap (λ x. x ++ t) ew in
-      let split : lines (drop from s) ≡ line_of (fields_here (word f ++ t)) ∷ lines_later t =
-      ap lines d ∙ lines_here (word f ++ t) ∙ ap (λ l. line_of (fields_here (word f ++ t)) ∷ map (λ l. line_of (parts 9 l)) l) (later_here f known t) in
-      record {
-        found =
-            λ e. let n = numbered e in
-            record {
-              beyond = omega (arith, n.beyond);
-              within = n.within;
-              lines =
-                  split
-                  ∙ ap₂ ◌∷◌ (line_here f known t (ap (λ i. after i t) (sym ek) ∙ n.form)) (ap (map (λ l. line_of (parts 9 l))) n.later ∙ sym (lines_parts (drop r.next s)))
-                  ∙ ap (λ v. said f v ∷ lines (drop r.next s)) (n.numbers ∙ ap (λ i. take i (r.first ∷ r.second ∷ r.third ∷ [])) ek);
-            };
-        missing =
-            λ e. record {
-              line = line_of (fields_here (word f ++ t));
-              more = lines_later t;
-              here = split;
-              other = go (fails e);
-            };
-      }
+  -- the word stands there
+  pub line_word : starts_with eqb (drop from s) w ≡ true → (r : Option (Line k)) → NumbersAt s (from + length w) k r → LineAt s from w k r
+  line_word h r n f known ew ek = go r n
     where
-      go : Fails k (drop (from + length w) s)
-          → (is_of f (line_of (fields_here (word f ++ drop (from + length w) s))) ≡ false) ⊎ (lines_later (drop (from + length w) s) ≡ [])
-      go (inl e) = inl (other_form f known (fields_here (word f ++ drop (from + length w) s)) (has_form_here f known (drop (from + length w) s) ∙ ap (λ i. after i (drop (from + length w) s)) (sym ek) ∙ e))
-      go (inr e) = inr (ap (map (λ l. line_of (parts 9 l))) e)
+      t : List ℕ
+      t = drop (from + length w) s
+
+      split : lines (drop from s) ≡ line_of (fields_here (word f ++ t)) ∷ lines_later t
+      split =
+          let d : drop from s ≡ word f ++ t = word_starts (drop from s) w h ∙ ap (λ x. w ++ x) (drop-drop (length w) from s) ∙ ap (λ x. x ++ t) ew in
+          ap lines d ∙ lines_here (word f ++ t) ∙ ap (λ l. line_of (fields_here (word f ++ t)) ∷ map (λ l. line_of (parts 9 l)) l) (later_here f known t)
+
+      fails : Fails k t → (is_of f (line_of (fields_here (word f ++ t))) ≡ false) ⊎ (lines_later t ≡ [])
+      fails (inl e) = inl (other_form f known (fields_here (word f ++ t)) (has_form_here f known t ∙ ap (λ i. after i t) (sym ek) ∙ e))
+      fails (inr e) = inr (ap (map (λ l. line_of (parts 9 l))) e)
+
+      go : (r : Option (Line k)) → NumbersAt s (from + length w) k r → LineOf f s from k r
+      go None e = record { line = line_of (fields_here (word f ++ t)); more = lines_later t; here = split; other = fails e }
+      go (Some r) m =
+          record {
+            beyond = omega (arith, m.beyond);
+            within = m.within;
+            lines =
+                split
+                ∙ ap₂ ◌∷◌ (line_here f known t (ap (λ i. after i t) (sym ek) ∙ m.form)) (ap (map (λ l. line_of (parts 9 l))) m.later ∙ sym (lines_parts (drop r.next s)))
+                ∙ ap (λ v. said f v ∷ lines (drop r.next s)) m.numbers;
+          }
 
 -- ---- what is left of the form where a line is missing
 
@@ -236,8 +225,8 @@ over_more c t = ap (λ ls. equal (ranks ls) (5 ∷ [])) (lines_here (c ∷ t)) �
         ∙ and_false_right (eqb x 5) refl
     go (inr e) (inr f) = first (c ∷ head_of t) (fields_of t) (head_byte c t e f) (fields_byte c t e f) (has_form_other [] (c ∷ head_of t) 0 (fields_of t) refl)
 
-pub ending_here : (s : List ℕ) (i next : ℕ) → Here s i next text.ending [] → closing (lines (drop i s)) ≡ eqb next (length s)
-ending_here s i next h = ap closing h.lines ∙ closing_cons (said text.ending []) (lines (drop next s)) ∙ go (test_cases (eqb next (length s)))
+pub ending_here : (s : List ℕ) (i next : ℕ) (numbers : List ℕ) → Here s i next text.ending numbers → closing (lines (drop i s)) ≡ eqb next (length s)
+ending_here s i next numbers h = ap closing h.lines ∙ closing_cons (said text.ending numbers) (lines (drop next s)) ∙ go (test_cases (eqb next (length s)))
   where
     go : (eqb next (length s) ≡ true) ⊎ (eqb next (length s) ≡ false) → equal (ranks (lines (drop next s))) (5 ∷ []) ≡ eqb next (length s)
     go (inl e) =

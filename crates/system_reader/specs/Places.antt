@@ -10,9 +10,9 @@
 -- Laws: placed_form: what holds of both forms; place_line_law: a line with the word w, or none; entries_places, places_rise: all places are taken exactly
 -- if check 6 takes them; passed_none, passed_more, passed_end: no line, a line more, the last one; entry_more, entries_end; places_begin, place_more,
 -- places_end; entry_fresh, place_fresh: no line of that form stands after them.
-use Rattle.std.specs.Prelude.{◌≡◌, refl, ◌⊎◌, Bool, true, false, cond, ◌&&◌, ◌||◌, ℕ, ◌+◌, ◌≤◌, eqb, ltb, leb, length, take, drop}
+use Rattle.std.specs.Prelude.{◌≡◌, refl, ◌⊎◌, Bool, true, false, cond, ◌&&◌, ◌||◌, ℕ, ◌+◌, ◌≤◌, eqb, ltb, leb, length, drop, Option}
 use Rattle.std.proofs.Math.Path.{sym, ap}
-use Rattle.std.proofs.Common.{ap₂, ◌∙◌, subst, inl, inr, arith, add-zero, lt-ltb, leb-true, eq-eqb}
+use Rattle.std.proofs.Common.{ap₂, ◌∙◌, inl, inr, arith, add-zero, lt-ltb, leb-true, eq-eqb}
 use Rattle.std.proofs.Math.Bool.{and-true, and_assoc, or-false}
 use mathlib.Core.List.{List, [], ◌∷◌}
 use Rattle.meaning.specs.List.{at, every, chain, chain_from}
@@ -23,8 +23,8 @@ use Rattle.laws.specs.Bool.{and_left, test_cases}
 use Rattle.laws.specs.List.{every_nil, every_cons}
 use Rattle.text_laws.specs.Form.{word, arity}
 use Rattle.system_reader.specs.Order.{onward, past, forms_after, fresh, saying_yes, saying_no, order_more, order_none}
-use Rattle.system_reader.specs.Lines.{Here, said, Missing, LineAt, form_missing}
-use Rattle.system_reader.specs.declared.numeral.Numbers.{Numbers}
+use Rattle.system_reader.specs.Lines.{Here, said, Missing, LineOf, LineAt, form_missing}
+use Rattle.system_reader.specs.declared.numeral.Line.{Line}
 use Rattle.system_reader.specs.declared.survey.Group.{Group}
 use Rattle.system_reader.specs.declared.survey.Placed.{Placed}
 
@@ -119,12 +119,9 @@ pub record PlacesRead (w s : List ℕ) (from p n : ℕ) (r : Placed) : Type 0 wh
   pub ones : past (placed_by w) (lines (drop r.group.next s)) ≡ true → ones (saying (placed_by w) (lines (drop from s))) ≡ r.ones
 
 -- a line with the word w, or none
-pub place_line_law : (w s : List ℕ) (i : ℕ) (r : Numbers) → PlaceWord w → LineAt s i w 2 r
-    → (r.taken ≡ true → Here s i r.next (placed_by w) (r.first ∷ r.second ∷ [])) × (r.taken ≡ false → Missing (placed_by w) (lines (drop i s)))
+pub place_line_law : (w s : List ℕ) (i : ℕ) (r : Option (Line 2)) → PlaceWord w → LineAt s i w 2 r → LineOf (placed_by w) s i 2 r
 place_line_law w s i r q l =
-    let two : 2 ≡ arity (placed_by w) = placed_form (λ f. 2 ≡ arity f) refl refl w in
-    let h = l (placed_by w) (placed_form (λ f. eqb (text.rank f) 6 ≡ false) refl refl w) q two in
-    (λ t. subst (λ m. Here s i r.next (placed_by w) (take m (r.first ∷ r.second ∷ r.third ∷ []))) (sym two) (h.found t), h.missing)
+    l (placed_by w) (placed_form (λ f. eqb (text.rank f) 6 ≡ false) refl refl w) q (placed_form (λ f. 2 ≡ arity f) refl refl w)
 
 -- ---- the places of all lines, by the line before
 
@@ -282,11 +279,12 @@ unfolding every
 place_fresh = placed_form (λ f. fresh f (forms_after f) ≡ true) refl refl
 
 module _ (s : List ℕ) (from p n i k r c : ℕ) (places values : Bool) (b : EntriesPassed s from p n i k r c places values) where
-  pub entry_more : (x y z next k' : ℕ) (places' values' : Bool) → Here s i next text.entry (x ∷ y ∷ z ∷ []) → k' ≡ k + 1
-      → places' ≡ places && entry_taken n r c x y → values' ≡ values && value_taken p z → EntriesPassed s from p n next k' x y places' values'
-  entry_more x y z next k' places' values' h q t u =
+  pub entry_more : (e : List ℕ) (next k' : ℕ) (places' values' : Bool) → Here s i next text.entry e → k' ≡ k + 1
+      → places' ≡ places && entry_taken n r c (row e) (at e 1) → values' ≡ values && value_taken p (at e 2)
+      → EntriesPassed s from p n next k' (row e) (at e 1) places' values'
+  entry_more e next k' places' values' h q t u =
       passed_more text.entry (entries_taken n 0 0) (λ e. value_taken p (at e 2)) s from (entries_taken n r c) i k places values b
-      (x ∷ y ∷ z ∷ []) next k' (entries_taken n x y) (entry_taken n r c x y) places' values' h (entries_taken_cons n r c (x ∷ y ∷ z ∷ [])) q t u
+      e next k' (entries_taken n (row e) (at e 1)) (entry_taken n r c (row e) (at e 1)) places' values' h (entries_taken_cons n r c e) q t u
 
   pub entries_end : Missing text.entry (lines (drop i s)) → EntriesRead s from p n (record { next = i; count = k; places = places; values = values })
   entries_end m =
@@ -301,15 +299,15 @@ places_begin w s from p n h =
     }
 
 module _ (w s : List ℕ) (from p n i k r : ℕ) (places values all_one : Bool) (b : PlacesPassed w s from p n i k r places values all_one) where
-  pub place_more : (x z next k' : ℕ) (places' values' all_one' : Bool) → Here s i next (placed_by w) (x ∷ z ∷ []) → k' ≡ k + 1
-      → places' ≡ places && place_taken n r x → values' ≡ values && value_taken p z → all_one' ≡ all_one && eqb z 1
-      → PlacesPassed w s from p n next k' x places' values' all_one'
-  place_more x z next k' places' values' all_one' h q t u v =
+  pub place_more : (e : List ℕ) (next k' : ℕ) (places' values' all_one' : Bool) → Here s i next (placed_by w) e → k' ≡ k + 1
+      → places' ≡ places && place_taken n r (row e) → values' ≡ values && value_taken p (at e 1) → all_one' ≡ all_one && eqb (at e 1) 1
+      → PlacesPassed w s from p n next k' (row e) places' values' all_one'
+  place_more e next k' places' values' all_one' h q t u v =
       record {
         group =
             passed_more (placed_by w) (places_after n 0) (λ e. value_taken p (at e 1)) s from (places_after n r) i k places values b.group
-            (x ∷ z ∷ []) next k' (places_after n x) (place_taken n r x) places' values' h (places_after_cons n r (x ∷ z ∷ [])) q t u;
-        ones = tested_more (placed_by w) (λ e. eqb (at e 1) 1) s from i all_one b.ones (x ∷ z ∷ []) next all_one' h v;
+            e next k' (places_after n (row e)) (place_taken n r (row e)) places' values' h (places_after_cons n r e) q t u;
+        ones = tested_more (placed_by w) (λ e. eqb (at e 1) 1) s from i all_one b.ones e next all_one' h v;
       }
 
   pub places_end : Missing (placed_by w) (lines (drop i s))

@@ -4,16 +4,18 @@
 --     head_of s, fields_of s         the rest of the field that the place stands in, and the fields after it on the same line
 --     later s                      the lines after this one, uncut
 --     after k s                    the field ends here, and k numerals are left on the line
---     common s w                   how many leading bytes s and w share
--- Laws: their clauses; is_numeral by extend_all; lines_here; head_run .. after_tab, what a numeral leaves.
+-- Laws: their clauses; is_numeral by extend_all; lines_here; head_run .. after_tab, what a numeral leaves; word_starts, other_starts: a word at the head of s.
 use Rattle.std.specs.Prelude.{◌≡◌, refl, ◌⊎◌, Bool, true, false, not, cond, ◌&&◌, ◌||◌, List, [], ◌∷◌, ◌++◌, map, ℕ, suc, ◌+◌, ◌-◌, ◌*◌, ◌≤◌, ◌<◌, eqb, leb, get_or, length, drop}
-use Rattle.std.proofs.Common.{sym, ap, ap₂, ◌∙◌, subst, inl, inr, arith, add-one, drop-cons, eqb-true, eq-eqb, ne_eqb, leb-true, le-leb}
+use Rattle.std.proofs.Common.{sym, ap, ap₂, ◌∙◌, subst, inl, inr, arith, add-one, drop-cons, eqb-true, ne_eqb, leb-true, le-leb}
 use Rattle.std.proofs.Math.Dec.{eqb-suc-suc}
 use Rattle.std.proofs.lemmas.Bool.{eqb-false, not-true}
 use Rattle.meaning.specs.List.{every, equal}
 use Rattle.meaning.specs.Text.{is_digit, is_numeral, value_after, value_of, on_first, parts, line_of, lines}
 use Rattle.laws.specs.Bool.{and_left, and_right, and_both, and_false_left, and_false_right, test_cases, never, same_test}
-use Rattle.laws.specs.List.{every_nil, every_cons}
+use Rattle.laws.specs.List.{every_nil, every_cons, equal→≡}
+use Rattle.std.specs.List.{starts_with}
+use Rattle.std.proofs.lemmas.Slice.Eq.{starts_is}
+use Rattle.std.proofs.lemmas.Bool.Decides.{Decides-eqb}
 use Rattle.text_laws.specs.Numeral.{value_nil, value_cons, digit_low, digit_high, numeral_digits, numeral_lead, numeral_bounded, numeral_of}
 use Rattle.text_laws.specs.Line.{free, free_head, free_tail, parts_nil, parts_cut, parts_other, parts_some, on_first_cons, lines_parts}
 
@@ -479,53 +481,28 @@ after_not_end c s f = go (test_cases (eqb c 9))
 
 -- ---- words
 
-unfoldable pub common : List ℕ → List ℕ → ℕ
-common [] w = 0
-common (c ∷ s) [] = 0
-common (c ∷ s) (d ∷ w) =
-    let later = suc (common s w) in
-    cond (eqb c d) later 0
+-- a word that stands at the head of a text is its beginning
+pub word_starts : (s w : List ℕ) → starts_with eqb s w ≡ true → s ≡ w ++ drop (length w) s
+word_starts s w = (starts_is Decides-eqb s w (starts_with eqb s w) refl).0
 
-pub common_none : (w : List ℕ) → common [] w ≡ 0
-unfolding common
-common_none w = refl
-
-pub common_all : (s : List ℕ) → common s [] ≡ 0
-unfolding common
-common_all [] = refl
-common_all (c ∷ s) = refl
-
-pub common_yes : (c d : ℕ) (s w : List ℕ) → c ≡ d → common (c ∷ s) (d ∷ w) ≡ suc (common s w)
-unfolding common
-common_yes c d s w e = ap (λ t. cond t (suc (common s w)) 0) (eq-eqb c d e)
-
-pub common_no : (c d : ℕ) (s w : List ℕ) → (c ≡ d → ⊥) → common (c ∷ s) (d ∷ w) ≡ 0
-unfolding common
-common_no c d s w n = ap (λ t. cond t (suc (common s w)) 0) (ne_eqb c d n)
-
--- a whole word that is shared is the text's beginning
-pub common_word : (s w : List ℕ) → length w ≤ common s w → s ≡ w ++ drop (length w) s
-common_word s [] h = refl
-common_word [] (d ∷ w) h = absurd (omega (arith, common_none (d ∷ w)))
-common_word (c ∷ s) (d ∷ w) h = go (test_cases (eqb c d)) (common_word s w)
+-- .. and one that does not is not the field's
+head_front : (s : List ℕ) → s ≡ head_of s ++ drop (length (head_of s)) s
+head_front [] = sym (ap (λ h. h ++ drop (length h) []) head_nil)
+head_front (c ∷ s) = go (head_cases c s) (head_front s)
   where
-    go : (eqb c d ≡ true) ⊎ (eqb c d ≡ false) → (length w ≤ common s w → s ≡ w ++ drop (length w) s) → c ∷ s ≡ d ∷ w ++ drop (length w) s
-    go (inl e) ih = ap₂ ◌∷◌ (eqb-true c d e) (ih (omega (arith, common_yes c d s w (eqb-true c d e))))
-    go (inr e) ih = absurd (omega (arith, common_no c d s w (eqb-false c d e)))
+    go : (head_of (c ∷ s) ≡ []) ⊎ (head_of (c ∷ s) ≡ c ∷ head_of s) → s ≡ head_of s ++ drop (length (head_of s)) s
+        → c ∷ s ≡ head_of (c ∷ s) ++ drop (length (head_of (c ∷ s))) (c ∷ s)
+    go (inl q) ih = sym (ap (λ h. h ++ drop (length h) (c ∷ s)) q)
+    go (inr q) ih = ap (λ t. c ∷ t) ih ∙ sym (ap (λ h. h ++ drop (length h) (c ∷ s)) q)
 
--- .. and one that is not is not the field's
-pub common_head : (s w : List ℕ) → common s w < length w → equal (head_of s) w ≡ false
-unfolding equal
-common_head s [] h = absurd (omega arith)
-common_head [] (d ∷ w) h = ap (λ l. equal l (d ∷ w)) head_nil
-common_head (c ∷ s) (d ∷ w) h = go (head_cases c s) (test_cases (eqb c d)) (common_head s w)
+pub other_starts : (s w : List ℕ) → starts_with eqb s w ≡ false → equal (head_of s) w ≡ false
+other_starts s w e = go (test_cases (equal (head_of s) w))
   where
-    go : (head_of (c ∷ s) ≡ []) ⊎ (head_of (c ∷ s) ≡ c ∷ head_of s) → (eqb c d ≡ true) ⊎ (eqb c d ≡ false)
-        → (common s w < length w → equal (head_of s) w ≡ false) → equal (head_of (c ∷ s)) (d ∷ w) ≡ false
-    go (inl q) e ih = ap (λ l. equal l (d ∷ w)) q
-    go (inr q) (inl e) ih =
-        ap (λ l. equal l (d ∷ w)) q ∙ and_false_right (eqb c d) (ih (omega (arith, common_yes c d s w (eqb-true c d e))))
-    go (inr q) (inr e) ih = ap (λ l. equal l (d ∷ w)) q ∙ and_false_left (equal (head_of s) w) e
+    go : (equal (head_of s) w ≡ true) ⊎ (equal (head_of s) w ≡ false) → equal (head_of s) w ≡ false
+    go (inl t) =
+        let here : s ≡ w ++ drop (length w) s = subst (λ h. s ≡ h ++ drop (length h) s) (equal→≡ (head_of s) w t) (head_front s) in
+        never (starts_with eqb s w) ((starts_is Decides-eqb s w (starts_with eqb s w) refl).1 (drop (length w) s) here) e
+    go (inr t) = t
 
 -- a word that parts nothing, being without bytes 9 and 10
 pub head_word : (w s : List ℕ) → free 9 w ≡ true → free 10 w ≡ true → head_of (w ++ s) ≡ w ++ head_of s
@@ -541,21 +518,3 @@ fields_word (c ∷ w) s e f =
 pub later_word : (w s : List ℕ) → free 10 w ≡ true → later (w ++ s) ≡ later s
 later_word [] s f = refl
 later_word (c ∷ w) s f = later_byte c (w ++ s) (free_head 10 c w f) ∙ later_word w s (free_tail 10 c w f)
-
-pub common_within : (s w : List ℕ) → common s w ≤ length s
-common_within [] w = omega (arith, common_none w)
-common_within (c ∷ s) [] = omega (arith, common_all (c ∷ s))
-common_within (c ∷ s) (d ∷ w) = go (test_cases (eqb c d)) (common_within s w)
-  where
-    go : (eqb c d ≡ true) ⊎ (eqb c d ≡ false) → common s w ≤ length s → common (c ∷ s) (d ∷ w) ≤ suc (length s)
-    go (inl e) ih = omega (arith, common_yes c d s w (eqb-true c d e))
-    go (inr e) ih = omega (arith, common_no c d s w (eqb-false c d e))
-
-pub common_within_word : (s w : List ℕ) → common s w ≤ length w
-common_within_word s [] = omega (arith, common_all s)
-common_within_word [] (d ∷ w) = omega (arith, common_none (d ∷ w))
-common_within_word (c ∷ s) (d ∷ w) = go (test_cases (eqb c d)) (common_within_word s w)
-  where
-    go : (eqb c d ≡ true) ⊎ (eqb c d ≡ false) → common s w ≤ length w → common (c ∷ s) (d ∷ w) ≤ suc (length w)
-    go (inl e) ih = omega (arith, common_yes c d s w (eqb-true c d e))
-    go (inr e) ih = omega (arith, common_no c d s w (eqb-false c d e))

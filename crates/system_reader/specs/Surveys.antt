@@ -1,15 +1,15 @@
 -- What the first pass finds, and that it is the document.
 --     Stands               the lines of form f begin at a place, and es is what they say
 --     places_of_all, values_of_all     the tests of the places and of the values of `a`, `s` and `b` lines
---     Content, SurveyedFrom        the lines after a `system` line
---     Known, Surveyed      of a whole text: in form or not, and if it is, what its document says
+--     Content, SurveyedFrom        the lines after a `system` line: in form, with what they say, or not
+--     Known, Surveyed      of a whole text: in form, with what its document says, or not
 --     survey_refusal        the reader's checks on what was found
 --     Accepted             what they say of a text that they take
 -- Laws: whole_surveyed, not_header; reader_refusal_law: survey_refusal is reader_refusal; entries_ahead, scales_ahead, elements_ahead: what the second pass
 -- may take for granted; starts_are .. right_is: what it fills in is the system.
-use Rattle.std.specs.Prelude.{◌≡◌, ◌⊎◌, Bool, true, false, not, ◌&&◌, ◌||◌, List, [], ◌∷◌, ◌++◌, ℕ, ◌+◌, ◌≤◌, ◌<◌, eqb, leb, get_or, length, drop}
+use Rattle.std.specs.Prelude.{◌≡◌, Bool, true, false, not, ◌&&◌, ◌||◌, List, [], ◌∷◌, ◌++◌, ℕ, ◌+◌, ◌≤◌, ◌<◌, eqb, leb, get_or, length, drop, Option, Some, None}
 use Rattle.std.proofs.Math.Path.{refl, ap, ap₂}
-use Rattle.std.proofs.Common.{sym, ◌∙◌, subst, inl, inr, arith, le-leb, leb-true, eqb-true}
+use Rattle.std.proofs.Common.{sym, ◌∙◌, subst, arith, le-leb, leb-true, eqb-true}
 use Rattle.meaning.specs.List.{at}
 use Rattle.meaning.specs.Field.{is_modulus}
 use Rattle.meaning.specs.Text as text
@@ -17,7 +17,7 @@ use Rattle.meaning.specs.Text.{lines, saying, in_form, Document, document, place
 use Rattle.meaning.specs.Refusal.{Check, check, first, rows_taken, scale_count_taken, some_scale, count_taken, places_taken, values_taken, document_checks}
 use Rattle.meaning.specs.Calls.{text_checks, reader_refusal}
 use Rattle.std.proofs.lemmas.Bool.{lt-leb}
-use Rattle.laws.specs.Bool.{and_left, and_right, and_five, and_false_left, and_false_right, test_cases, never}
+use Rattle.laws.specs.Bool.{and_left, and_right, and_five, and_false_left, and_false_right}
 use Rattle.laws.specs.Refusal.{first_past, first_stops, first_passed}
 use Rattle.system_reader.specs.Order.{onward, closing, body, whole, whole_header, whole_form}
 use Rattle.system_reader.specs.Lines.{Here, said, Missing, scale_word, element_word, header_missing}
@@ -38,7 +38,12 @@ places_of_all n es xs bs = entries_taken n 0 0 es && (places_after n 0 xs && som
 abbrev pub values_of_all : ℕ → List (List ℕ) → List (List ℕ) → List (List ℕ) → Bool
 values_of_all p es xs bs = entry_values p es && place_values p xs && place_values p bs
 
-pub record Content (s : List ℕ) (p n i : ℕ) (r : Survey) : Type 0 where
+pub record Content (s : List ℕ) (p n k i : ℕ) (r : Survey) : Type 0 where
+  pub form : body (lines (drop i s)) ≡ true
+  pub modulus : r.p ≡ p
+  pub size : r.n ≡ n
+  pub count : r.count ≡ k
+  pub place : r.body ≡ i
   pub entries : length (entries_of (drop i s)) ≡ r.entries
   pub scales : length (scales_of (drop i s)) ≡ r.scales
   pub elements : length (elements_of (drop i s)) ≡ r.elements
@@ -47,15 +52,12 @@ pub record Content (s : List ℕ) (p n i : ℕ) (r : Survey) : Type 0 where
   pub scaling : Stands text.scale s (scales_of (drop i s)) r.scaling
   pub right : Stands text.element s (elements_of (drop i s)) r.right
 
-pub record SurveyedFrom (s : List ℕ) (p n k i : ℕ) (r : Survey) : Type 0 where
-  pub form : body (lines (drop i s)) ≡ r.formed
-  pub modulus : r.p ≡ p
-  pub size : r.n ≡ n
-  pub count : r.count ≡ k
-  pub place : r.body ≡ i
-  pub content : r.formed ≡ true → Content s p n i r
+abbrev pub SurveyedFrom : List ℕ → ℕ → ℕ → ℕ → ℕ → Option Survey → Type 0
+SurveyedFrom s p n k i None = body (lines (drop i s)) ≡ false
+SurveyedFrom s p n k i (Some r) = Content s p n k i r
 
 pub record Known (s : List ℕ) (r : Survey) : Type 0 where
+  pub form : leb (length s) 2097152 && in_form s ≡ true
   pub modulus : (document s).modulus ≡ r.p
   pub size : (document s).size ≡ r.n
   pub count : (document s).count ≡ r.count
@@ -68,81 +70,84 @@ pub record Known (s : List ℕ) (r : Survey) : Type 0 where
   pub scaling : Stands text.scale s (document s).scales r.scaling
   pub right : Stands text.element s (document s).elements r.right
 
-pub record Surveyed (s : List ℕ) (r : Survey) : Type 0 where
-  pub form : leb (length s) 2097152 && in_form s ≡ r.formed
-  pub known : r.formed ≡ true → Known s r
+abbrev pub Surveyed : List ℕ → Option Survey → Type 0
+Surveyed s None = leb (length s) 2097152 && in_form s ≡ false
+Surveyed s (Some r) = Known s r
 
 -- ---- after the `system` line
 
-pub surveyed_from : (s : List ℕ) (p n k i : ℕ) (a : Group) (x b : Placed) (formed places values : Bool)
-    → EntriesRead s i p n a → PlacesRead (115 ∷ []) s a.next p n x → PlacesRead (98 ∷ []) s x.group.next p n b
-    → formed ≡ closing (lines (drop b.group.next s))
-    → places ≡ a.places && (x.group.places && (eqb x.group.count 0 || not x.ones)) && b.group.places
-    → values ≡ a.values && x.group.values && b.group.values
-    → SurveyedFrom s p n k i
-    (record {
-      formed = formed;
-      p = p;
-      n = n;
-      count = k;
-      entries = a.count;
-      scales = x.group.count;
-      elements = b.group.count;
-      places = places;
-      values = values;
-      body = i;
-      scaling = a.next;
-      right = x.group.next;
-    })
-surveyed_from s p n k i a x b formed places values ea ex eb f q v =
-    let xs = ea.others text.scale refl in
-    let bs = ea.others text.element refl ∙ ex.group.others text.element refl in
-    record {
-      form = ea.form ∙ ex.group.form ∙ eb.group.form ∙ sym f;
-      modulus = refl;
-      size = refl;
-      count = refl;
-      place = refl;
-      content =
-          λ t. let tb = sym f ∙ t in
-          let tx = eb.group.form ∙ tb in
-          let ta = ex.group.form ∙ tx in
-          let scales = ap length xs ∙ ex.group.count tx in
-          let scaled =
-          ap₂ ◌&&◌ (ap (places_after n 0) xs ∙ ex.group.placed tx)
-          (ap₂ (λ m o. eqb m 0 || not o) scales (ap ones xs ∙ ex.ones tx)) in
-          record {
-            entries = ea.count ta;
-            scales = scales;
-            elements = ap length bs ∙ eb.group.count tb;
-            placed = ap₂ ◌&&◌ (ap₂ ◌&&◌ (ea.placed ta) scaled) (ap (places_after n 0) bs ∙ eb.group.placed tb) ∙ sym q;
-            valued =
-                ap₂ ◌&&◌ (ap₂ ◌&&◌ (ea.valued ta) (ap (place_values p) xs ∙ ex.group.valued tx)) (ap (place_values p) bs ∙ eb.group.valued tb) ∙ sym v;
-            scaling = record { within = ea.within; form = ta; here = xs };
-            right = record { within = ex.group.within; form = tx; here = bs };
-          };
-    }
+module _ (s : List ℕ) (p n k i : ℕ) (a : Group) (x b : Placed) (ea : EntriesRead s i p n a) (ex : PlacesRead (115 ∷ []) s a.next p n x)
+    (eb : PlacesRead (98 ∷ []) s x.group.next p n b) where
+  form_read : body (lines (drop i s)) ≡ closing (lines (drop b.group.next s))
+  form_read = ea.form ∙ ex.group.form ∙ eb.group.form
+
+  -- `end` is missing, or more stands after it
+  pub unsurveyed_from : closing (lines (drop b.group.next s)) ≡ false → SurveyedFrom s p n k i None
+  unsurveyed_from e = form_read ∙ e
+
+  pub surveyed_from : (places values : Bool) → closing (lines (drop b.group.next s)) ≡ true
+      → places ≡ a.places && (x.group.places && (eqb x.group.count 0 || not x.ones)) && b.group.places
+      → values ≡ a.values && x.group.values && b.group.values
+      → SurveyedFrom s p n k i
+      (Some
+      (record {
+        p = p;
+        n = n;
+        count = k;
+        entries = a.count;
+        scales = x.group.count;
+        elements = b.group.count;
+        places = places;
+        values = values;
+        body = i;
+        scaling = a.next;
+        right = x.group.next;
+      }))
+  surveyed_from places values tb q v =
+      let xs = ea.others text.scale refl in
+      let bs = ea.others text.element refl ∙ ex.group.others text.element refl in
+      let tx = eb.group.form ∙ tb in
+      let ta = ex.group.form ∙ tx in
+      let scales = ap length xs ∙ ex.group.count tx in
+      let scaled =
+      ap₂ ◌&&◌ (ap (places_after n 0) xs ∙ ex.group.placed tx)
+      (ap₂ (λ m o. eqb m 0 || not o) scales (ap ones xs ∙ ex.ones tx)) in
+      record {
+        form = form_read ∙ tb;
+        modulus = refl;
+        size = refl;
+        count = refl;
+        place = refl;
+        entries = ea.count ta;
+        scales = scales;
+        elements = ap length bs ∙ eb.group.count tb;
+        placed = ap₂ ◌&&◌ (ap₂ ◌&&◌ (ea.placed ta) scaled) (ap (places_after n 0) bs ∙ eb.group.placed tb) ∙ sym q;
+        valued =
+            ap₂ ◌&&◌ (ap₂ ◌&&◌ (ea.valued ta) (ap (place_values p) xs ∙ ex.group.valued tx)) (ap (place_values p) bs ∙ eb.group.valued tb) ∙ sym v;
+        scaling = record { within = ea.within; form = ta; here = xs };
+        right = record { within = ex.group.within; form = tx; here = bs };
+      }
 
 -- ---- the whole text
 
-module _ (s : List ℕ) (p n k next : ℕ) (h : Here s 0 next text.header (p ∷ n ∷ k ∷ [])) where
-  header_here : get_or (saying text.header (lines s)) 0 [] ≡ p ∷ n ∷ k ∷ []
-  header_here = ap (λ l. get_or l 0 []) (saying_here s 0 next text.header (p ∷ n ∷ k ∷ []) h)
+module _ (s : List ℕ) (numbers : List ℕ) (next : ℕ) (h : Here s 0 next text.header numbers) where
+  header_here : get_or (saying text.header (lines s)) 0 [] ≡ numbers
+  header_here = ap (λ l. get_or l 0 []) (saying_here s 0 next text.header numbers h)
 
-  pub document_modulus : (document s).modulus ≡ p
+  pub document_modulus : (document s).modulus ≡ at numbers 0
   unfolding document
   document_modulus = ap (λ l. at l 0) header_here
 
-  pub document_size : (document s).size ≡ n
+  pub document_size : (document s).size ≡ at numbers 1
   unfolding document
   document_size = ap (λ l. at l 1) header_here
 
-  pub document_count : (document s).count ≡ k
+  pub document_count : (document s).count ≡ at numbers 2
   unfolding document
   document_count = ap (λ l. at l 2) header_here
 
   after_header : (f : text.Form) → eqb 0 (text.rank f) ≡ false → saying f (lines s) ≡ saying f (lines (drop next s))
-  after_header = saying_past s 0 next text.header (p ∷ n ∷ k ∷ []) h
+  after_header = saying_past s 0 next text.header numbers h
 
   pub document_entries : (document s).entries ≡ entries_of (drop next s)
   unfolding document
@@ -157,7 +162,7 @@ module _ (s : List ℕ) (p n k next : ℕ) (h : Here s 0 next text.header (p ∷
   document_elements = after_header text.element refl
 
   form_header : in_form s ≡ body (lines (drop next s))
-  form_header = whole_form s ∙ ap whole h.lines ∙ whole_header (said text.header (p ∷ n ∷ k ∷ [])) (lines (drop next s)) refl
+  form_header = whole_form s ∙ ap whole h.lines ∙ whole_header (said text.header numbers) (lines (drop next s)) refl
 
 places_all : (d : Document) → places_taken d ≡ places_of_all d.size d.entries d.scales d.elements
 unfolding places_taken
@@ -168,51 +173,40 @@ values_all : (d : Document) → values_taken d ≡ values_of_all d.modulus d.ent
 unfolding values_taken
 values_all d = refl
 
-pub whole_surveyed : (s : List ℕ) (p n k next : ℕ) (r : Survey) → length s ≤ 2097152 → Here s 0 next text.header (p ∷ n ∷ k ∷ [])
-    → SurveyedFrom s p n k next r → Surveyed s r
-whole_surveyed s p n k next r l h f =
+pub whole_surveyed : (s numbers : List ℕ) (next : ℕ) (r : Option Survey) → length s ≤ 2097152 → Here s 0 next text.header numbers
+    → SurveyedFrom s (at numbers 0) (at numbers 1) (at numbers 2) next r → Surveyed s r
+whole_surveyed s numbers next None l h e = and_false_right (leb (length s) 2097152) (form_header s numbers next h ∙ e)
+whole_surveyed s numbers next (Some r) l h g =
+    let em = document_modulus s numbers next h in
+    let en = document_size s numbers next h in
+    let ee = document_entries s numbers next h in
+    let ex = document_scales s numbers next h in
+    let eb = document_elements s numbers next h in
     record {
-      form = ap₂ ◌&&◌ (le-leb (length s) 2097152 l) (form_header s p n k next h ∙ f.form);
-      known =
-          λ t. let g = f.content t in
-          let em = document_modulus s p n k next h in
-          let en = document_size s p n k next h in
-          let ee = document_entries s p n k next h in
-          let ex = document_scales s p n k next h in
-          let eb = document_elements s p n k next h in
+      form = ap₂ ◌&&◌ (le-leb (length s) 2097152 l) (form_header s numbers next h ∙ g.form);
+      modulus = em ∙ sym g.modulus;
+      size = en ∙ sym g.size;
+      count = document_count s numbers next h ∙ sym g.count;
+      entries = ap length ee ∙ g.entries;
+      scales = ap length ex ∙ g.scales;
+      elements = ap length eb ∙ g.elements;
+      placed = places_all (document s) ∙ (λ j. places_of_all (en j) (ee j) (ex j) (eb j)) ∙ g.placed;
+      valued = values_all (document s) ∙ (λ j. values_of_all (em j) (ee j) (ex j) (eb j)) ∙ g.valued;
+      body =
           record {
-            modulus = em ∙ sym f.modulus;
-            size = en ∙ sym f.size;
-            count = document_count s p n k next h ∙ sym f.count;
-            entries = ap length ee ∙ g.entries;
-            scales = ap length ex ∙ g.scales;
-            elements = ap length eb ∙ g.elements;
-            placed = places_all (document s) ∙ (λ j. places_of_all (en j) (ee j) (ex j) (eb j)) ∙ g.placed;
-            valued = values_all (document s) ∙ (λ j. values_of_all (em j) (ee j) (ex j) (eb j)) ∙ g.valued;
-            body =
-                record {
-                  within = subst (λ i. i ≤ length s) (sym f.place) h.within;
-                  form = ap (λ i. body (lines (drop i s))) f.place ∙ f.form ∙ t;
-                  here = ee ∙ ap (λ i. entries_of (drop i s)) (sym f.place);
-                };
-            scaling = record { within = g.scaling.within; form = g.scaling.form; here = ex ∙ g.scaling.here };
-            right = record { within = g.right.within; form = g.right.form; here = eb ∙ g.right.here };
+            within = subst (λ i. i ≤ length s) (sym g.place) h.within;
+            form = ap (λ i. body (lines (drop i s))) g.place ∙ g.form;
+            here = ee ∙ ap (λ i. entries_of (drop i s)) (sym g.place);
           };
+      scaling = record { within = g.scaling.within; form = g.scaling.form; here = ex ∙ g.scaling.here };
+      right = record { within = g.right.within; form = g.right.form; here = eb ∙ g.right.here };
     }
 
-pub long_surveyed : (s : List ℕ) (r : Survey) → 2097152 < length s → r.formed ≡ false → Surveyed s r
-long_surveyed s r l e =
-    record {
-      form = and_false_left (in_form s) (lt-leb (length s) 2097152 l) ∙ sym e;
-      known = λ t. never r.formed t e;
-    }
+pub long_surveyed : (s : List ℕ) → 2097152 < length s → Surveyed s None
+long_surveyed s l = and_false_left (in_form s) (lt-leb (length s) 2097152 l)
 
-pub not_header : (s : List ℕ) (r : Survey) → Missing text.header (lines s) → r.formed ≡ false → Surveyed s r
-not_header s r m e =
-    record {
-      form = and_false_right (leb (length s) 2097152) (whole_form s ∙ header_missing (lines s) m) ∙ sym e;
-      known = λ t. never r.formed t e;
-    }
+pub not_header : (s : List ℕ) → Missing text.header (lines s) → Surveyed s None
+not_header s m = and_false_right (leb (length s) 2097152) (whole_form s ∙ header_missing (lines s) m)
 
 -- ---- the reader's checks
 
@@ -234,32 +228,27 @@ later_checks r starts columns values scales right =
     ∷ check 11 (not (room_for r.n r.count starts columns values scales right))
     ∷ []
 
-unfoldable pub survey_refusal : Survey → ℕ → ℕ → ℕ → ℕ → ℕ → ℕ
-survey_refusal r starts columns values scales right = first (check 2 (not r.formed) ∷ later_checks r starts columns values scales right)
+unfoldable pub survey_refusal : Option Survey → ℕ → ℕ → ℕ → ℕ → ℕ → ℕ
+survey_refusal None starts columns values scales right = 2
+survey_refusal (Some r) starts columns values scales right = first (later_checks r starts columns values scales right)
 
 known_checks : (s : List ℕ) (r : Survey) (a b c d e : ℕ) → Known s r
     → first (document_checks (document s) ++ (check 11 (not (room_for (document s).size (document s).count a b c d e)) ∷ [])) ≡ first (later_checks r a b c d e)
 unfolding document_checks count_taken
 known_checks s r a b c d e k = rw (k.placed, k.valued, k.modulus, k.size, k.count, k.entries, k.scales)
 
-pub reader_refusal_law : (s starts columns values scales right : List ℕ) (r : Survey) → Surveyed s r
+pub reader_refusal_law : (s starts columns values scales right : List ℕ) (r : Option Survey) → Surveyed s r
     → survey_refusal r (length starts) (length columns) (length values) (length scales) (length right) ≡ reader_refusal s starts columns values scales right
 unfolding survey_refusal reader_refusal text_checks
-reader_refusal_law s starts columns values scales right r f = go (test_cases r.formed)
-  where
-    go : (r.formed ≡ true) ⊎ (r.formed ≡ false)
-        → survey_refusal r (length starts) (length columns) (length values) (length scales) (length right) ≡ reader_refusal s starts columns values scales right
-    go (inl t) =
-        first_past 2 (not r.formed) _ (ap not t)
-        ∙ sym (known_checks s r (length starts) (length columns) (length values) (length scales) (length right) (f.known t))
-        ∙ sym (first_past 2 (not (leb (length s) 2097152 && in_form s)) _ (ap not (f.form ∙ t)))
-    go (inr t) =
-        first_stops 2 (not r.formed) _ (ap not t) ∙ sym (first_stops 2 (not (leb (length s) 2097152 && in_form s)) _ (ap not (f.form ∙ t)))
+reader_refusal_law s starts columns values scales right None e =
+    sym (first_stops 2 (not (leb (length s) 2097152 && in_form s)) _ (ap not e))
+reader_refusal_law s starts columns values scales right (Some r) k =
+    sym (known_checks s r (length starts) (length columns) (length values) (length scales) (length right) k)
+    ∙ sym (first_past 2 (not (leb (length s) 2097152 && in_form s)) _ (ap not k.form))
 
 -- ---- what the checks say of a text that they take
 
 pub record Accepted (r : Survey) (a b c d e : ℕ) : Type 0 where
-  pub formed : r.formed ≡ true
   pub size : r.n ≤ 4096
   pub count : r.count ≡ r.entries
   pub few : r.entries ≤ 65536
@@ -270,12 +259,11 @@ pub record Accepted (r : Survey) (a b c d e : ℕ) : Type 0 where
   pub scales : r.n ≤ d
   pub right : r.n ≤ e
 
-pub accepted : (r : Survey) (starts columns values scales right : ℕ) → survey_refusal r starts columns values scales right ≡ 0
+pub accepted : (r : Survey) (starts columns values scales right : ℕ) → survey_refusal (Some r) starts columns values scales right ≡ 0
     → Accepted r starts columns values scales right
 unfolding survey_refusal
 accepted r starts columns values scales right e =
-    let c2 = first_passed 2 r.formed _ (omega arith) e in
-    let c3 = first_passed 3 (is_modulus r.p) _ (omega arith) c2.1 in
+    let c3 = first_passed 3 (is_modulus r.p) _ (omega arith) e in
     let c4 = first_passed 4 (rows_taken r.n) _ (omega arith) c3.1 in
     let c5 = first_passed 5 (count_found r) _ (omega arith) c4.1 in
     let c6 = first_passed 6 r.places _ (omega arith) c5.1 in
@@ -284,7 +272,6 @@ accepted r starts columns values scales right e =
     let entries = and_left (eqb r.count r.entries && leb r.entries 65536) (scale_count_taken r.n r.scales) c5.0 in
     let room = and_five (leb (r.n + 1) starts) (leb r.count columns) (leb r.count values) (leb r.n scales) (leb r.n right) c11.0 in
     record {
-      formed = c2.0;
       size = leb-true r.n 4096 c4.0;
       count = eqb-true r.count r.entries (and_left (eqb r.count r.entries) (leb r.entries 65536) entries);
       few = leb-true r.entries 65536 (and_right (eqb r.count r.entries) (leb r.entries 65536) entries);

@@ -1,25 +1,11 @@
 // The second pass over a text that the checks have taken: the lent slices are filled.
-ghost use Rattle.std.specs.Prelude.{◌≡◌, ◌+◌, ◌-◌, ◌≤◌, length, drop, replicate};
-ghost use Rattle.std.proofs.lemmas.List.Edits.{sets};
+ghost use Rattle.std.specs.Prelude.{◌≡◌, ◌+◌, ◌≤◌, length, drop};
 ghost use Rattle.meaning.specs.List.{overwrite};
 ghost use Rattle.meaning.specs.Text.{placed};
 ghost use Rattle.system_reader.specs.Places.{entries_of, places_of};
 ghost use Rattle.system_reader.specs.Fill.{starts_of, columns_of, values_of, EntriesAhead, PlacesAhead};
 
 use crate::line::line;
-use checks::wide;
-
-// One value from a place to another.
-pub(crate) fn fill(a: &mut [u32], from: usize, to: usize, value: u32)
-    requires { (from ≤ to) × (to ≤ length a.old) }
-    ensures { a.new ≡ sets a.old from (replicate (to - from) value) }
-{
-    let mut i = from;
-    while i < to {
-        a[i] = value;
-        i += 1;
-    }
-}
 
 // The `a` lines: a row's start is the number of entries above it.
 pub(crate) fn fill_entries(
@@ -38,19 +24,18 @@ pub(crate) fn fill_entries(
     ensures values_after { values.new ≡ overwrite (values_of (entries_of (drop from text.now))) values.old }
 {
     let mut at = from;
-    let mut above: usize = 0;
-    let mut k: usize = 0;
-    while k < count {
-        let l = line(text, at, b"a", 3);
-        let below = wide(l.first);
-        fill(starts, above, below, k as u32);
-        columns[k] = l.second - 1;
-        values[k] = l.third;
+    let mut above = 0;
+    for k in 0..count {
+        let l = line::<3>(text, at, b"a").unwrap();
+        let [row, column, value] = l.numbers;
+        let below = row as usize;
+        starts[above..below].fill(k as u32);
+        columns[k] = column - 1;
+        values[k] = value;
         above = below;
         at = l.next;
-        k += 1;
     }
-    fill(starts, above, n + 1, count as u32);
+    starts[above..n + 1].fill(count as u32);
 }
 
 // The lines with the word `s` or `b`; places without a line get the value `none`.
@@ -67,14 +52,12 @@ pub(crate) fn fill_placed(
     requires n_in_bounds { n ≤ length out.old }
     ensures { out.new ≡ overwrite (placed n none (places_of word.now (drop from text.now))) out.old }
 {
-    fill(out, 0, n, none);
+    out[..n].fill(none);
     let mut at = from;
-    let mut k: usize = 0;
-    while k < count {
-        let l = line(text, at, word, 2);
-        let below = wide(l.first);
-        out[below - 1] = l.second;
+    for _ in 0..count {
+        let l = line::<2>(text, at, word).unwrap();
+        let [place, value] = l.numbers;
+        out[place as usize - 1] = value;
         at = l.next;
-        k += 1;
     }
 }

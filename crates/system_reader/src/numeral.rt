@@ -1,159 +1,84 @@
-// How far a text goes on in form from a place: a word, a numeral, a field. Each function hands back the place where it stopped, the
-// byte that breaks the form where one does.
-ghost use Rattle.std.specs.Prelude.{◌≡◌, ◌+◌, ◌-◌, ◌*◌, ◌≤◌, length, drop};
-ghost use Rattle.system_reader.specs.Scan.{extends_by, common};
-ghost use Rattle.system_reader.specs.Fields.{NumeralAt, FieldAt, NumbersAt};
+// How far a text goes on in form from a place: a numeral, a field, the rest of a line.
+ghost use Rattle.std.specs.Prelude.{◌≡◌, ◌+◌, ◌≤◌, length, drop};
+ghost use Rattle.system_reader.specs.Fields.{extension, NumeralAt, FieldAt, NumbersAt};
 
-// A number, and the place after it; not taken where no numeral stands.
+// A number, and the place after it.
 #[derive(Clone, Copy)]
 pub(crate) struct Number {
-    pub taken: bool,
     pub value: u32,
     pub next: usize,
 }
 
-// Whether the byte c, written behind a numeral of that value, makes a longer one: no leading zero, at most 4,294,967,295.
-pub(crate) fn extends(begun: bool, value: u32, c: u8) -> bool
-    ensures { result ≡ extends_by begun value c }
+// The numeral so far with the byte c behind it: no leading zero, at most 4,294,967,295.
+#[tactic(auto, using(std::proofs::lemmas::Bool::Decides::nat_tests), unfolding(crate::specs::Scan::extends_by))]
+pub(crate) fn extended(numeral: Option<u32>, c: u8) -> Option<u32>
+    ensures { result ≡ extension numeral c }
 {
-    if c < 48 {
-        return false;
+    if !c.is_ascii_digit() {
+        return None;
     }
-    if 57 < c {
-        return false;
+    let digit = u32::from(c - b'0');
+    match numeral {
+        None => Some(digit),
+        Some(0) => None,
+        Some(value) => value.checked_mul(10)?.checked_add(digit),
     }
-    if begun {
-        if value == 0 {
-            return false;
-        }
-    }
-    (value as u64) * 10 + ((c - 48) as u64) <= 4294967295
 }
 
-// The value with one digit more.
-pub(crate) fn extended(value: u32, c: u8) -> u32
-    requires { (48 ≤ c) × (value * 10 + (c - 48) ≤ 4294967295) }
-    ensures { result ≡ value * 10 + (c - 48) }
-{
-    value * 10 + ((c - 48) as u32)
-}
-
-// The longest numeral that begins at `from`; an empty one stops where it began.
-pub(crate) fn numeral(text: &[u8], from: usize) -> Number
+// The longest numeral that begins at `from`.
+pub(crate) fn numeral(text: &[u8], from: usize) -> Option<Number>
     requires { from ≤ length text.now }
     ensures { NumeralAt (drop from text.now) from result }
 {
-    let mut value: u32 = 0;
-    let mut at = from;
-    while at < text.len() {
-        let c = text[at];
-        if !extends(from < at, value, c) {
+    let mut value = None;
+    let mut next = from;
+    for &c in &text[from..] {
+        let Some(longer) = extended(value, c) else {
             break;
-        }
-        value = extended(value, c);
-        at += 1;
+        };
+        value = Some(longer);
+        next += 1;
     }
-    Number {
-        taken: from < at,
-        value,
-        next: at,
-    }
+    value.map(|value| Number { value, next })
 }
 
 // A field that is a numeral, with the tab before it.
-pub(crate) fn field(text: &[u8], from: usize) -> Number
+pub(crate) fn field(text: &[u8], from: usize) -> Option<Number>
     requires { from ≤ length text.now }
     ensures { FieldAt text.now from result }
 {
-    if from < text.len() {
-        if text[from] == 9 {
-            return numeral(text, from + 1);
-        }
-    }
-    Number {
-        taken: false,
-        value: 0,
-        next: from,
+    if text.get(from) == Some(&b'\t') {
+        numeral(text, from + 1)
+    } else {
+        None
     }
 }
 
-// The numbers of a line, as many as were wanted, and the place after its byte 10; not taken where the line has another form.
+// The numbers of a line, and the place after its end.
 #[derive(Clone, Copy)]
-pub(crate) struct Numbers {
-    pub taken: bool,
-    pub first: u32,
-    pub second: u32,
-    pub third: u32,
+pub(crate) struct Line<const N: usize> {
+    pub numbers: [u32; N],
     pub next: usize,
 }
 
-// The end of a line, byte 10.
-pub(crate) fn line_end(text: &[u8], from: usize) -> Numbers
+// The rest of a line: its fields, and then the line's end.
+pub(crate) fn fields<const N: usize>(text: &[u8], from: usize) -> Option<Line<N>>
     requires { from ≤ length text.now }
-    ensures { NumbersAt text.now from 0 result }
+    ensures { NumbersAt text.now from N result }
 {
-    if from < text.len() {
-        if text[from] == 10 {
-            return Numbers {
-                taken: true,
-                first: 0,
-                second: 0,
-                third: 0,
-                next: from + 1,
-            };
-        }
+    let mut numbers = [0; N];
+    let mut next = from;
+    for i in 0..N {
+        let number = field(text, next)?;
+        numbers[i] = number.value;
+        next = number.next;
     }
-    Numbers {
-        taken: false,
-        first: 0,
-        second: 0,
-        third: 0,
-        next: from,
+    if text.get(next) == Some(&b'\n') {
+        Some(Line {
+            numbers,
+            next: next + 1,
+        })
+    } else {
+        None
     }
-}
-
-// As many fields as are wanted, at most three, and the end of the line.
-pub(crate) fn fields(text: &[u8], from: usize, wanted: u32) -> Numbers
-    requires { (from ≤ length text.now) × (wanted ≤ 3) }
-    ensures { NumbersAt text.now from wanted result }
-{
-    if wanted == 0 {
-        return line_end(text, from);
-    }
-    let f = field(text, from);
-    if !f.taken {
-        return Numbers {
-            taken: false,
-            first: 0,
-            second: 0,
-            third: 0,
-            next: f.next,
-        };
-    }
-    let more = fields(text, f.next, wanted - 1);
-    Numbers {
-        taken: more.taken,
-        first: f.value,
-        second: more.first,
-        third: more.second,
-        next: more.next,
-    }
-}
-
-// How many leading bytes the word shares with what stands at `from`.
-pub(crate) fn shared(text: &[u8], from: usize, word: &[u8]) -> usize
-    requires { from ≤ length text.now }
-    ensures { result ≡ common (drop from text.now) word.now }
-{
-    let mut k: usize = 0;
-    while k < word.len() {
-        if text.len() - from <= k {
-            break;
-        }
-        if text[from + k] != word[k] {
-            break;
-        }
-        k += 1;
-    }
-    k
 }

@@ -1,5 +1,5 @@
 // The first pass over a text: whether it is in form (2), and all that the later checks want to know of it.
-ghost use Rattle.std.specs.Prelude.{◌≡◌, false, ◌≤◌, length, drop};
+ghost use Rattle.std.specs.Prelude.{◌≡◌, ◌≤◌, length, drop};
 ghost use Rattle.meaning.specs.Refusal.{value_taken};
 ghost use Rattle.meaning.specs.Text.{lines};
 ghost use Rattle.system_reader.specs.Order.{closing};
@@ -12,44 +12,20 @@ use crate::line::line;
 pub(crate) fn entry_taken(n: u32, above: u32, left: u32, row: u32, column: u32) -> bool
     ensures { result ≡ entry_taken n above left row column }
 {
-    if row < 1 {
-        return false;
-    }
-    if n < row {
-        return false;
-    }
-    if column < 1 {
-        return false;
-    }
-    if n < column {
-        return false;
-    }
-    if above < row {
-        return true;
-    }
-    if above == row { left < column } else { false }
+    (1..=n).contains(&row) && (1..=n).contains(&column) && (above, left) < (row, column)
 }
 
 // The same of an `s` or a `b` line.
 pub(crate) fn place_taken(n: u32, above: u32, place: u32) -> bool
     ensures { result ≡ place_taken n above place }
 {
-    if place < 1 {
-        return false;
-    }
-    if n < place {
-        return false;
-    }
-    above < place
+    (1..=n).contains(&place) && above < place
 }
 
 pub(crate) fn value_taken(p: u32, value: u32) -> bool
     ensures { result ≡ value_taken p value }
 {
-    if value < 1 {
-        return false;
-    }
-    value < p
+    (1..p).contains(&value)
 }
 
 // Lines of one form, one after the other: where the next one stands, how many there are, and whether all places and all values are taken.
@@ -73,29 +49,24 @@ pub(crate) fn entry_lines(text: &[u8], from: usize, p: u32, n: u32) -> Group
     requires { from ≤ length text.now }
     ensures { EntriesRead text.now from p n result }
 {
-    let mut at = from;
-    let mut count: usize = 0;
-    let mut above: u32 = 0;
-    let mut left: u32 = 0;
-    let mut places = true;
-    let mut values = true;
-    loop {
-        let l = line(text, at, b"a", 3);
-        if !l.taken {
-            return Group {
-                next: at,
-                count,
-                places,
-                values,
-            };
-        }
-        places = places & entry_taken(n, above, left, l.first, l.second);
-        values = values & value_taken(p, l.third);
-        above = l.first;
-        left = l.second;
-        count += 1;
-        at = l.next;
+    let mut group = Group {
+        next: from,
+        count: 0,
+        places: true,
+        values: true,
+    };
+    let mut above = 0;
+    let mut left = 0;
+    while let Some(l) = line::<3>(text, group.next, b"a") {
+        let [row, column, value] = l.numbers;
+        group.places &= entry_taken(n, above, left, row, column);
+        group.values &= value_taken(p, value);
+        group.count += 1;
+        group.next = l.next;
+        above = row;
+        left = column;
     }
+    group
 }
 
 // The lines with the word `s` or `b` from a place on.
@@ -104,30 +75,24 @@ pub(crate) fn placed_lines(text: &[u8], from: usize, word: &[u8], p: u32, n: u32
     requires place_word { PlaceWord word.now }
     ensures { PlacesRead word.now text.now from p n result }
 {
-    let mut at = from;
-    let mut count: usize = 0;
-    let mut above: u32 = 0;
-    let mut places = true;
-    let mut values = true;
+    let mut group = Group {
+        next: from,
+        count: 0,
+        places: true,
+        values: true,
+    };
+    let mut above = 0;
     let mut ones = true;
-    loop {
-        let l = line(text, at, word, 2);
-        if !l.taken {
-            let group = Group {
-                next: at,
-                count,
-                places,
-                values,
-            };
-            return Placed { group, ones };
-        }
-        places = places & place_taken(n, above, l.first);
-        values = values & value_taken(p, l.second);
-        ones = ones & (l.second == 1);
-        above = l.first;
-        count += 1;
-        at = l.next;
+    while let Some(l) = line::<2>(text, group.next, word) {
+        let [place, value] = l.numbers;
+        group.places &= place_taken(n, above, place);
+        group.values &= value_taken(p, value);
+        group.count += 1;
+        group.next = l.next;
+        ones &= value == 1;
+        above = place;
     }
+    Placed { group, ones }
 }
 
 // Whether `end` stands at a place and nothing after it.
@@ -135,13 +100,12 @@ pub(crate) fn ended(text: &[u8], from: usize) -> bool
     requires { from ≤ length text.now }
     ensures { result ≡ closing (lines (drop from text.now)) }
 {
-    let l = line(text, from, b"end", 0);
-    if l.taken { l.next == text.len() } else { false }
+    line::<0>(text, from, b"end").is_some_and(|l| l.next == text.len())
 }
 
+// A text in form.
 #[derive(Clone, Copy)]
 pub(crate) struct Survey {
-    pub formed: bool,
     pub p: u32,
     pub n: u32,
     pub count: u32,
@@ -157,62 +121,43 @@ pub(crate) struct Survey {
     pub right: usize,
 }
 
-pub(crate) fn unformed() -> Survey
-    ensures { result.formed ≡ false }
-{
-    Survey {
-        formed: false,
-        p: 0,
-        n: 0,
-        count: 0,
-        entries: 0,
-        scales: 0,
-        elements: 0,
-        places: false,
-        values: false,
-        body: 0,
-        scaling: 0,
-        right: 0,
-    }
-}
-
 // What follows a `system` line.
-pub(crate) fn survey_from(text: &[u8], p: u32, n: u32, count: u32, body: usize) -> Survey
+#[tactic(auto, using(crate::specs::Lines::scale_word, crate::specs::Lines::element_word))]
+pub(crate) fn survey_from(text: &[u8], p: u32, n: u32, count: u32, body: usize) -> Option<Survey>
     requires { body ≤ length text.now }
     ensures { SurveyedFrom text.now p n count body result }
 {
     let a = entry_lines(text, body, p, n);
     let x = placed_lines(text, a.next, b"s", p, n);
     let b = placed_lines(text, x.group.next, b"b", p, n);
-    let formed = ended(text, b.group.next);
+    if !ended(text, b.group.next) {
+        return None;
+    }
     // where there are scales, one isn't 1
-    let scaled = x.group.places & ((x.group.count == 0) | !x.ones);
-    Survey {
-        formed,
+    let scaled = x.group.places && (x.group.count == 0 || !x.ones);
+    Some(Survey {
         p,
         n,
         count,
         entries: a.count,
         scales: x.group.count,
         elements: b.group.count,
-        places: a.places & scaled & b.group.places,
-        values: a.values & x.group.values & b.group.values,
+        places: a.places && scaled && b.group.places,
+        values: a.values && x.group.values && b.group.values,
         body,
         scaling: a.next,
         right: x.group.next,
-    }
+    })
 }
 
 // A text that is too long is not read.
-pub(crate) fn first_pass(text: &[u8]) -> Survey
+pub(crate) fn first_pass(text: &[u8]) -> Option<Survey>
     ensures { Surveyed text.now result }
 {
-    if 2097152 < text.len() {
-        return unformed();
+    if text.len() > 2_097_152 {
+        return None;
     }
-    let l = line(text, 0, b"system", 3);
-    if !l.taken {
-        return unformed();
-    }
-    survey_from(text, l.first, l.second, l.third, l.next)
+    let header = line::<3>(text, 0, b"system")?;
+    let [p, n, count] = header.numbers;
+    survey_from(text, p, n, count, header.next)
 }

@@ -10,10 +10,14 @@
 
 ghost use Rattle.std.specs.Prelude.{◌≤◌};
 
+use checks::Matrix;
+use refusal::Refusal;
 use std::io;
-use system_reader::Reading;
-use system_writer::Written;
-use test_io::{at, front, list, part, place, print, show, text_part};
+use system_reader::Header;
+use test_io::{
+    FREE, FREE_BYTE, LENT, LENT_TEXT, MEMORY, TEXT, at, filled, front, list, part, place, print,
+    show,
+};
 
 // ---- the writer
 
@@ -21,23 +25,21 @@ use test_io::{at, front, list, part, place, print, show, text_part};
 fn write(
     rt: &impl Print,
     p: u32,
-    starts: &[u32],
-    columns: &[u32],
-    values: &[u32],
+    a: &Matrix,
     scales: &[u32],
     b: &[u32],
     sizes: &[u32],
     i: usize,
 ) -> io::Result<()> {
     let size = place(sizes, i);
-    let mut out = test_io::lent_text();
-    let text = test_io::text_front(&mut out, size);
-    match system_writer::write(p, starts, columns, values, scales, b, text) {
-        Written::Length(length) => {
+    let mut out: [u8; LENT_TEXT] = filled(FREE_BYTE);
+    let text = front(&mut out, size);
+    match system_writer::write(p, a, scales, b, text) {
+        Ok(length) => {
             print(rt, 0)?;
             print(rt, length as u64)?;
         }
-        Written::Refused(number) => print(rt, number as u64)?,
+        Err(refusal) => print(rt, u64::from(u32::from(refusal)))?,
     }
     test_io::show_text(rt, &out, 0, size)
 }
@@ -45,15 +47,13 @@ fn write(
 fn write_all(
     rt: &impl Print,
     p: u32,
-    starts: &[u32],
-    columns: &[u32],
-    values: &[u32],
+    a: &Matrix,
     scales: &[u32],
     b: &[u32],
     sizes: &[u32],
 ) -> io::Result<()> {
     for i in 0..sizes.len() {
-        write(rt, p, starts, columns, values, scales, b, sizes, i)?;
+        write(rt, p, a, scales, b, sizes, i)?;
     }
     Ok(())
 }
@@ -63,7 +63,7 @@ fn write_all(
 // What was read, and what is written of it.
 fn print_reading(
     rt: &impl Print,
-    reading: Reading,
+    answer: Result<Header, Refusal>,
     starts: &[u32],
     columns: &[u32],
     values: &[u32],
@@ -71,27 +71,29 @@ fn print_reading(
     b: &[u32],
     sizes: &[u32],
 ) -> io::Result<()> {
-    match reading {
-        Reading::Read(p, n, entries) => {
-            print(rt, 0)?;
-            print(rt, p as u64)?;
-            print(rt, n as u64)?;
-            print(rt, entries as u64)?;
-            let size = n as usize;
-            let count = entries as usize;
-            write_all(
-                rt,
-                p,
-                part(starts, 0, size + 1),
-                part(columns, 0, count),
-                part(values, 0, count),
-                part(scales, 0, size),
-                part(b, 0, size),
-                sizes,
-            )
-        }
-        Reading::Refused(number) => print(rt, number as u64),
-    }
+    let header = match answer {
+        Ok(header) => header,
+        Err(refusal) => return print(rt, u64::from(u32::from(refusal))),
+    };
+    print(rt, 0)?;
+    print(rt, u64::from(header.modulus))?;
+    print(rt, u64::from(header.size))?;
+    print(rt, u64::from(header.entries))?;
+    let size = header.size as usize;
+    let count = header.entries as usize;
+    let a = Matrix {
+        starts: part(starts, 0, size + 1),
+        columns: part(columns, 0, count),
+        values: part(values, 0, count),
+    };
+    write_all(
+        rt,
+        header.modulus,
+        &a,
+        part(scales, 0, size),
+        part(b, 0, size),
+        sizes,
+    )
 }
 
 fn read(rt: &impl Print, text: &[u8], head: &[u32], sizes: &[u32]) -> io::Result<()> {
@@ -100,11 +102,11 @@ fn read(rt: &impl Print, text: &[u8], head: &[u32], sizes: &[u32]) -> io::Result
     let l2 = place(head, 5);
     let l3 = place(head, 6);
     let l4 = place(head, 7);
-    let mut starts = test_io::lent();
-    let mut columns = test_io::lent();
-    let mut values = test_io::lent();
-    let mut scales = test_io::lent();
-    let mut b = test_io::lent();
+    let mut starts: [u32; LENT] = filled(FREE);
+    let mut columns: [u32; LENT] = filled(FREE);
+    let mut values: [u32; LENT] = filled(FREE);
+    let mut scales: [u32; LENT] = filled(FREE);
+    let mut b: [u32; LENT] = filled(FREE);
     let reading = system_reader::read(
         text,
         front(&mut starts, l0),
@@ -150,23 +152,25 @@ fn lengthen(text: &[u8], head: &[u32], long: &mut [u8]) {
 }
 
 fn read_long(rt: &impl Print, text: &[u8], head: &[u32], sizes: &[u32]) -> io::Result<()> {
-    let mut long = test_io::text_memory();
+    let mut long: [u8; TEXT] = filled(0);
     lengthen(text, head, &mut long);
-    read(rt, text_part(&long, 0, place(head, 10) + 4), head, sizes)
+    read(rt, part(&long, 0, place(head, 10) + 4), head, sizes)
 }
 
 fn call(rt: &impl Print, memory: &[u8], lists: &[u32], from: usize) -> io::Result<()> {
     let head = list(lists, from, 0);
     let sizes = list(lists, from, 6);
-    let text = text_part(memory, place(head, 1), place(head, 2));
+    let text = part(memory, place(head, 1), place(head, 2));
     match at(head, 0) {
         0 => read(rt, text, head, sizes)?,
         1 => write_all(
             rt,
             at(head, 1),
-            list(lists, from, 1),
-            list(lists, from, 2),
-            list(lists, from, 3),
+            &Matrix {
+                starts: list(lists, from, 1),
+                columns: list(lists, from, 2),
+                values: list(lists, from, 3),
+            },
             list(lists, from, 4),
             list(lists, from, 5),
             sizes,
@@ -177,8 +181,8 @@ fn call(rt: &impl Print, memory: &[u8], lists: &[u32], from: usize) -> io::Resul
 }
 
 fn main(rt: HostRuntime) -> io::Result<()> {
-    let mut text = test_io::text_memory();
-    let mut room = test_io::memory();
+    let mut text: [u8; TEXT] = filled(0);
+    let mut room: [u32; MEMORY] = filled(0);
     test_io::read_text(&mut rt.stdin(), &mut text)?;
     let memory: &[u8] = &text;
     test_io::numbers_of(memory, &mut room);

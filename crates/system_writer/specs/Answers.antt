@@ -1,13 +1,8 @@
--- The answer's cases: the paper's number and length for each.
---     refusal_of_written, length_of_written      what the writer answers
-use Rattle.std.specs.Prelude.{ℕ}
-use Rattle.system_writer.specs.declared.Written.{Written}
-use Rattle.system_writer.specs.declared.Written.TheVariants.{Length, Refused}
+-- The answer's cases: the paper's length for each.
+--     length_of_written      the text's length, 0 of a refusal
+use Rattle.std.specs.Prelude.{ℕ, Result, Ok, Err}
+use Rattle.refusal.specs.declared.Refusal.{Refusal}
 
-abbrev pub refusal_of_written : Written → ℕ
-refusal_of_written (Length k) = 0
-refusal_of_written (Refused number) = number
-
-abbrev pub length_of_written : Written → ℕ
-length_of_written (Length k) = k
-length_of_written (Refused number) = 0
+abbrev pub length_of_written : Result ℕ Refusal → ℕ
+length_of_written (Ok k) = k
+length_of_written (Err _) = 0

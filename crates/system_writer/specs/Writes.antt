@@ -3,20 +3,20 @@
 --     place_line, place_text, right_text               the line of a place, of each place; the `b` lines, and the end
 --     Rows                 the starts divide the entries into rows
 -- Laws: header_line, entry_line_law, place_none, place_line_law, row_text_law, scales_none, scales_text, right_text_law, whole_text: what is written is the meaning's;
--- accepted_some, text_asks: no scale is 0, and what the whole text asks, of a system that the checks take; writer_system, writer_short, writer_fits,
--- writer_text: the writer's refusal and what it leaves.
-use Rattle.std.specs.Prelude.{◌≡◌, refl, ◌⊎◌, true, false, not, cond, List, [], ◌∷◌, ◌++◌, ℕ, ◌+◌, ◌-◌, ◌≤◌, ◌<◌, eqb, ltb, leb, length}
+-- accepted_some, text_asks: no scale is 0, and what the whole text asks, of a system that the checks take; writer_system, system_refused, refused_answer,
+-- refused_after, writer_short, writer_fits, writer_text: the writer's refusal, and what it answers and leaves.
+use Rattle.std.specs.Prelude.{◌≡◌, ◌≢◌, refl, ◌⊎◌, true, false, not, cond, List, [], ◌∷◌, ◌++◌, ℕ, ◌+◌, ◌-◌, ◌≤◌, ◌<◌, eqb, ltb, leb, length}
 use Rattle.std.proofs.Common.{sym, ap, ap₂, ◌∙◌, inl, inr, append_assoc, arith, leb-true, le-leb, eq-eqb, ne_eqb}
 use Rattle.std.proofs.lemmas.Bool.{lt-leb}
 use Rattle.meaning.specs.List.{at, flat, table, every, bytes, overwrite}
-use Rattle.meaning.specs.Matrix.{Matrix, matrix}
+use Rattle.meaning.specs.Matrix.{Matrix, size}
 use Rattle.meaning.specs.Text.{decimal, line, write_row, write_scales, write_element, write}
 use Rattle.meaning.specs.Refusal.{check, first, value_taken}
-use Rattle.meaning.specs.Calls.{system_checks, writer_refusal}
+use Rattle.meaning.specs.Calls.{system_checks, writer_refusal, writer_answer, writer_after}
 use Rattle.laws.specs.Bool.{and_left, test_cases}
 use Rattle.laws.specs.List.{table_ext, every_at}
 use Rattle.laws.specs.Accepted.{start_within}
-use Rattle.laws.specs.Refusal.{first_nil, first_past, first_stops, numbered_system, first_append_none, first_append_some}
+use Rattle.laws.specs.Refusal.{first_nil, first_past, first_stops, numbered_system, first_append_none, first_append_some, unless_refused_some}
 use Rattle.text_laws.specs.Lists.{every_weaken}
 use Rattle.text_laws.specs.Accepted.{AcceptedSystem, AcceptedScales, system_accepted, system_scales}
 use Rattle.text_laws.specs.Coordinates.{all_ones}
@@ -30,8 +30,8 @@ entry_line columns values i from k = line (bytes "a" ∷ decimal (i + 1) ∷ dec
 abbrev pub row_text : List ℕ → List ℕ → ℕ → ℕ → ℕ → List ℕ
 row_text columns values i from n = flat (table n (entry_line columns values i from))
 
-abbrev pub rows_text : List ℕ → List ℕ → List ℕ → List ℕ
-rows_text starts columns values = flat (table (length starts - 1) (write_row (matrix starts columns values)))
+abbrev pub rows_text : Matrix → List ℕ
+rows_text A = flat (table (size A) (write_row A))
 
 abbrev pub place_line : List ℕ → List ℕ → ℕ → List ℕ
 place_line letter v i = cond (eqb (at v i) 0) [] (line (letter ∷ decimal (i + 1) ∷ decimal (at v i) ∷ []))
@@ -45,12 +45,12 @@ right_text right = flat (table (length right) (write_element right)) ++ line (by
 abbrev pub header_text : ℕ → ℕ → ℕ → List ℕ
 header_text p n k = line (bytes "system" ∷ decimal p ∷ decimal n ∷ decimal k ∷ [])
 
-pub record Rows (starts columns values : List ℕ) : Type 0 where
-  pub some : 1 ≤ length starts
-  pub size : length starts ≤ 4097
-  pub rising : (i : ℕ) → i < length starts - 1 → at starts i ≤ at starts (i + 1)
-  pub within : (i : ℕ) → i < length starts → at starts i ≤ length columns
-  pub as_many : length columns ≡ length values
+pub record Rows (A : Matrix) : Type 0 where
+  pub some : 1 ≤ length A.starts
+  pub few : length A.starts ≤ 4097
+  pub rising : (i : ℕ) → i < size A → at A.starts i ≤ at A.starts (i + 1)
+  pub within : (i : ℕ) → i < length A.starts → at A.starts i ≤ length A.columns
+  pub as_many : length A.columns ≡ length A.values
 
 -- ---- the words as the code writes them
 
@@ -66,10 +66,10 @@ entry_line_law columns values i from k c v h ec ev =
     let e : k ≡ from + (k - from) = omega arith in
     ap₂ (λ x y. line ((97 ∷ []) ∷ decimal (i + 1) ∷ decimal (x + 1) ∷ decimal y ∷ [])) (ec ∙ ap (at columns) e) (ev ∙ ap (at values) e)
 
-pub row_text_law : (starts columns values : List ℕ) (i a b : ℕ) → a ≡ at starts i → b ≡ at starts (i + 1)
-    → row_text columns values i a (b - a) ≡ write_row (matrix starts columns values) i
+pub row_text_law : (A : Matrix) (i a b : ℕ) → a ≡ at A.starts i → b ≡ at A.starts (i + 1)
+    → row_text A.columns A.values i a (b - a) ≡ write_row A i
 unfolding write_row
-row_text_law starts columns values i a b e f = ap₂ (λ x y. row_text columns values i x (y - x)) e f
+row_text_law A i a b e f = ap₂ (λ x y. row_text A.columns A.values i x (y - x)) e f
 
 module _ (letter v : List ℕ) where
   pub place_none : (i : ℕ) → at v i ≡ 0 → place_line letter v i ≡ []
@@ -105,21 +105,21 @@ scales_number p n X x = go (test_cases (all_ones X))
     go (inl e) = scales_none (length X) X e ∙ sym (scales_none n X e)
     go (inr e) = ap (λ m. write_scales m X) (scales_full p n X x e)
 
-pub whole_text : (p : ℕ) (starts columns values scales right : List ℕ) → AcceptedScales p (length starts - 1) scales → length right ≡ length starts - 1
-    → header_text p (length starts - 1) (length columns) ++ rows_text starts columns values ++ write_scales (length scales) scales ++ right_text right
-    ≡ write p (matrix starts columns values) scales right
+pub whole_text : (p : ℕ) (A : Matrix) (scales right : List ℕ) → AcceptedScales p (size A) scales → length right ≡ size A
+    → header_text p (size A) (length A.columns) ++ rows_text A ++ write_scales (length scales) scales ++ right_text right
+    ≡ write p A scales right
 unfolding write
-whole_text p starts columns values scales right x e =
-    let n = length starts - 1 in
-    let front = header_text p n (length columns) ++ rows_text starts columns values in
+whole_text p A scales right x e =
+    let n = size A in
+    let front = header_text p n (length A.columns) ++ rows_text A in
     sym (append_assoc (front ++ write_scales (length scales) scales) (flat (table (length right) (write_element right))) (line (bytes "end" ∷ [])))
     ∙ ap₂ (λ s m. front ++ s ++ flat (table m (write_element right)) ++ line (bytes "end" ∷ [])) (scales_number p n scales x) e
 
-accepted_rows : (p : ℕ) (starts columns values right : List ℕ) → AcceptedSystem p (matrix starts columns values) right → Rows starts columns values
-accepted_rows p starts columns values right a =
+accepted_rows : (p : ℕ) (A : Matrix) (right : List ℕ) → AcceptedSystem p A right → Rows A
+accepted_rows p A right a =
     record {
       some = omega (arith, a.start_count);
-      size = omega (arith, a.start_count, a.size_high);
+      few = omega (arith, a.start_count, a.size_high);
       rising = a.rising;
       within = λ i l. start_within a i (omega (arith, l, a.start_count));
       as_many = a.as_many;
@@ -129,11 +129,11 @@ pub accepted_some : (p n : ℕ) (X : List ℕ) → AcceptedScales p n X → ever
 accepted_some p n X x = every_weaken (value_taken p) (leb 1) X (λ a t. and_left (leb 1 a) (ltb a p) t) x.taken
 
 -- what the whole text asks of a system that the checks take
-pub text_asks : (p : ℕ) (starts columns values scales right : List ℕ) → first (system_checks p (matrix starts columns values) scales right) ≡ 0
-    → Rows starts columns values × (AcceptedScales p (length starts - 1) scales × (length right ≡ length starts - 1))
-text_asks p starts columns values scales right e =
-    let a = system_accepted p (matrix starts columns values) scales right e in
-    (accepted_rows p starts columns values right a, (system_scales p (matrix starts columns values) scales right e, a.right_length))
+pub text_asks : (p : ℕ) (A : Matrix) (scales right : List ℕ) → first (system_checks p A scales right) ≡ 0
+    → Rows A × (AcceptedScales p (size A) scales × (length right ≡ size A))
+text_asks p A scales right e =
+    let a = system_accepted p A scales right e in
+    (accepted_rows p A right a, (system_scales p A scales right e, a.right_length))
 
 -- ---- the writer's checks
 
@@ -141,6 +141,18 @@ module _ (p : ℕ) (A : Matrix) (X b out : List ℕ) where
   pub writer_system : (first (system_checks p A X b) ≡ 0 → ⊥) → writer_refusal p A X b out ≡ first (system_checks p A X b)
   unfolding writer_refusal
   writer_system n = first_append_some (system_checks p A X b) _ n
+
+  -- what a refused system is answered, and that the slice stays
+  pub system_refused : {number : ℕ} → number ≡ first (system_checks p A X b) → number ≢ 0 → number ≡ writer_refusal p A X b out
+  system_refused e n = e ∙ sym (writer_system (λ z. n (e ∙ z)))
+
+  pub refused_answer : {number : ℕ} → number ≡ first (system_checks p A X b) → number ≢ 0 → 0 ≡ writer_answer p A X b out
+  refused_answer e n =
+      sym (unless_refused_some (writer_refusal p A X b out) (length (write p A X b)) 0 (λ z. n (system_refused e n ∙ z)))
+
+  pub refused_after : {number : ℕ} → number ≡ first (system_checks p A X b) → number ≢ 0 → out ≡ writer_after p A X b out
+  refused_after e n =
+      sym (unless_refused_some (writer_refusal p A X b out) (overwrite (write p A X b) out) out (λ z. n (system_refused e n ∙ z)))
 
   last_check : first (system_checks p A X b) ≡ 0 → writer_refusal p A X b out ≡ first (check 11 (not (leb (length (write p A X b)) (length out))) ∷ [])
   unfolding writer_refusal

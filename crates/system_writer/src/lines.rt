@@ -2,23 +2,18 @@
 // without room they measure the text.
 ghost use Rattle.std.specs.Prelude.{◌-◌, ◌≤◌, ◌<◌, ◌≡◌, true, leb, length};
 ghost use Rattle.meaning.specs.List.{every};
-ghost use Rattle.meaning.specs.Matrix.{matrix};
+ghost use Rattle.meaning.specs.Matrix.{size};
 ghost use Rattle.meaning.specs.Text.{write_scales, write};
 ghost use Rattle.laws.specs.Accepted.{AcceptedScales};
 ghost use Rattle.line_writer.specs.Written.{Wrote};
+ghost use Rattle.checks.specs.Slices.{matrix_of};
 ghost use Rattle.system_writer.specs.Writes.{Rows, header_text, row_text, rows_text, place_text, right_text};
 
-use checks::{all_ones, wide};
+use checks::{Matrix, all_ones};
 use line_writer::put_line;
 
-fn long(x: u32) -> u64
-    ensures { (result ≡ x) × (result ≤ 4294967295) }
-{
-    x as u64
-}
-
 // The `a` lines of a row.
-pub(crate) fn row_lines(
+fn row_lines(
     out: &mut [u8],
     at: usize,
     row: usize,
@@ -31,58 +26,43 @@ pub(crate) fn row_lines(
     ensures { Wrote out.old at (row_text columns.now values.now row from (to - from)) result out.new }
 {
     let mut next = at;
-    let mut k = from;
-    while k < to {
-        let column = long(columns[k]) + 1;
-        let value = long(values[k]);
-        next = put_line(out, next, b"a", &[(row + 1) as u64, column, value]);
-        k += 1;
+    for k in from..to {
+        let column = columns[k] as u64 + 1;
+        next = put_line(out, next, b"a", &[row as u64 + 1, column, values[k] as u64]);
     }
     next
 }
 
 // The `a` lines of all rows.
-pub(crate) fn all_rows(
-    out: &mut [u8],
-    at: usize,
-    starts: &[u32],
-    columns: &[u32],
-    values: &[u32],
-) -> usize
-    requires { Rows starts.now columns.now values.now }
-    ensures { Wrote out.old at (rows_text starts.now columns.now values.now) result out.new }
+fn all_rows(out: &mut [u8], at: usize, a: &Matrix) -> usize
+    requires { Rows (matrix_of a.now) }
+    ensures { Wrote out.old at (rows_text (matrix_of a.now)) result out.new }
 {
-    let n = starts.len() - 1;
     let mut next = at;
-    let mut i: usize = 0;
-    while i < n {
-        let from = wide(starts[i]);
-        let to = wide(starts[i + 1]);
-        next = row_lines(out, next, i, from, to, columns, values);
-        i += 1;
+    for i in 0..a.starts.len() - 1 {
+        let from = a.starts[i] as usize;
+        let to = a.starts[i + 1] as usize;
+        next = row_lines(out, next, i, from, to, a.columns, a.values);
     }
     next
 }
 
 // A line for each element that is not 0: a letter, the place and the element.
-pub(crate) fn place_lines(out: &mut [u8], at: usize, letter: &[u8], v: &[u32]) -> usize
+fn place_lines(out: &mut [u8], at: usize, letter: &[u8], v: &[u32]) -> usize
     ensures { Wrote out.old at (place_text letter.now v.now) result out.new }
 {
     let mut next = at;
-    let mut i: usize = 0;
-    while i < v.len() {
-        let value = v[i];
-        i += 1;
+    for (i, &value) in v.iter().enumerate() {
         if value == 0 {
             continue;
         }
-        next = put_line(out, next, letter, &[i as u64, long(value)]);
+        next = put_line(out, next, letter, &[i as u64 + 1, value as u64]);
     }
     next
 }
 
 // The `s` lines, exactly if some scale isn't 1; no scale is 0.
-pub(crate) fn scale_lines(out: &mut [u8], at: usize, scales: &[u32]) -> usize
+fn scale_lines(out: &mut [u8], at: usize, scales: &[u32]) -> usize
     requires { every (leb 1) scales.now ≡ true }
     ensures { Wrote out.old at (write_scales (length scales.now) scales.now) result out.new }
 {
@@ -93,7 +73,7 @@ pub(crate) fn scale_lines(out: &mut [u8], at: usize, scales: &[u32]) -> usize
 }
 
 // The `b` lines and the end.
-pub(crate) fn right_side(out: &mut [u8], at: usize, right: &[u32]) -> usize
+fn right_side(out: &mut [u8], at: usize, right: &[u32]) -> usize
     ensures { Wrote out.old at (right_text right.now) result out.new }
 {
     let next = place_lines(out, at, b"b", right);
@@ -101,31 +81,22 @@ pub(crate) fn right_side(out: &mut [u8], at: usize, right: &[u32]) -> usize
 }
 
 // The `system` line.
-pub(crate) fn header(out: &mut [u8], p: u32, n: u64, entries: u64) -> usize
+fn header(out: &mut [u8], p: u32, n: u64, entries: u64) -> usize
     ensures { Wrote out.old 0 (header_text p n entries) result out.new }
 {
     put_line(out, 0, b"system", &[p as u64, n, entries])
 }
 
 // The whole text.
-pub(crate) fn whole_text(
-    out: &mut [u8],
-    p: u32,
-    starts: &[u32],
-    columns: &[u32],
-    values: &[u32],
-    scales: &[u32],
-    right: &[u32],
-) -> usize
-    requires rows { Rows starts.now columns.now values.now }
-    requires accepted_scales { AcceptedScales p (length starts.now - 1) scales.now }
-    requires right_len { length right.now ≡ length starts.now - 1 }
-    ensures { Wrote out.old 0 (write p (matrix starts.now columns.now values.now)
-        scales.now right.now) result out.new }
+pub(crate) fn whole_text(out: &mut [u8], p: u32, a: &Matrix, scales: &[u32], right: &[u32]) -> usize
+    requires rows { Rows (matrix_of a.now) }
+    requires accepted_scales { AcceptedScales p (size (matrix_of a.now)) scales.now }
+    requires right_len { length right.now ≡ size (matrix_of a.now) }
+    ensures { Wrote out.old 0 (write p (matrix_of a.now) scales.now right.now) result out.new }
 {
-    let n = (starts.len() - 1) as u64;
-    let next = header(out, p, n, columns.len() as u64);
-    let next = all_rows(out, next, starts, columns, values);
+    let n = a.starts.len() - 1;
+    let next = header(out, p, n as u64, a.columns.len() as u64);
+    let next = all_rows(out, next, a);
     let next = scale_lines(out, next, scales);
     right_side(out, next, right)
 }

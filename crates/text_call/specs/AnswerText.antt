@@ -1,16 +1,17 @@
 -- The answer's text by its lines, as it is written.
 --     element_lines w first l n       a line for each of the first n elements of l: w, its number from `first`, itself
 --     element_lines_ext               the same elements, the same lines
+--     element_lines_take              the lines of a leading part
 --     bill_lines B k                  a `pass` line for each of the first k passes on the bill B
 --     bill_lines_law                     .. are the passes' lines, whatever stands behind them on the bill
 --     text_of                         the answer's text, of the first line's word and that of the vector's lines
 --     answer_solved, answer_singular      .. is answer_text, if the bill is that of the passes
 --     refused_line                   the line of a refusal
-use Rattle.std.specs.Prelude.{◌≡◌, refl, length}
-use Rattle.std.proofs.Common.{sym, ◌∙◌}
+use Rattle.std.specs.Prelude.{◌≡◌, refl, length, take}
+use Rattle.std.proofs.Common.{sym, ◌∙◌, get_or-take, length-take-le}
 use Rattle.std.proofs.Math.Path.{ap, ap₂}
 use mathlib.Core.List.{List, [], ◌∷◌, ◌++◌, map}
-use Prim.Native.Nat.{ℕ, suc, ◌+◌, ◌-◌, ◌*◌, ◌<◌}
+use Prim.Native.Nat.{ℕ, suc, ◌+◌, ◌-◌, ◌*◌, ◌≤◌, ◌<◌}
 use native.Mathlib.Omega.{arith}
 use Rattle.meaning.specs.List.{at, table, flat, bytes}
 use Rattle.meaning.specs.Text.{decimal, line}
@@ -32,6 +33,13 @@ pub element_lines_ext : (w : List ℕ) (first : ℕ) (l m : List ℕ) (n : ℕ) 
 unfolding element_lines
 element_lines_ext w first l m n h =
     ap flat (table_ext n (element_line w first l) (element_line w first m) (λ i k. ap (λ x. line (w ∷ decimal (i + first) ∷ decimal x ∷ [])) (h i k)))
+
+-- of a part of so many elements
+pub element_lines_take : (w : List ℕ) (first : ℕ) (l : List ℕ) (n : ℕ) → n ≤ length l
+    → element_lines w first (take n l) (length (take n l)) ≡ element_lines w first l n
+element_lines_take w first l n h =
+    ap (element_lines w first (take n l)) (length-take-le n l h)
+    ∙ element_lines_ext w first (take n l) l n (λ i k. get_or-take n l i 0 k)
 
 -- ---- the bill
 

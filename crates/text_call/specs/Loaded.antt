@@ -1,21 +1,18 @@
--- A system in the leading parts of the arrays.
---     loaded_matrix                   the matrix of n rows and `count` entries
---     outcome_of, loaded_text          the outcome of its run without words, and the answer's text
---     Loaded                         the arrays hold a system that is taken
---     read_modulus_law, read_rows        the modulus and the size that the reader answers
---     read_loaded                    .. after the reader took a text
---     refused_number                 where the reader refuses, its number is from 1
+-- A system that the text call takes, from the reader's arrays to the answer.
+--     outcome_of, run_text           the outcome of a run without words, and the answer's text
+--     Taken                          a system of at most 128 rows that passes the checks
+--     Loaded                         .. in the leading parts of the arrays
+--     read_loaded                    what the arrays hold after the reader took a text
 --     read_outcome                   the answer's text is the text call's
 --     verdict_text, degree_of, passes_of      the answer's text, the degree and the passes, of what the solver says
---     verdict_solved, verdict_singular, verdict_refused      .. by its cases
+--     verdict_solved, verdict_singular      .. by its cases
 --     said_answer, said_low          .. where it says an outcome: answer_text; at most n
---     Ran                            what a run leaves in the arrays
---     loaded_rows, loaded_small      the size, and the run's bounds
---     ran_answer                     the answer's text, of what a run leaves
---     loaded_taken, loaded_solved    the solver refuses nothing, and gives the outcome
-use Rattle.std.specs.Prelude.{◌≡◌, Bool, true, not, ◌&&◌, ℕ, zero, suc, ◌+◌, ◌-◌, ◌*◌, ◌≤◌, ◌<◌, take, drop}
+--     taken_starts, taken_small      the number of starts, and the run's bounds
+--     taken_passed, never_refused    the solver refuses nothing
+--     taken_solved                   .. and what it says and leaves makes the answer's text
+use Rattle.std.specs.Prelude.{Ok, Err, ◌≡◌, Bool, true, not, ◌&&◌, ℕ, zero, suc, ◌+◌, ◌-◌, ◌*◌, ◌≤◌, ◌<◌, take, drop}
 use Rattle.std.proofs.Math.Path.{sym, ap, ap₂}
-use Rattle.std.proofs.Common.{subst, ◌∙◌, arith, length-take, take_at, length-take-le, leb-true, le-leb, eq-eqb}
+use Rattle.std.proofs.Common.{subst, ◌∙◌, arith, length-take, take_at, leb-true, le-leb, eq-eqb}
 use mathlib.Core.List.{List, [], ◌∷◌, ◌++◌}
 use Rattle.std.proofs.Math.Dec.{eqb, leb}
 use Rattle.std.proofs.Math.ListN.{length, length-map}
@@ -29,27 +26,30 @@ use Rattle.meaning.specs.Calls.{system_checks, run_checks, text_checks, solver_r
 use Rattle.laws.specs.Bool.{and_right, and_both}
 use Rattle.laws.specs.List.{length_table, get_or_table}
 use Rattle.laws.specs.Refusal.{first_nil, first_passed, first_pass, numbered_run, numbered_text, first_append_none, first_append_zero, unless_refused_none}
-use Rattle.text_laws.specs.Accepted.{document_accepted, modulus_low}
+use Rattle.text_laws.specs.Accepted.{document_accepted, modulus_low, system_accepted}
 use Rattle.text_laws.specs.RoundTrip.{system_of, read_and_written, text_accepted}
+use Rattle.refusal.specs.declared.Refusal.{Refusal}
 use Rattle.solver.specs.declared.Counts.{Counts}
 use Rattle.solver.specs.declared.Verdict.{Verdict}
-use Rattle.solver.specs.declared.Verdict.TheVariants.{Solved, Singular, Refused}
+use Rattle.solver.specs.declared.Verdict.TheVariants.{Solved, Singular}
 use Rattle.solver.specs.Bill.{billed_all}
 use Rattle.solver.specs.Verdict.{Says, Solves}
 use Rattle.text_call.specs.Bounds.{Small, run_small}
 use Rattle.text_call.specs.Checks.{run_checked}
 use Rattle.text_call.specs.AnswerText.{element_lines, element_lines_ext, bill_lines, bill_lines_law, text_of, answer_solved, answer_singular}
 
-abbrev pub loaded_matrix : ℕ → ℕ → List ℕ → List ℕ → List ℕ → Matrix
-loaded_matrix n count starts columns values = matrix (take (n + 1) starts) (take count columns) (take count values)
-
-abbrev pub outcome_of : ℕ → ℕ → ℕ → List ℕ → List ℕ → List ℕ → List ℕ → List ℕ → Outcome
-outcome_of p n count starts columns values scales right = solve p (loaded_matrix n count starts columns values) (take n scales) (take n right) [] 0
+abbrev pub outcome_of : ℕ → Matrix → List ℕ → List ℕ → Outcome
+outcome_of p A X b = solve p A X b [] 0
 
 -- the answer's text of its run
-abbrev pub loaded_text : ℕ → ℕ → ℕ → List ℕ → List ℕ → List ℕ → List ℕ → List ℕ → List ℕ
-loaded_text p n count starts columns values scales right = answer_text (outcome_of p n count starts columns values scales right)
+abbrev pub run_text : ℕ → Matrix → List ℕ → List ℕ → List ℕ
+run_text p A X b = answer_text (outcome_of p A X b)
 
+pub record Taken (p : ℕ) (A : Matrix) (X b : List ℕ) : Type 0 where
+  pub rows : size A ≤ 128
+  pub checked : first (system_checks p A X b) ≡ 0
+
+-- the arrays hold a system of n rows and `count` entries
 pub record Loaded (p n count : ℕ) (starts columns values scales right : List ℕ) : Type 0 where
   pub rows : n ≤ 128
   pub in_starts : n + 1 ≤ length starts
@@ -57,7 +57,7 @@ pub record Loaded (p n count : ℕ) (starts columns values scales right : List �
   pub in_values : count ≤ length values
   pub in_scales : n ≤ length scales
   pub in_right : n ≤ length right
-  pub checked : first (system_checks p (loaded_matrix n count starts columns values) (take n scales) (take n right)) ≡ 0
+  pub taken : Taken p (matrix (take (n + 1) starts) (take count columns) (take count values)) (take n scales) (take n right)
 
 -- a part of so many elements is within its list
 long : (k : ℕ) (l m : List ℕ) → take k l ≡ m → length m ≤ length l
@@ -155,10 +155,10 @@ module _ (text starts columns values scales right : List ℕ) (e : reader_refusa
       same_right : take n right' ≡ (system_of text).right
       same_right = ap (take n) er ∙ filled (system_of text).right right n (omega (arith, length_right d, order))
 
-      pub read_rows : length right ≡ 128 → n ≤ 128
+      read_rows : length right ≡ 128 → n ≤ 128
       read_rows er = omega (arith, order, leb-true d.size (length right) (and_right (leb (d.size + 1) (length starts) && leb d.count (length columns) && leb d.count (length values) && leb d.size (length scales)) (leb d.size (length right)) has_room))
 
-      same_matrix : loaded_matrix n count starts' columns' values' ≡ A
+      same_matrix : matrix (take (n + 1) starts') (take count columns') (take count values') ≡ A
       same_matrix =
           ap (λ s. matrix s (take count columns') (take count values')) same_starts
           ∙ ap₂ (λ c v. matrix A.starts c v) same_columns same_values
@@ -167,28 +167,32 @@ module _ (text starts columns values scales right : List ℕ) (e : reader_refusa
       unfolding system
       same_modulus = modulus
 
-      pub read_loaded : n ≤ 128 → Loaded p n count starts' columns' values' scales' right'
-      read_loaded small =
+      pub read_loaded : length right ≡ 128 → Loaded p n count starts' columns' values' scales' right'
+      read_loaded er =
           record {
-            rows = small;
+            rows = read_rows er;
             in_starts = omega (arith, long (n + 1) starts' A.starts same_starts, length_starts d, order);
             in_columns = omega (arith, long count columns' A.columns same_columns, length_columns d, counted, entries);
             in_values = omega (arith, long count values' A.values same_values, length_values d, counted, entries);
             in_scales = omega (arith, long n scales' (system_of text).scales same_scales, length_scales d, order);
             in_right = omega (arith, long n right' (system_of text).right same_right, length_right d, order);
-            checked =
-                ap₂ (λ q M. first (system_checks q M (take n scales') (take n right'))) same_modulus same_matrix
-                ∙ ap₂ (λ X b. first (system_checks (system_of text).modulus A X b)) same_scales same_right
-                ∙ (read_and_written text reads).accepted;
+            taken =
+                record {
+                  rows = omega (arith, ap length same_starts, length_starts d, order, read_rows er);
+                  checked =
+                      ap₂ (λ q M. first (system_checks q M (take n scales') (take n right'))) same_modulus same_matrix
+                      ∙ ap₂ (λ X b. first (system_checks (system_of text).modulus A X b)) same_scales same_right
+                      ∙ (read_and_written text reads).accepted;
+                };
           }
 
-      pub read_outcome : answer_text (outcome_of p n count starts' columns' values' scales' right') ≡ solved_text text
+      pub read_outcome :
+          run_text p (matrix (take (n + 1) starts') (take count columns') (take count values')) (take n scales') (take n right') ≡ solved_text text
       unfolding solved_text
       read_outcome =
           ap₂ (λ q M. answer_text (solve q M (take n scales') (take n right') [] 0)) same_modulus same_matrix
           ∙ ap₂ (λ X b. answer_text (solve (system_of text).modulus A X b [] 0)) same_scales same_right
 
--- where the reader answers no modulus, its number is a refusal's
 pub refused_number : (text starts columns values scales right : List ℕ) (number : ℕ) → number ≡ reader_refusal text starts columns values scales right
     → 0 ≡ reader_answer (λ d. d.modulus) text starts columns values scales right → 1 ≤ number
 refused_number text starts columns values scales right zero e z = absurd (omega (arith, read_modulus_law text starts columns values scales right (sym e)))
@@ -199,17 +203,14 @@ refused_number text starts columns values scales right (suc k) e z = omega arith
 unfoldable pub verdict_text : Verdict → List ℕ → List ℕ → List ℕ → List ℕ
 verdict_text (Solved c) B polynomial vector = text_of (bytes "answer\tsolved") (bytes "x") c.degree c.passes c.applications c.multiplied B polynomial vector
 verdict_text (Singular c) B polynomial vector = text_of (bytes "answer\tsingular") (bytes "w") c.degree c.passes c.applications c.multiplied B polynomial vector
-verdict_text (Refused k) B polynomial vector = []
 
 abbrev pub degree_of : Verdict → ℕ
 degree_of (Solved c) = c.degree
 degree_of (Singular c) = c.degree
-degree_of (Refused k) = 0
 
 abbrev pub passes_of : Verdict → ℕ
 passes_of (Solved c) = c.passes
 passes_of (Singular c) = c.passes
-passes_of (Refused k) = 0
 
 module _ (B polynomial vector : List ℕ) where
   pub verdict_solved : (r : Verdict) (c : Counts) → r ≡ Solved c
@@ -221,10 +222,6 @@ module _ (B polynomial vector : List ℕ) where
       → text_of (bytes "answer\tsingular") (bytes "w") c.degree c.passes c.applications c.multiplied B polynomial vector ≡ verdict_text r B polynomial vector
   unfolding verdict_text
   verdict_singular r c e = ap (λ v. verdict_text v B polynomial vector) (sym e)
-
-  pub verdict_refused : (r : Verdict) (k : ℕ) → r ≡ Refused k → [] ≡ verdict_text r B polynomial vector
-  unfolding verdict_text
-  verdict_refused r k e = ap (λ v. verdict_text v B polynomial vector) (sym e)
 
 module _ (p n : ℕ) (o : Outcome) (s : Small p n o) where
   module _ (B : List ℕ) (h : bill_lines B (pass_count o) ≡ pass_lines 1 o.passes) where
@@ -240,7 +237,7 @@ module _ (p n : ℕ) (o : Outcome) (s : Small p n o) where
         (element_lines_ext (bytes "f") 0 (padded (n + 1) o.polynomial) o.polynomial (o.degree + 1)
         (λ i l. get_or_table (n + 1) (λ i. at o.polynomial i) i 0 (omega (arith, s.degree_low))))
 
-    pub said_answer : (r : Verdict) → Says r 0 o → verdict_text r B (padded (n + 1) o.polynomial) o.vector ≡ answer_text o
+    pub said_answer : (r : Verdict) → Says (Ok r) 0 o → verdict_text r B (padded (n + 1) o.polynomial) o.vector ≡ answer_text o
     unfolding verdict_text
     said_answer (Solved c) t =
         same_text (bytes "answer\tsolved") (bytes "x") c.degree c.passes c.applications c.multiplied t.2.degree t.2.passes t.2.applications t.2.multiplied
@@ -248,80 +245,53 @@ module _ (p n : ℕ) (o : Outcome) (s : Small p n o) where
     said_answer (Singular c) t =
         same_text (bytes "answer\tsingular") (bytes "w") c.degree c.passes c.applications c.multiplied t.2.degree t.2.passes t.2.applications t.2.multiplied
         ∙ sym (answer_singular o B h t.1)
-    said_answer (Refused k) t = absurd (t.1 (sym t.0))
 
-  pub said_low : (r : Verdict) → Says r 0 o → (degree_of r ≤ n) × (passes_of r ≤ n)
+  pub said_low : (r : Verdict) → Says (Ok r) 0 o → (degree_of r ≤ n) × (passes_of r ≤ n)
   said_low (Solved c) t = (omega (arith, t.2.degree, s.degree_low), omega (arith, t.2.passes, s.passes_few))
   said_low (Singular c) t = (omega (arith, t.2.degree, s.degree_low), omega (arith, t.2.passes, s.passes_few))
-  said_low (Refused k) t = (omega arith, omega arith)
 
--- what a run leaves in the arrays
-pub record Ran (p n count : ℕ) (starts columns values scales right : List ℕ) (r : Verdict) (vector polynomial B : List ℕ) : Type 0 where
-  pub says : Says r 0 (outcome_of p n count starts columns values scales right)
-  pub vector_of : take n vector ≡ (outcome_of p n count starts columns values scales right).vector
-  pub polynomial_of : take (n + 1) polynomial ≡ padded (n + 1) (outcome_of p n count starts columns values scales right).polynomial
-  pub bill_of : bill_lines B (pass_count (outcome_of p n count starts columns values scales right)) ≡ pass_lines 1 (outcome_of p n count starts columns values scales right).passes
+-- ---- a run on a system that is taken
 
-module _ (p n count : ℕ) (starts columns values scales right : List ℕ) (l : Loaded p n count starts columns values scales right) where
+module _ (p : ℕ) (A : Matrix) (X b : List ℕ) (taken : Taken p A X b) where
   abbrev o : Outcome
-  o = outcome_of p n count starts columns values scales right
+  o = outcome_of p A X b
 
-  pub loaded_rows : size (loaded_matrix n count starts columns values) ≡ n
-  loaded_rows = omega (arith, length-take-le (n + 1) starts l.in_starts)
+  pub taken_starts : length A.starts ≡ size A + 1
+  taken_starts = (system_accepted p A X b taken.checked).start_count
 
-  pub loaded_small : Small p n o
-  loaded_small =
-      subst (λ k. Small p k o) loaded_rows
-      (run_small p (loaded_matrix n count starts columns values) (take n scales) (take n right)
-      (run_checked p (loaded_matrix n count starts columns values) (take n scales) (take n right) l.checked)
-      (omega (arith, loaded_rows, l.rows)))
+  pub taken_small : Small p (size A) o
+  taken_small = run_small p A X b (run_checked p A X b taken.checked) taken.rows
 
-  module _ (r : Verdict) (vector polynomial B : List ℕ) (s : Ran p n count starts columns values scales right r vector polynomial B) where
-    pub ran_answer : (f x : List ℕ) → f ≡ take (n + 1) polynomial → x ≡ take n vector → length B ≡ 384
-        → (degree_of r < length f) × (3 * passes_of r ≤ length B) × (verdict_text r B f x ≡ answer_text o)
-    ran_answer f x ef ex eb =
-        let low = said_low p n o loaded_small r s.says in (
-          omega (arith, low.0, ap length (ef ∙ s.polynomial_of), length_table (n + 1) (λ i. at o.polynomial i)),
-          omega (arith, low.1, eb, l.rows),
-          ap₂ (λ g y. verdict_text r B g y) (ef ∙ s.polynomial_of) (ex ∙ s.vector_of) ∙ said_answer p n o loaded_small B s.bill_of r s.says,
-        )
+  module _ (v f w : List ℕ) (lv : length v ≡ size A) (lf : length f ≡ size A + 1) (lw : length w ≡ 2064) where
+    -- nothing is refused where the vector, the polynomial and the work slice are as long as stated
+    taken_passed : solver_refusal p A X b [] 0 v f w ≡ 0
+    unfolding solver_refusal
+    taken_passed =
+        first_append_none (run_checks p A X b [] 0)
+        (check 11 (not (eqb (length v) (size A) && eqb (length f) (size A + 1) && leb (16 * size A + 16) (length w))) ∷ [])
+        (numbered_run p A X b [] 0)
+        (run_checked p A X b taken.checked)
+        ∙ first_pass 11 (eqb (length v) (size A) && eqb (length f) (size A + 1) && leb (16 * size A + 16) (length w)) []
+        (and_both (and_both (eq-eqb (length v) (size A) lv) (eq-eqb (length f) (size A + 1) lf)) (le-leb (16 * size A + 16) (length w) (omega (arith, lw, taken.rows))))
+        first_nil
 
-  -- nothing is refused where the vector, the polynomial and the work slice are as long as stated
-  pub loaded_taken : (vector polynomial work : List ℕ) → length vector ≡ n → length polynomial ≡ n + 1 → 16 * n + 16 ≤ length work
-      → solver_refusal p (loaded_matrix n count starts columns values) (take n scales) (take n right) [] 0 vector polynomial work ≡ 0
-  unfolding solver_refusal
-  loaded_taken vector polynomial work ev ef ew =
-      let A = loaded_matrix n count starts columns values in
-      first_append_none (run_checks p A (take n scales) (take n right) [] 0)
-      (check 11 (not (eqb (length vector) (size A) && eqb (length polynomial) (size A + 1) && leb (16 * size A + 16) (length work))) ∷ [])
-      (numbered_run p A (take n scales) (take n right) [] 0)
-      (run_checked p A (take n scales) (take n right) l.checked)
-      ∙ first_pass 11 (eqb (length vector) (size A) && eqb (length polynomial) (size A + 1) && leb (16 * size A + 16) (length work)) []
-      (and_both
-      (and_both (eq-eqb (length vector) (size A) (omega (arith, loaded_rows))) (eq-eqb (length polynomial) (size A + 1) (omega (arith, loaded_rows))))
-      (le-leb (16 * size A + 16) (length work) (omega (arith, loaded_rows))))
-      first_nil
+    pub never_refused : {B v' f' B' w' : List ℕ} {r : Refusal} → Solves p A X b [] 0 v f B w (Err r) v' f' B' w' → ⊥
+    never_refused h = h.says.1 (sym h.says.0 ∙ taken_passed)
 
-  -- so a call of the solver on the arrays' leading parts gives the outcome
-  pub loaded_solved : {t k u X b words v f B w v' f' B' w' : List ℕ} {r : Verdict} → Solves p (matrix t k u) X b words 0 v f B w r v' f' B' w'
-      → t ≡ take (n + 1) starts → k ≡ take count columns → u ≡ take count values → X ≡ take n scales → b ≡ take n right → words ≡ []
-      → length v ≡ n → length f ≡ n + 1 → length B ≡ 384 → 16 * n + 16 ≤ length w
-      → Says r 0 o × (v' ≡ o.vector) × (f' ≡ padded (n + 1) o.polynomial) × (bill_lines B' (pass_count o) ≡ pass_lines 1 o.passes)
-  loaded_solved {t} {k} {u} {X} {b} {words} {v} {f} {B} {w} {v'} {f'} {B'} {w'} {r} h et ek eu ex eb ew lv lf lb lw =
-      let A = loaded_matrix n count starts columns values in
-      let on-starts = subst (λ x. Solves p (matrix x k u) X b words 0 v f B w r v' f' B' w') et h in
-      let on-columns = subst (λ x. Solves p (matrix (take (n + 1) starts) x u) X b words 0 v f B w r v' f' B' w') ek on-starts in
-      let on_values = subst (λ x. Solves p (matrix (take (n + 1) starts) (take count columns) x) X b words 0 v f B w r v' f' B' w') eu on-columns in
-      let on-scales = subst (λ x. Solves p A x b words 0 v f B w r v' f' B' w') ex on_values in
-      let on-right = subst (λ x. Solves p A (take n scales) x words 0 v f B w r v' f' B' w') eb on-scales in
-      let call = subst (λ x. Solves p A (take n scales) (take n right) x 0 v f B w r v' f' B' w') ew on-right in
-      let none = loaded_taken v f w lv lf lw in
-      let room : 3 * pass_count o ≤ length B = omega (arith, loaded_small.passes_few, l.rows, lb) in (
-        subst (λ z. Says r z o) none call.says,
-        call.leaves.vector_after_law ∙ unless_refused_none (solver_refusal p A (take n scales) (take n right) [] 0 v f w) o.vector v none,
-        call.leaves.polynomial_after_law ∙ unless_refused_none (solver_refusal p A (take n scales) (take n right) [] 0 v f w) (padded (size A + 1) o.polynomial) f none
-            ∙ ap (λ z. padded (z + 1) o.polynomial) loaded_rows,
+    pub taken_solved : {B v' f' B' w' : List ℕ} {r : Verdict} → length B ≡ 384 → length B' ≡ length B → Solves p A X b [] 0 v f B w (Ok r) v' f' B' w'
+        → (degree_of r < length f') × (3 * passes_of r ≤ length B') × (verdict_text r B' f' v' ≡ run_text p A X b)
+    taken_solved {B} {v'} {f'} {B'} {w'} {r} lb same h =
+        let says = subst (λ z. Says (Ok r) z o) taken_passed h.says in
+        let low = said_low p (size A) o taken_small r says in
+        let room : 3 * pass_count o ≤ length B = omega (arith, taken_small.passes_few, taken.rows, lb) in
+        let refusal = solver_refusal p A X b [] 0 v f w in
+        let vector_is = h.leaves.vector_after_law ∙ unless_refused_none refusal o.vector v taken_passed in
+        let polynomial_is = h.leaves.polynomial_after_law ∙ unless_refused_none refusal (padded (size A + 1) o.polynomial) f taken_passed in
+        let bill_is =
         ap (λ x. bill_lines x (pass_count o))
-            (call.leaves.bill_after_law ∙ unless_refused_none (solver_refusal p A (take n scales) (take n right) [] 0 v f w) (billed B o.passes) B none ∙ billed_all B o.passes room)
-            ∙ bill_lines_law o.passes (drop (3 * pass_count o) B),
-      )
+        (h.leaves.bill_after_law ∙ unless_refused_none refusal (billed B o.passes) B taken_passed ∙ billed_all B o.passes room)
+        ∙ bill_lines_law o.passes (drop (3 * pass_count o) B) in (
+          omega (arith, low.0, ap length polynomial_is, length_table (size A + 1) (λ i. at o.polynomial i)),
+          omega (arith, low.1, lb, same, taken.rows),
+          ap₂ (λ g y. verdict_text r B' g y) polynomial_is vector_is ∙ said_answer p (size A) o taken_small B' bill_is r says,
+        )

@@ -8,9 +8,9 @@
 --     shown_answer, shown_refused      the two cases
 -- An input that was cut, and each case of `Printed`: proofs/Program.antt, `long_refused`, `cut_input`, `printed_short_buffer`,
 -- `printed_over_read`, `printed_short_out`, `printed_shown`.
-use Rattle.std.specs.Prelude.{◌≡◌, Bool, not, ◌&&◌, List, [], ◌∷◌, ◌++◌, ℕ, ◌+◌, ◌≤◌, ◌<◌, min, take, drop}
-use Rattle.std.proofs.Math.Path.{refl, sym, ap}
-use Rattle.std.proofs.Common.{subst, ◌∙◌, arith, length-append, length-drop, le-leb, eq-eqb, ne_eqb, inl, inr}
+use Rattle.std.specs.Prelude.{◌≡◌, ◌≢◌, Bool, not, ◌&&◌, List, [], ◌∷◌, ◌++◌, ℕ, ◌+◌, ◌≤◌, min, take, drop}
+use Rattle.std.proofs.Math.Path.{sym, ap}
+use Rattle.std.proofs.Common.{subst, ◌∙◌, arith, length-append, length-drop, le-leb, eq-eqb, ne_eqb}
 use Rattle.std.proofs.Math.Bool.{cond}
 use Rattle.std.proofs.Math.Dec.{leb}
 use Rattle.std.proofs.Math.ListN.{length}
@@ -18,11 +18,11 @@ use Rattle.meaning.specs.List.{bytes, overwrite}
 use Rattle.meaning.specs.Text.{decimal, document}
 use Rattle.meaning.specs.Answer.{refused_text}
 use Rattle.meaning.specs.Refusal.{check, first}
-use Rattle.meaning.specs.Calls.{text_checks, text_refusal, solved_text, text_answer, text_after, program_output}
+use Rattle.meaning.specs.Calls.{text_checks, text_refusal, solved_text, program_output}
 use Rattle.text_laws.specs.Line.{length_line_last, length_line_more}
 use Rattle.text_laws.specs.Numeral.{decimal_short}
 use Rattle.line_writer.specs.Written.{Wrote, wrote_start}
-use Rattle.text_call.specs.Checks.{text_taken, solved_fits, LengthOrNumber, answer_or_number, text_refused, text_given}
+use Rattle.text_call.specs.Checks.{text_taken, solved_fits, text_high, text_refused, text_given, Called}
 
 abbrev pub input_room : ℕ
 input_room = 26625
@@ -70,36 +70,26 @@ module _ (text out : List ℕ) (h : 7168 ≤ length out) where
         within = omega (arith, length-append w (drop (length w) out), length-drop (length w) out);
       }
 
-  module _ (number : ℕ) (after : List ℕ) (en : number ≡ text_answer text (length out)) (ea : after ≡ text_after text out) where
-    abbrev refusal : ℕ
-    refusal = text_refusal text (length out)
+pub shown_answer : {text out after : List ℕ} {r : ℕ} → 7168 ≤ length out → 0 ≡ text_refusal text (length out) → Called text out r after → Shown text out r after
+unfolding program_output
+shown_answer {text} {out} {after} {r} h none called =
+    let call = text_given text out (sym none) in
+    let is : program_output text ≡ solved_text text =
+    ap (λ k. cond k (solved_text text) (refused_text (text_refusal text 7168))) (eq-eqb (text_refusal text 7168) 0 (sym (none ∙ room_enough text out h))) in
+    shown_as (shown text out h (solved_text text) is (solved_fits text (text_taken text (length out) (sym none)).0))
+    (call.0 ∙ sym called.number) (call.1 ∙ sym called.slice)
 
-    pub shown_answer : 18 < number → Shown text out number after
-    unfolding program_output
-    shown_answer m = go (answer_or_number text (length out))
-      where
-        go : LengthOrNumber text (length out) (text_answer text (length out)) → Shown text out number after
-        go (inl t) =
-            let call = text_given text out t.0 in
-            let is : program_output text ≡ solved_text text =
-            ap (λ k. cond k (solved_text text) (refused_text (text_refusal text 7168))) (eq-eqb (text_refusal text 7168) 0 (sym room_enough ∙ t.0)) in
-            shown_as (shown (solved_text text) is (solved_fits text (text_taken text (length out) t.0).0))
-            (call.0 ∙ sym en) (call.1 ∙ sym ea)
-        go (inr t) = absurd (omega (arith, t.1, t.2, en))
-
-    pub shown_refused : number ≤ 18 → (r : ℕ) (final : List ℕ) → Wrote after 0 (refused_text number) r final → Shown text out r final
-    unfolding program_output
-    shown_refused m r final p = go (answer_or_number text (length out))
-      where
-        go : LengthOrNumber text (length out) (text_answer text (length out)) → Shown text out r final
-        go (inl t) = absurd (omega (arith, t.1, en))
-        go (inr t) =
-            let is : number ≡ refusal = en ∙ t.2 in
-            let short : length (refused_text number) ≤ 11 = omega (arith, length_refused number, decimal_short 1 number (omega (arith, t.1, is))) in
-            let as_before : out ≡ after = (text_refused text out refusal refl t.0).1 ∙ sym ea in
-            let says : program_output text ≡ refused_text number =
-            ap (λ k. cond k (solved_text text) (refused_text (text_refusal text 7168))) (ne_eqb (text_refusal text 7168) 0 (λ z. omega (arith, t.0, room_enough, z)))
-            ∙ ap refused_text (sym (is ∙ room_enough)) in
-            let put = wrote_start p (omega (arith, short)) in
-            shown_as (shown (refused_text number) says (omega (arith, short))) (sym put.0)
-            (ap (overwrite (refused_text number)) as_before ∙ sym (put.1 (omega (arith, short, ap length as_before))))
+pub shown_refused : {text out after : List ℕ} {k : ℕ} → 7168 ≤ length out → k ≡ text_refusal text (length out) → k ≢ 0 → Called text out k after
+    → (r : ℕ) (final : List ℕ) → Wrote after 0 (refused_text k) r final → Shown text out r final
+unfolding program_output
+shown_refused {text} {out} {after} {k} h e n called r final p =
+    let high = text_high text (length out) in
+    let some : 1 ≤ k = omega (arith, n) in
+    let short : length (refused_text k) ≤ 11 = omega (arith, length_refused k, decimal_short 1 k (omega (arith, e, high))) in
+    let as_before : out ≡ after = (text_refused text out k (sym e) some).1 ∙ sym called.slice in
+    let says : program_output text ≡ refused_text k =
+    ap (λ j. cond j (solved_text text) (refused_text (text_refusal text 7168))) (ne_eqb (text_refusal text 7168) 0 (λ z. n (e ∙ room_enough text out h ∙ z)))
+    ∙ ap refused_text (sym (e ∙ room_enough text out h)) in
+    let put = wrote_start p (omega (arith, short)) in
+    shown_as (shown text out h (refused_text k) says (omega (arith, short, h))) (sym put.0)
+    (ap (overwrite (refused_text k)) as_before ∙ sym (put.1 (omega (arith, short, h, ap length as_before))))

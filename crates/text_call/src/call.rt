@@ -1,159 +1,102 @@
 // The call on its arrays: the reader, the solver, the answer's writer.
-ghost use Rattle.std.specs.Prelude.{◌≡◌, ◌+◌, ◌*◌, ◌≤◌, ◌<◌, length};
+ghost use Rattle.std.specs.Prelude.{◌≡◌, ◌*◌, ◌≤◌, ◌<◌, length};
+ghost use Rattle.meaning.specs.Calls.{text_refusal};
+ghost use Rattle.refusal.specs.Number.{refused_by};
 ghost use Rattle.line_writer.specs.Written.{Wrote};
+ghost use Rattle.checks.specs.Slices.{matrix_of};
+ghost use Rattle.text_call.specs.Answers.{answered};
 ghost use Rattle.text_call.specs.Checks.{Called};
-ghost use Rattle.text_call.specs.Loaded.{Loaded, loaded_text, Ran, verdict_text, degree_of, passes_of};
+ghost use Rattle.text_call.specs.Loaded.{Taken, run_text, verdict_text, degree_of, passes_of};
 
-use crate::answer::put_answer;
-use checks::wide;
+use crate::answer::{Found, put_answer};
+use checks::Matrix;
 use field::Field;
+use refusal::Refusal;
 use solver::{Verdict, solve};
-use system_reader::{Reading, read};
+use system_reader::read;
 
-// Solves the system in the leading parts of the arrays.
-fn run(
-    p: u32,
-    n: usize,
-    count: usize,
-    starts: &[u32],
-    columns: &[u32],
-    values: &[u32],
-    scales: &[u32],
-    right: &[u32],
-    vector: &mut [u32],
-    polynomial: &mut [u32],
-    bill: &mut [u32],
-    work: &mut [u32],
-) -> Verdict
-    requires loaded { Loaded p n count starts.now columns.now values.now scales.now right.now }
-    requires vector_len { (length vector.old ≡ 128) × (length polynomial.old ≡ 129) × (length bill.old ≡ 384) × (length work.old ≡ 2064) }
-    ensures { Ran p n count starts.now columns.now values.now scales.now right.now result vector.new polynomial.new bill.new }
-{
-    let z: usize = 0;
-    let m = n + 1;
-    solve(
-        Field { p },
-        &starts[z..m],
-        &columns[z..count],
-        &values[z..count],
-        &scales[z..n],
-        &right[z..n],
-        &[],
-        0,
-        &mut vector[z..n],
-        &mut polynomial[z..m],
-        bill,
-        work,
-    )
-}
-
-// The answer's text of a verdict; nothing of a refusal.
-fn put_verdict(
-    answer: &mut [u8],
-    verdict: Verdict,
-    bill: &[u32],
-    polynomial: &[u32],
-    vector: &[u32],
-) -> usize
-    requires { (degree_of verdict < length polynomial.now) × (3 * passes_of verdict ≤ length bill.now) }
-    ensures { Wrote answer.old 0 (verdict_text verdict bill.now polynomial.now vector.now) result answer.new }
+// The answer's text of a verdict.
+fn put_verdict(answer: &mut [u8], verdict: Verdict, found: &Found) -> usize
+    requires { (degree_of verdict < length found.now.polynomial.now) × (3 * passes_of verdict ≤ length found.now.bill.now) }
+    ensures { Wrote answer.old 0 (verdict_text verdict found.now.bill.now found.now.polynomial.now found.now.vector.now) result answer.new }
 {
     match verdict {
-        Verdict::Solved(c) => put_answer(
-            answer,
-            b"answer\tsolved",
-            b"x",
-            c,
-            bill,
-            polynomial,
-            vector,
-        ),
-        Verdict::Singular(c) => put_answer(
-            answer,
-            b"answer\tsingular",
-            b"w",
-            c,
-            bill,
-            polynomial,
-            vector,
-        ),
-        Verdict::Refused(_) => 0,
+        Verdict::Solved(c) => put_answer(answer, b"answer\tsolved", b"x", c, found),
+        Verdict::Singular(c) => put_answer(answer, b"answer\tsingular", b"w", c, found),
     }
 }
 
-// The answer's text of the system in the arrays.
+// The answer's text of a system. The solver never refuses one that the reader took.
 fn put_solved(
     p: u32,
-    n: usize,
-    count: usize,
-    answer: &mut [u8],
-    starts: &[u32],
-    columns: &[u32],
-    values: &[u32],
+    a: &Matrix,
     scales: &[u32],
     right: &[u32],
-    vector: &mut [u32],
-    polynomial: &mut [u32],
-    bill: &mut [u32],
-    work: &mut [u32],
-) -> usize
-    requires loaded { Loaded p n count starts.now columns.now values.now scales.now right.now }
-    requires vector_len { (length vector.old ≡ 128) × (length polynomial.old ≡ 129) × (length bill.old ≡ 384) × (length work.old ≡ 2064) }
-    ensures { Wrote answer.old 0 (loaded_text p n count starts.now columns.now values.now scales.now right.now) result answer.new }
+    answer: &mut [u8],
+) -> Result<usize, Refusal>
+    requires { Taken p (matrix_of a.now) scales.now right.now }
+    ensures taken { refused_by result ≡ 0 }
+    ensures text { Wrote answer.old 0 (run_text p (matrix_of a.now) scales.now right.now) (answered result) answer.new }
 {
-    let verdict = run(
-        p, n, count, starts, columns, values, scales, right, vector, polynomial, bill, work,
-    );
-    let z: usize = 0;
-    let m = n + 1;
-    put_verdict(answer, verdict, bill, &polynomial[z..m], &vector[z..n])
+    let mut vector = [0u32; 128];
+    let mut polynomial = [0u32; 129];
+    let mut bill = [0u32; 384];
+    let mut work = [0u32; 2064];
+    let m = a.starts.len();
+    let n = m - 1;
+    let verdict = solve(
+        Field { p },
+        a,
+        scales,
+        right,
+        &[],
+        0,
+        &mut vector[..n],
+        &mut polynomial[..m],
+        &mut bill,
+        &mut work,
+    )?;
+    let found = Found {
+        bill: &bill,
+        polynomial: &polynomial[..m],
+        vector: &vector[..n],
+    };
+    Ok(put_verdict(answer, verdict, &found))
 }
 
 // The text call, on arrays for 128 rows and 1,024 entries.
-pub(crate) fn answer_text(
-    text: &[u8],
-    answer: &mut [u8],
-    starts: &mut [u32],
-    columns: &mut [u32],
-    values: &mut [u32],
-    scales: &mut [u32],
-    right: &mut [u32],
-    vector: &mut [u32],
-    polynomial: &mut [u32],
-    bill: &mut [u32],
-    work: &mut [u32],
-) -> u64
-    requires starts_len { (length starts.old ≡ 129) × (length columns.old ≡ 1024) × (length values.old ≡ 1024) × (length scales.old ≡ 128) × (length right.old ≡ 128) }
-    requires vector_len { (length vector.old ≡ 128) × (length polynomial.old ≡ 129) × (length bill.old ≡ 384) × (length work.old ≡ 2064) }
-    ensures { Called text.now answer.old result answer.new }
+pub(crate) fn answer_text(text: &[u8], answer: &mut [u8]) -> Result<usize, Refusal>
+    ensures refused { refused_by result ≡ text_refusal text.now (length answer.old) }
+    ensures called { Called text.now answer.old (answered result) answer.new }
 {
     let long = text.len() > 26624;
     if long {
-        return 1;
+        return Err(Refusal::TextLength);
     }
-    let reading = read(text, starts, columns, values, scales, right);
-    match reading {
-        Reading::Refused(number) => number as u64,
-        Reading::Read(p, n, count) => {
-            let short = answer.len() < 7168;
-            if short {
-                return 11;
-            }
-            put_solved(
-                p,
-                wide(n),
-                wide(count),
-                answer,
-                starts,
-                columns,
-                values,
-                scales,
-                right,
-                vector,
-                polynomial,
-                bill,
-                work,
-            ) as u64
-        }
+    let mut starts = [0u32; 129];
+    let mut columns = [0u32; 1024];
+    let mut values = [0u32; 1024];
+    let mut scales = [0u32; 128];
+    let mut right = [0u32; 128];
+    let header = read(
+        text,
+        &mut starts,
+        &mut columns,
+        &mut values,
+        &mut scales,
+        &mut right,
+    )?;
+    let short = answer.len() < 7168;
+    if short {
+        return Err(Refusal::Room);
     }
+    let n = header.size as usize;
+    let m = n + 1;
+    let count = header.entries as usize;
+    let a = Matrix {
+        starts: &starts[..m],
+        columns: &columns[..count],
+        values: &values[..count],
+    };
+    put_solved(header.modulus, &a, &scales[..n], &right[..n], answer)
 }

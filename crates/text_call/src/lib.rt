@@ -9,39 +9,32 @@ mod answer;
 mod call;
 
 ghost use Rattle.std.specs.Prelude.{◌≤◌, length};
+ghost use Rattle.meaning.specs.Answer.{refused_text};
+ghost use Rattle.refusal.specs.Number.{number_of};
+ghost use Rattle.line_writer.specs.Written.{Wrote};
 ghost use Rattle.text_call.specs.Checks.{Called};
 ghost use Rattle.text_call.specs.Program.{Shown, Printed};
 
 use call::answer_text;
 use line_writer::put_line;
+use refusal::Refusal;
 
-// The number is the answer's length, which is always above 18, or the refusal's. The arrays take 128 rows and 1,024 entries.
+// The number is the answer's length, which is always above 18, or the refusal's.
 #[unsafe(no_mangle)]
 pub extern "C" fn filzeur_text(text: &[u8], answer: &mut [u8]) -> u64
     ensures { Called text.now answer.old result answer.new }
 {
-    let mut starts = [0u32; 129];
-    let mut columns = [0u32; 1024];
-    let mut values = [0u32; 1024];
-    let mut scales = [0u32; 128];
-    let mut right = [0u32; 128];
-    let mut vector = [0u32; 128];
-    let mut polynomial = [0u32; 129];
-    let mut bill = [0u32; 384];
-    let mut work = [0u32; 2064];
-    answer_text(
-        text,
-        answer,
-        &mut starts,
-        &mut columns,
-        &mut values,
-        &mut scales,
-        &mut right,
-        &mut vector,
-        &mut polynomial,
-        &mut bill,
-        &mut work,
-    )
+    match answer_text(text, answer) {
+        Ok(length) => length as u64,
+        Err(refusal) => u64::from(u32::from(refusal)),
+    }
+}
+
+// The line of a refusal.
+fn put_refused(out: &mut [u8], refusal: Refusal) -> usize
+    ensures { Wrote out.old 0 (refused_text (number_of refusal)) result out.new }
+{
+    put_line(out, 0, b"refused", &[u64::from(u32::from(refusal))])
 }
 
 // What the program prints for a text, at the front of the slice: the answer's text, or `refused` and the number.
@@ -49,12 +42,9 @@ fn show(text: &[u8], out: &mut [u8]) -> usize
     requires { 7168 ≤ length out.old }
     ensures { Shown text.now out.old result out.new }
 {
-    let number = filzeur_text(text, out);
-    let answered = number > 18;
-    if answered {
-        number as usize
-    } else {
-        put_line(out, 0, b"refused", &[number])
+    match answer_text(text, out) {
+        Ok(length) => length,
+        Err(refusal) => put_refused(out, refusal),
     }
 }
 
@@ -73,6 +63,5 @@ pub fn output(buffer: &[u8], read: usize, out: &mut [u8]) -> usize
     if out.len() < 7168 {
         return 0;
     }
-    let z: usize = 0;
-    show(&buffer[z..read], out)
+    show(&buffer[..read], out)
 }

@@ -5,7 +5,7 @@
 #![tactic(auto)]
 
 use std::io;
-use test_io::{at, place, print, text_part};
+use test_io::{FREE_BYTE, LENT_TEXT, MEMORY, TEXT, at, filled, front, part, place, print};
 
 // Makes the call; the answer's length.
 fn answered(
@@ -26,25 +26,19 @@ fn answered(
 }
 
 fn call(rt: &impl Print, memory: &[u8], head: &[u32]) -> io::Result<()> {
-    let text = text_part(memory, place(head, 2), place(head, 3));
-    let buffer = text_part(memory, place(head, 2), place(head, 4));
+    let text = part(memory, place(head, 2), place(head, 3));
+    let buffer = part(memory, place(head, 2), place(head, 4));
     let room = place(head, 1);
-    let mut answer = test_io::lent_text();
-    let length = answered(
-        rt,
-        at(head, 0),
-        text,
-        buffer,
-        test_io::text_front(&mut answer, room),
-    )?;
+    let mut answer: [u8; LENT_TEXT] = filled(FREE_BYTE);
+    let length = answered(rt, at(head, 0), text, buffer, front(&mut answer, room))?;
     test_io::show_text(rt, &answer, length, room)?;
     test_io::end_line(rt)?;
-    rt.write_all(text_part(&answer, 0, length))
+    rt.write_all(part(&answer, 0, length))
 }
 
 fn main(rt: HostRuntime) -> io::Result<()> {
-    let mut text = test_io::text_memory();
-    let mut room = test_io::memory();
+    let mut text: [u8; TEXT] = filled(0);
+    let mut room: [u32; MEMORY] = filled(0);
     test_io::read_text(&mut rt.stdin(), &mut text)?;
     let memory: &[u8] = &text;
     test_io::numbers_of(memory, &mut room);

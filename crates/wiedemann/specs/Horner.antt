@@ -74,11 +74,12 @@ step_scaled p A X c x v =
 
 -- what the code leaves of a vector that it scales
 pub scaled_vector : {m : Modulus} {n : ℕ} {X v : List ℕ} → Modular m → Scales m.p n X → Vector m.p n v → scaled_by m X v ≡ diagonal m.p X v
-scaled_vector {m} {n} {X} {v} h x w = scale_of m X v h (number x.number) x.below (λ j l. w.below j (omega (arith, l, w.places)))
+scaled_vector {m} {n} {X} {v} h x w =
+    scale_of m X v h (number (ℕ_discrete (length X) 0)) x.below (λ j l. w.below j (omega (arith, l, w.places)))
   where
-    number : (length X ≡ 0) ⊎ (length X ≡ n) → (length X ≡ 0) ⊎ (length X ≡ length v)
-    number (inl z) = inl z
-    number (inr e) = inr (e ∙ sym w.places)
+    number : Dec (length X ≡ 0) → (length X ≡ 0) ⊎ (length X ≡ length v)
+    number (yes none) = inl none
+    number (no some) = inr (x.number some ∙ sym w.places)
 
 -- ---- sums
 

@@ -1,4 +1,5 @@
 -- what the contracts cite
+pub mod Operator
 pub mod Region
 pub mod Horner
 pub mod Offered

@@ -1,10 +1,9 @@
 -- Offered vectors (src/offered.rt): two tests place by place.
 --     equal_all, zero_all      lists are equal, or zero, in every place
 --     takes_all                A takes x to b, row after row; takes_tested: a test of that
---     zero_tested              a test of zeros in every place
-use Rattle.std.specs.Prelude.{◌≡◌, Bool, true, List, ℕ, ◌-◌, ◌<◌, eqb, length, take, drop}
-use Rattle.std.proofs.Common.{sym, ap, ◌∙◌, subst, arith, ext_get_or, eqb-true, eq-eqb}
+use Rattle.std.specs.Prelude.{◌-◌, take, drop, ◌≡◌, Bool, true, List, ℕ, ◌<◌, eqb, length}
 use Rattle.std.proofs.Math.Nat.{sub_self}
+use Rattle.std.proofs.Common.{sym, ap, ◌∙◌, subst, arith, ext_get_or, eqb-true, eq-eqb}
 use Rattle.meaning.specs.List.{at, all, equal, is_zero}
 use Rattle.meaning.specs.Matrix.{Matrix, size, product}
 use Rattle.meaning.specs.Solver.{takes}

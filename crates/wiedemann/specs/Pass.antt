@@ -11,8 +11,8 @@
 --     Passes               what a call answers and leaves: the meaning's `pass` of what was held, on AX
 --     shortened_factors    F and f are what the product asks
 --     made                 with F × f: a pass
---     makes_passed, makes_modulus      .. its record counted together; the modulus by its other name
-use Rattle.std.specs.Prelude.{◌≡◌, ◌≢◌, true, false, ℕ, ◌+◌, ◌-◌, ◌*◌, ◌≤◌, ◌<◌, length, take, get_or}
+--     makes_passed      .. its record counted together
+use Rattle.std.specs.Prelude.{Result, Ok, Err, ◌≡◌, ◌≢◌, true, false, ℕ, ◌+◌, ◌-◌, ◌*◌, ◌≤◌, ◌<◌, length, take, get_or}
 use Rattle.std.proofs.Math.Path.{refl, sym, ap₂}
 use Rattle.std.proofs.Common.{ap, ◌∙◌, subst, zero-add, arith, take-take}
 use mathlib.Core.List.{List, [], ◌∷◌, ◌++◌}
@@ -26,8 +26,8 @@ use Rattle.laws.specs.Solver.{length_terms, pass_whole, pass_early, pass_on, pas
 use Rattle.checks.specs.Valid.{Vector}
 use Rattle.checks.specs.Pass.{residual_at, pass_refusal}
 use Rattle.wiedemann.specs.declared.pass.Pass.{Pass as CodePass}
-use Rattle.wiedemann.specs.declared.pass.Passed.{Passed}
-use Rattle.wiedemann.specs.declared.pass.Passed.TheVariants.{Made, Refused}
+use Rattle.refusal.specs.declared.Refusal.{Refusal}
+use Rattle.refusal.specs.Number.{number_of}
 use Rattle.laws.specs.Part.{part, length_part, at_part}
 use Rattle.laws.specs.Lent.{lent, length_lent, take_lent, inner_lent, part_at, part_of_part, same_take, same_drop}
 use Rattle.wiedemann.specs.Turns.{Sequenced, Generated, Applied}
@@ -177,11 +177,11 @@ pub record Makes (p : ℕ) (A : Matrix) (w : ℕ) (u : List ℕ) (D : ℕ) (W : 
   pub by_entry : q.multiplied ≡ multiplied q.applications A
 
 -- "a refusal returns its number and no other answer .. and every lent slice keeps its contents"
-abbrev pub Answers : ℕ → Matrix → ℕ → List ℕ → ℕ → List ℕ → ℕ → Passed → List ℕ → Type 0
-Answers p A w u D W number (Made q) W' = (number ≡ 0) × Makes p A w u D W q W'
-Answers p A w u D W number (Refused k) W' = (number ≡ k) × (k ≢ 0) × (W' ≡ W)
+abbrev pub Answers : ℕ → Matrix → ℕ → List ℕ → ℕ → List ℕ → ℕ → Result CodePass Refusal → List ℕ → Type 0
+Answers p A w u D W number (Ok q) W' = (number ≡ 0) × Makes p A w u D W q W'
+Answers p A w u D W number (Err r) W' = (number ≡ number_of r) × (number_of r ≢ 0) × (W' ≡ W)
 
-abbrev pub Passes : ℕ → Matrix → List ℕ → List ℕ → ℕ → ℕ → ℕ → List ℕ → Passed → List ℕ → Type 0
+abbrev pub Passes : ℕ → Matrix → List ℕ → List ℕ → ℕ → ℕ → ℕ → List ℕ → Result CodePass Refusal → List ℕ → Type 0
 Passes p A X words w j D W r W' = Answers p (scaled p A X) w (get_or (projections p (size A) words) j []) D W (pass_refusal p A X words D W) r W'
 
 same_held : {r r' F F' : List ℕ} {D D' : ℕ} {qs qs' : List Pass} → r ≡ r' → F ≡ F' → D ≡ D' → qs ≡ qs'

@@ -5,15 +5,16 @@
 --     Turning                what a product from one region into another asks
 --     Prepared               the iterate times X, where the product will read it: copied_part, prepared_none, prepared_other, prepared_first; prepared_turning
 --     Advanced               what a product leaves: Horner's step with r; advanced_scaled: with AX, of an iterate that was made ready
---     regions, advanced, advanced_at      the step within the part that r and its iterates have is that
+--     advanced, advanced_at      the step within the part that r and its iterates have is that
 --     Iterated               the terms of a sequence up to i, and Aⁱr in a region: iterated_none, iterated_more, iterated_from; Sequenced: all of
 --                            them, iterated_all; iterated_kept: what stands behind the terms is not asked
 --     Applying               Horner's rule down to coefficient i: applying_none, applying_more; Applied: all of it, r replaced, applied_all
---     Generated              the shortest recurrence of a part: generated
+--     Generated              the shortest recurrence of a part: generated; found_always: terms that no check turns down have one
 --     vector_power, vector_terms, apply_unit      Aⁱv and the terms have elements below p; 1(A)v is v
-use Rattle.std.specs.Prelude.{◌≡◌, refl, ◌≢◌, ◌⊎◌, true, cond, List, [], ◌∷◌, ℕ, zero, suc, ◌+◌, ◌-◌, ◌*◌, ◌%◌, ◌≤◌, ◌<◌, length, take, drop, set, eqb}
+use Rattle.std.specs.Prelude.{◌≡◌, refl, ◌≢◌, ◌⊎◌, true, cond, List, [], ◌∷◌, Result, Ok, Err, ℕ, zero, suc, ◌+◌, ◌-◌, ◌*◌, ◌%◌, ◌≤◌, ◌<◌, length, take, drop, set, eqb}
 use Rattle.std.proofs.Common.{sym, ap, ap₂, ◌∙◌, subst, inl, inr, zero-add, add-zero, one-mul, mod-eq_of_lt, eq-or-lt_of_le, add-one, arith, length-set, get_or-set_same, get_or-set_other, get_or-take, take-take, eq-eqb, ne_eqb}
 use Rattle.std.proofs.Math.Decide.{ℕ_discrete}
+use Rattle.std.specs.Result.{result_unwrap_or}
 use Rattle.std.proofs.lemmas.List.{take-set-le}
 use Rattle.meaning.specs.List.{at, sum, padded}
 use Rattle.meaning.specs.Field.{times, is_modulus}
@@ -28,11 +29,12 @@ use Rattle.bridge.specs.Recurrence.{is_shortest}
 use Rattle.checks.specs.Valid.{Valid, Vector}
 use Rattle.laws.specs.Written.{Written}
 use Rattle.laws.specs.Part.{part, Apart, length_part, at_part, part_ext, written_part}
-use Rattle.wiedemann.specs.Region.{Regions}
 use Rattle.laws.specs.Part as region
+use Rattle.wiedemann.specs.Region.{Regions}
 use Rattle.wiedemann.specs.Horner.{step, step_at, table_step, step_product, step_scaled, vector_diagonal, power_zero, power_suc, apply_one, apply_cons, vector_product}
 use Rattle.checks.specs.Valid.{vector_table}
-use Rattle.recurrence.specs.Recurrence.{HoldsGenerator}
+use Rattle.refusal.specs.declared.Refusal.{Refusal}
+use Rattle.recurrence.specs.Recurrence.{HoldsGenerator, terms_refusal, Generates}
 use Rattle.laws.specs.Lent.{part_at, part_cons, part_of_part, lent, length_lent, take_lent, part_lent, inner_lent, written_lent, same_take, same_after, written_take, written_drop, written_inner, take_padded}
 
 pub data Seat (n a : ℕ) : Type 0 where
@@ -244,24 +246,6 @@ advanced_scaled {p} {A} {X} {i} {c} {place} {to} {W} {W₁} {W₂} h a =
     }
 
 -- r and its iterates are lent, as a part of m = 3n places
-pub regions : {p n from to : ℕ} {W : List ℕ} (m : ℕ) → m ≡ 3 * n → Turning p n from W → Other n from to → Regions p n 0 from to (part 0 m W)
-regions {p} {n} {from} {to} {W} m e t o =
-    record {
-      origin_fits = omega (arith, long, e);
-      source_fits = omega (arith, long, e, seat_low t.seat);
-      target_fits = omega (arith, long, e, o.low);
-      origin_apart = region.after (omega (arith, o.high));
-      source_apart = o.apart;
-      elements =
-          λ i l.
-          subst (λ x. x < p)
-          (at_part from n W i l ∙ sym (at_part 0 m W (from + i) (omega (arith, l, e, seat_low t.seat)) ∙ ap (at W) (zero-add (from + i))))
-          (t.elements.below i l);
-    }
-  where
-    long : length (part 0 m W) ≡ m
-    long = length_part 0 m W (omega (arith, t.room, e))
-
 pub advanced : {p : ℕ} {A : Matrix} {c from to : ℕ} {W : List ℕ} (m : ℕ) {Y : List ℕ} → m ≡ 3 * size A → Turning p (size A) from W
     → Other (size A) from to → Written (part 0 m W) to (size A) (step_at p A c (part 0 (size A) (part 0 m W)) (part from (size A) (part 0 m W))) Y
     → Advanced p A c W from (lent W 0 m Y) to
@@ -516,6 +500,11 @@ pub record Generated (p : ℕ) (W : List ℕ) (from count : ℕ) (W' : List ℕ)
   pub f : part (from + (count + 2)) (t + 1) W' ≡ generator p (part from count W)
   pub monic : at W' (from + (count + 2) + t) ≡ 1
 
+pub found_always : {p count : ℕ} {W W' : List ℕ} (r : Result ℕ Refusal) → terms_refusal p count W ≡ 0 → Generates p count W r W'
+    → HoldsGenerator p count W W' (result_unwrap_or r 0)
+found_always (Ok t) z g = g.1
+found_always (Err r) z g = absurd (g.1 (sym g.0 ∙ z))
+
 pub generated : (p : ℕ) (W : List ℕ) (from count m : ℕ) (Y : List ℕ) (t : ℕ) → is_modulus p ≡ true → m ≡ 4 * count + 8 → from + m ≤ length W
     → length Y ≡ m → HoldsGenerator p count (part from m W) Y t → Generated p W from count (lent W from m Y) t
 unfolding degree
@@ -560,3 +549,22 @@ generated p W from count m Y t modulus e l same found =
       where
         long : length (generator p s) ≡ t + 1
         long = length_generator p s ∙ ap (λ k. k + 1) (sym answer)
+
+-- r and its iterates are lent, as a part of m = 3n places
+pub regions : {p n from to : ℕ} {W : List ℕ} (m : ℕ) → m ≡ 3 * n → Turning p n from W → Other n from to → Regions p n 0 from to (part 0 m W)
+regions {p} {n} {from} {to} {W} m e t o =
+    record {
+      origin_fits = omega (arith, long, e);
+      source_fits = omega (arith, long, e, seat_low t.seat);
+      target_fits = omega (arith, long, e, o.low);
+      origin_apart = region.after (omega (arith, o.high));
+      source_apart = o.apart;
+      elements =
+          λ i l.
+          subst (λ x. x < p)
+          (at_part from n W i l ∙ sym (at_part 0 m W (from + i) (omega (arith, l, e, seat_low t.seat)) ∙ ap (at W) (zero-add (from + i))))
+          (t.elements.below i l);
+    }
+  where
+    long : length (part 0 m W) ≡ m
+    long = length_part 0 m W (omega (arith, t.room, e))

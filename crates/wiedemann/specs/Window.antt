@@ -6,6 +6,7 @@
 --     Follows                the steps' register after r terms, which stand in the slice, and the zeros
 --     Begun                  before the first: begun_lent, begun_never
 --     ToStep, StepMade       what the step for r asks and leaves: step_never, step_lent
+--     never_refused          a call of the steps whose refusal would have the number 0
 --     ToHear, Hears          .. a term and its step: to_step, hears
 --     Listening              what is known after some terms: those of the sequence, the iterate, and what follows from them:
 --                            listening_first, listening_to_hear, listening_next, listening_from
@@ -16,10 +17,11 @@
 --     Finished, finished     the end of a pass with all terms
 --     Tried                  the test: copied_one, copied_part, copied_vector, tried_zero, tried_again
 -- and, in the slice that begins with the test's places, of what was heard in its part from r on:
+--     Returned               .. which was lent for it, and came back: returned_length
 --     heard_residual, heard_generator, heard_one, heard_degree, heard_low      r, f and L
 --     heard_again, heard_room, heard_vector      what the rest of the pass asks, where that part is as it was
 --     finished_shortened, window_whole, window_on, window_early                the pass as it ends: with all terms, without a test or with one that failed; early
-use Rattle.std.specs.Prelude.{◌≡◌, refl, ◌≢◌, ◌⊎◌, Bool, true, false, cond, not, ◌&&◌, eqb, ltb, leb, take, drop, set}
+use Rattle.std.specs.Prelude.{Result, Ok, Err, IsOk, ◌≡◌, refl, ◌≢◌, ◌⊎◌, Bool, true, false, cond, not, ◌&&◌, eqb, ltb, leb, take, drop, set}
 use Rattle.std.proofs.Math.Path.{sym, ap, ap₂}
 use Rattle.std.proofs.Common.{◌∙◌, subst, inl, inr, true≢false, add-zero, mod-lt, eq-or-lt_of_le, arith, length-set, get_or-take, get_or-drop, get_or-set_same, get_or-set_other, length-take-le, take-take, take_all, eqb-true, eq-eqb, ne_eqb, leb-true, le-leb, lt-ltb}
 use Rattle.std.proofs.Math.Bool.{and-true}
@@ -50,11 +52,10 @@ use Rattle.checks.specs.Valid.{Valid, Vector}
 use Rattle.checks.specs.Products.{products_with, added, products_next}
 use Rattle.checks.specs.declared.Products.{Products}
 use Rattle.recurrence.specs.declared.steps.Register.{Register}
-use Rattle.recurrence.specs.declared.Stepped.{Stepped}
-use Rattle.recurrence.specs.declared.Stepped.TheVariants.{Made}
+use Rattle.refusal.specs.declared.Refusal.{Refusal}
 use Rattle.recurrence.specs.Recurrence.{room_checks, room_to, Reversed}
 use Rattle.recurrence.specs.Steps.{FollowsSteps, times_power, represented, Places, Laid, MakesStep}
-use Rattle.recurrence.specs.OneStep.{step_refusal, Starts, StepsOn, step_taken}
+use Rattle.recurrence.specs.OneStep.{step_refusal, Answers, Started, Starts, StepsOn, step_taken}
 use Rattle.wiedemann.specs.declared.window.Heard.{Heard}
 use Rattle.wiedemann.specs.declared.pass.Pass.{Pass as CodePass}
 use Rattle.wiedemann.specs.Turns.{Seat, origin, region_at, region_first, Turning, Advanced, Iterated, iterated_none, iterated_more, iterated_kept, iterated_from, vector_power, Leading, Applied}
@@ -171,98 +172,118 @@ pub record StepMade (p n left r : ℕ) (W : List ℕ) (c' : Register) (W' : List
   pub same_length : length W' ≡ length W
   pub front : take (3 * n + (2 * left + 2)) W' ≡ take (3 * n + (2 * left + 2)) W
 
--- the part of m places that is lent to the steps
-module _ (p n left : ℕ) (W : List ℕ) (m : ℕ) (e : m ≡ 8 * left + 8) (fits : 3 * n + m ≤ length W) where
+-- what a call of the steps answers
+answered : (number : ℕ) (Left : Register → Type 0) (W : List ℕ) {a : Result Register Refusal} (W' : List ℕ) {c : Register} → a ≡ Ok c → Answers number Left W a W' → Left c
+answered number Left W W' is h = (subst (λ x. Answers number Left W x W') is h).1
+
+pub never_refused : (number : ℕ) (Left : Register → Type 0) (W : List ℕ) (a : Result Register Refusal) (W' : List ℕ) → Answers number Left W a W' → number ≡ 0 → IsOk a
+never_refused number Left W (Ok c) W' h z = refl
+never_refused number Left W (Err r) W' h z = absurd (h.1 (sym h.0 ∙ z))
+
+-- the part that is lent to the steps, of as many places as the code takes: its size, and that it fits
+module _ (p n left : ℕ) (W : List ℕ) (room : Room n left W) where
+  abbrev lent_m : ℕ
+  lent_m = 3 * n + (8 * left + 8) - 3 * n
+
+  lent_size : 3 * n + (8 * left + 8) - 3 * n ≡ 8 * left + 8
+  lent_size = omega arith
+
+  lent_fits : 3 * n + (3 * n + (8 * left + 8) - 3 * n) ≤ length W
+  lent_fits = omega (arith, room.room)
+
   abbrev T : List ℕ
-  T = part (3 * n) m W
+  T = part (3 * n) lent_m W
 
-  size_T : length T ≡ m
-  size_T = length_part (3 * n) m W fits
+  size_T : length T ≡ lent_m
+  size_T = length_part (3 * n) lent_m W lent_fits
 
-  first_of : (r : ℕ) → r ≤ m → take r T ≡ part (3 * n) r W
-  first_of r l = take-take r m (drop (3 * n) W) l
+  first_of : (r : ℕ) → r ≤ lent_m → take r T ≡ part (3 * n) r W
+  first_of r l = take-take r lent_m (drop (3 * n) W) l
 
   whole : part (3 * n) (8 * left + 8) W ≡ T
-  whole = part_at W (3 * n) (8 * left + 8) (3 * n) m refl (sym e)
+  whole = part_at W (3 * n) (8 * left + 8) (3 * n) lent_m refl (sym lent_size)
 
-  module _ (Y : List ℕ) (same : length Y ≡ m) where
+  module _ (Y : List ℕ) (kept : length Y ≡ length (part (3 * n) (3 * n + (8 * left + 8) - 3 * n) W)) where
+    lent_same : length Y ≡ 3 * n + (8 * left + 8) - 3 * n
+    lent_same = kept ∙ size_T
+
     abbrev W' : List ℕ
-    W' = lent W (3 * n) m Y
+    W' = lent W (3 * n) lent_m Y
 
     back : part (3 * n) (8 * left + 8) W' ≡ Y
-    back = part_at W' (3 * n) (8 * left + 8) (3 * n) m refl (sym e) ∙ part_lent W (3 * n) m Y fits same
+    back = part_at W' (3 * n) (8 * left + 8) (3 * n) lent_m refl (sym lent_size) ∙ part_lent W (3 * n) lent_m Y lent_fits lent_same
 
     -- a leading part of it that stayed
-    front_of : (b : ℕ) → b ≤ m → take b Y ≡ take b T → take (3 * n + b) W' ≡ take (3 * n + b) W
+    front_of : (b : ℕ) → b ≤ lent_m → take b Y ≡ take b T → take (3 * n + b) W' ≡ take (3 * n + b) W
     front_of b l h =
-        take_ext (3 * n + b) W W' (omega (arith, l, fits)) (length_lent W (3 * n) m Y fits same) (λ k g. place k g (dec_lt k (3 * n)))
+        take_ext (3 * n + b) W W' (omega (arith, l, lent_fits)) (length_lent W (3 * n) lent_m Y lent_fits lent_same) (λ k g. place k g (dec_lt k (3 * n)))
       where
         place : (k : ℕ) → k < 3 * n + b → Dec (k < 3 * n) → at W' k ≡ at W k
         place k g (yes a) =
-            sym (get_or-take (3 * n) W' k 0 a) ∙ ap (λ x. at x k) (take_lent W (3 * n) m Y fits same) ∙ get_or-take (3 * n) W k 0 a
+            sym (get_or-take (3 * n) W' k 0 a) ∙ ap (λ x. at x k) (take_lent W (3 * n) lent_m Y lent_fits lent_same) ∙ get_or-take (3 * n) W k 0 a
         place k g (no a) =
             let i = k - 3 * n in
             let there : 3 * n + i ≡ k = omega arith in
             let low : i < b = omega arith in
-            ap (at W') (sym there) ∙ sym (at_part (3 * n) m W' i (omega (arith, low, l)))
-            ∙ ap (λ x. at x i) (part_lent W (3 * n) m Y fits same) ∙ sym (get_or-take b Y i 0 low) ∙ ap (λ x. at x i) h
-            ∙ get_or-take b T i 0 low ∙ at_part (3 * n) m W i (omega (arith, low, l)) ∙ ap (at W) there
+            ap (at W') (sym there) ∙ sym (at_part (3 * n) lent_m W' i (omega (arith, low, l)))
+            ∙ ap (λ x. at x i) (part_lent W (3 * n) lent_m Y lent_fits lent_same) ∙ sym (get_or-take b Y i 0 low) ∙ ap (λ x. at x i) h
+            ∙ get_or-take b T i 0 low ∙ at_part (3 * n) lent_m W i (omega (arith, low, l)) ∙ ap (at W) there
 
-    pub begun_lent : {c : Register} {a : Stepped} → Starts p (2 * left) (part (3 * n) m W) a Y → a ≡ Made c → Begun p n left W c (lent W (3 * n) m Y)
+    pub begun_lent : {c : Register} {a : Result Register Refusal} → Starts p (2 * left) (part (3 * n) (3 * n + (8 * left + 8) - 3 * n) W) a Y → a ≡ Ok c → Begun p n left W c (lent W (3 * n) (3 * n + (8 * left + 8) - 3 * n) Y)
     begun_lent {c} h is =
-        let made = h.made c is in
+        let made = answered (first (room_checks p (2 * left) T)) (Started p (2 * left) T Y) T Y is h in
         record {
           follows =
               record {
-                steps = subst (λ x. FollowsSteps p [] 0 c.d (represented (2 * left) x c)) (sym back) made.1.follows;
-                laid = made.1.laid;
+                steps = subst (λ x. FollowsSteps p [] 0 c.d (represented (2 * left) x c)) (sym back) made.follows;
+                laid = made.laid;
                 zeros = zeros_none_yet p [];
               };
-          same_length = length_lent W (3 * n) m Y fits same;
-          front = take_lent W (3 * n) m Y fits same;
+          same_length = length_lent W (3 * n) lent_m Y lent_fits lent_same;
+          front = take_lent W (3 * n) lent_m Y lent_fits lent_same;
         }
 
-    pub step_lent : {r : ℕ} {c c' : Register} {a : Stepped} → ToStep p n left r W c → StepsOn p (2 * left) r (part (3 * n) m W) c a Y → a ≡ Made c'
-        → StepMade p n left r W c' (lent W (3 * n) m Y)
+    pub step_lent : {r : ℕ} {c c' : Register} {a : Result Register Refusal} → ToStep p n left r W c → StepsOn p (2 * left) r (part (3 * n) (3 * n + (8 * left + 8) - 3 * n) W) c a Y → a ≡ Ok c'
+        → StepMade p n left r W c' (lent W (3 * n) (3 * n + (8 * left + 8) - 3 * n) Y)
     step_lent {r} {c} {c'} ask h is =
         record {
           steps =
               subst (λ x. FollowsSteps p (part (3 * n) r W) r c'.d (represented (2 * left) x c')) (sym back)
-              (subst (λ x. FollowsSteps p x r c'.d (represented (2 * left) Y c')) (first_of r (omega (arith, ask.high, e)))
+              (subst (λ x. FollowsSteps p x r c'.d (represented (2 * left) Y c')) (first_of r (omega (arith, ask.high, lent_size)))
               (made.follows
-              (subst (λ x. FollowsSteps p x (r - 1) c.d (represented (2 * left) T c)) (sym (first_of (r - 1) (omega (arith, ask.high, e))))
+              (subst (λ x. FollowsSteps p x (r - 1) c.d (represented (2 * left) T c)) (sym (first_of (r - 1) (omega (arith, ask.high, lent_size))))
               (subst (λ x. FollowsSteps p (part (3 * n) (r - 1) W) (r - 1) c.d (represented (2 * left) x c)) whole ask.steps))));
           laid = made.sound.laid;
-          same_length = length_lent W (3 * n) m Y fits same;
-          front = front_of (2 * left + 2) (omega (arith, e)) made.stay.same_front;
+          same_length = length_lent W (3 * n) lent_m Y lent_fits lent_same;
+          front = front_of (2 * left + 2) (omega (arith, lent_size)) made.stay.same_front;
         }
       where
         made : MakesStep p (2 * left) r T c Y c'
-        made = (h.made c' is).1
+        made = answered (step_refusal p (2 * left) r T c) (MakesStep p (2 * left) r T c Y) T Y is h
 
   -- a start with room is never refused
-  pub begun_never : is_modulus p ≡ true → left ≤ 4096 → first (room_checks p (2 * left) (part (3 * n) m W)) ≡ 0
-  begun_never modulus low =
+  pub begun_never : is_modulus p ≡ true → first (room_checks p (2 * left) (part (3 * n) (3 * n + (8 * left + 8) - 3 * n) W)) ≡ 0
+  begun_never modulus =
       room_to
-      (record { two = (is_modulus_Prime p modulus).two_le; small = is_modulus_le p modulus; few = omega (arith, low); room = omega (arith, size_T, e) })
+      (record { two = (is_modulus_Prime p modulus).two_le; small = is_modulus_le p modulus; few = omega (arith, room.low); room = omega (arith, size_T, lent_size) })
 
   -- the steps' own state is never refused
-  pub step_never : {r : ℕ} {c : Register} → is_modulus p ≡ true → left ≤ 4096 → ToStep p n left r W c → step_refusal p (2 * left) r (part (3 * n) m W) c ≡ 0
-  step_never {r} {c} modulus low ask =
+  pub step_never : {r : ℕ} {c : Register} → is_modulus p ≡ true → ToStep p n left r W c → step_refusal p (2 * left) r (part (3 * n) (3 * n + (8 * left + 8) - 3 * n) W) c ≡ 0
+  step_never {r} {c} modulus ask =
       step_taken (is_modulus_Prime p modulus) ask.low
       (record {
         ready = record {
           two = (is_modulus_Prime p modulus).two_le;
           small = is_modulus_le p modulus;
-          few = omega (arith, ask.high, low);
-          room = omega (arith, ask.high, size_T, e);
-          elements = λ i l. subst (λ x. x < p) (at_part (3 * n) r W i l ∙ sym (at_part (3 * n) m W i (omega (arith, l, ask.high, e)))) (ask.terms.below i l);
+          few = omega (arith, ask.high, room.low);
+          room = omega (arith, ask.high, size_T, lent_size);
+          elements = λ i l. subst (λ x. x < p) (at_part (3 * n) r W i l ∙ sym (at_part (3 * n) lent_m W i (omega (arith, l, ask.high, lent_size)))) (ask.terms.below i l);
         };
         high = ask.high;
-        few = omega (arith, low);
-        room = omega (arith, size_T, e);
+        few = omega (arith, room.low);
+        room = omega (arith, size_T, lent_size);
       })
-      (subst (λ x. FollowsSteps p x (r - 1) c.d (represented (2 * left) T c)) (sym (first_of (r - 1) (omega (arith, ask.high, e))))
+      (subst (λ x. FollowsSteps p x (r - 1) c.d (represented (2 * left) T c)) (sym (first_of (r - 1) (omega (arith, ask.high, lent_size))))
       (subst (λ x. FollowsSteps p (part (3 * n) (r - 1) W) (r - 1) c.d (represented (2 * left) x c)) whole ask.steps))
       ask.laid
 
@@ -802,26 +823,26 @@ module _ (p : ℕ) (A : Matrix) (left L : ℕ) {W W₁ W₂ W₃ : List ℕ} (lo
   long₃ = a.same_length ∙ turn.same_length ∙ copied.same_length
 
   -- r becomes it
-  pub tried_zero : {W₄ : List ℕ} → is_zero (part 0 (size A) W₃) ≡ true → Written W₃ (3 * size A) (size A) (λ i. at W₃ (0 + i)) W₄ → Tried p A left L W true W₄
-  tried_zero {W₄} z w =
+  pub tried_zero : {zero? : Bool} {W₄ : List ℕ} → zero? ≡ is_zero (part 0 (size A) W₃) → zero? ≡ true → Written W₃ (3 * size A) (size A) (λ i. at W₃ (0 + i)) W₄ → Tried p A left L W zero? W₄
+  tried_zero {W₄ = W₄} said z w =
       record {
         same_length = w.same_length ∙ long₃;
-        answer = sym z ∙ ap is_zero value;
+        answer = said ∙ ap is_zero value;
         found = λ _. (
           written_part W₃ (3 * size A) (size A) (λ i. at W₃ (0 + i)) W₄ (omega (arith, room, long₃)) w
               ∙ sym (table_of 0 (part 0 (size A) W₃) (size A) (λ i. at W₃ (0 + i)) (length_part 0 (size A) W₃ (omega (arith, room, long₃))) (λ i l. at_part 0 (size A) W₃ i l)) ∙ value,
           written_other f₀ (L + 1) (omega (arith, long₃, low, room)) (region.before (omega arith)) w ∙ polynomial,
         );
-        failed = λ e. absurd (true≢false e);
+        failed = λ e. absurd (true≢false (sym z ∙ e));
       }
 
   -- q stands again as it stood
-  pub tried_again : {W₄ : List ℕ} → is_zero (part 0 (size A) W₃) ≡ false → Reversed W₃ (6 * size A + (2 * left + 2)) L W₄ → Tried p A left L W false W₄
-  tried_again {W₄} z w =
+  pub tried_again : {zero? : Bool} {W₄ : List ℕ} → zero? ≡ is_zero (part 0 (size A) W₃) → zero? ≡ false → Reversed W₃ (6 * size A + (2 * left + 2)) L W₄ → Tried p A left L W zero? W₄
+  tried_again {W₄ = W₄} said z w =
       record {
         same_length = w.same_length ∙ long₃;
-        answer = sym z ∙ ap is_zero value;
-        found = λ e. absurd (true≢false (sym e));
+        answer = said ∙ ap is_zero value;
+        found = λ e. absurd (true≢false (sym e ∙ z));
         failed = λ _. drop_ext (3 * size A) W W₄ (w.same_length ∙ long₃) (λ k l. place k l (dec_lt k f₀) (dec_lt k (f₀ + (L + 1))));
       }
     where
@@ -845,11 +866,30 @@ module _ (p : ℕ) (A : Matrix) (left L : ℕ) {W W₁ W₂ W₃ : List ℕ} (lo
 
 -- ---- the pass
 
--- in the slice B that begins with the test's places; the m places from r on were lent, and hold R₁ now
-module _ {p : ℕ} {A : Matrix} {left w : ℕ} {u : List ℕ} (B : List ℕ) (m : ℕ) {h : Heard} {R₁ : List ℕ} (prime : Prime p) (sized : size A ≤ 4096) (low : left ≤ 4096)
-    (fits : 3 * size A + m ≤ length B) (room : 3 * size A + (8 * left + 8) ≤ m) (same : length R₁ ≡ m) (l : Listened p A left w u (part (3 * size A) m B) h R₁) where
+-- what was heard in the places from r on, which were lent and hold R₁ now; the slice B begins with the test's places
+pub record Returned (p : ℕ) (A : Matrix) (left w : ℕ) (u B : List ℕ) (h : Heard) (R₁ : List ℕ) : Type 0 where
+  pub prime : Prime p
+  pub sized : size A ≤ 4096
+  pub low : left ≤ 4096
+  pub room : 6 * size A + (8 * left + 8) ≤ length B
+  pub same_length : length R₁ ≡ length B - 3 * size A
+  pub heard : Listened p A left w u (part (3 * size A) (length B - 3 * size A) B) h R₁
+
+module _ {p : ℕ} {A : Matrix} {left w : ℕ} {u B : List ℕ} {h : Heard} {R₁ : List ℕ} (known : Returned p A left w u B h R₁) where
   abbrev at_r : ℕ
   at_r = 3 * size A
+
+  abbrev m : ℕ
+  m = length B - 3 * size A
+
+  fits : 3 * size A + (length B - 3 * size A) ≤ length B
+  fits = omega (arith, known.room)
+
+  room : 3 * size A + (8 * left + 8) ≤ length B - 3 * size A
+  room = omega (arith, known.room)
+
+  pub returned_length : length (lent B (3 * size A) (length B - 3 * size A) R₁) ≡ length B
+  returned_length = length_lent B at_r m R₁ fits known.same_length
 
   abbrev B₁ : List ℕ
   B₁ = lent B (3 * size A) m R₁
@@ -858,64 +898,70 @@ module _ {p : ℕ} {A : Matrix} {left w : ℕ} {u : List ℕ} (B : List ℕ) (m 
   S₁ = terms p A left u (part (3 * size A) (size A) B)
 
   room_R : Room (size A) left R₁
-  room_R = record { sized = sized; low = low; room = omega (arith, room, same) }
+  room_R = record { sized = known.sized; low = known.low; room = omega (arith, room, known.same_length) }
 
   back_R : part at_r m B₁ ≡ R₁
-  back_R = part_lent B at_r m R₁ fits same
+  back_R = part_lent B at_r m R₁ fits known.same_length
 
   -- r
   first_r : part 0 (size A) (part at_r m B) ≡ part at_r (size A) B
   first_r = part_of_part 0 (size A) at_r m B (omega (arith, room)) fits ∙ part_at B (at_r + 0) (size A) at_r (size A) (add-zero at_r) refl
 
-  pub heard_residual : part (3 * size A) (size A) (lent B (3 * size A) m R₁) ≡ part (3 * size A) (size A) B
+  pub heard_residual : part (3 * size A) (size A) (lent B (3 * size A) (length B - 3 * size A) R₁) ≡ part (3 * size A) (size A) B
   heard_residual =
-      part_at B₁ at_r (size A) (at_r + 0) (size A) (sym (add-zero at_r)) refl ∙ inner_lent B at_r m R₁ fits same 0 (size A) (omega (arith, room))
-      ∙ l.listening.iterated.front ∙ first_r
+      part_at B₁ at_r (size A) (at_r + 0) (size A) (sym (add-zero at_r)) refl ∙ inner_lent B at_r m R₁ fits known.same_length 0 (size A) (omega (arith, room))
+      ∙ known.heard.listening.iterated.front ∙ first_r
 
   at_B₁ : (k : ℕ) → k < m → at B₁ (at_r + k) ≡ at R₁ k
   at_B₁ k b = sym (at_part at_r m B₁ k b) ∙ ap (λ x. at x k) back_R
 
   f_low : 3 * size A + (2 * left + 2) + h.steps.L < m
-  f_low = omega (arith, room, listening_low prime room_R l.listening, l.listening.high)
+  f_low = omega (arith, room, listening_low known.prime room_R known.heard.listening, known.heard.listening.high)
 
-  pub heard_generator : turned_at (lent B (3 * size A) m R₁) (6 * size A + (2 * left + 2)) h.steps.L ≡ generator p (take h.terms (terms p A left u (part (3 * size A) (size A) B)))
+  pub heard_generator : turned_at (lent B (3 * size A) (length B - 3 * size A) R₁) (6 * size A + (2 * left + 2)) h.steps.L ≡ generator p (take h.terms (terms p A left u (part (3 * size A) (size A) B)))
   heard_generator =
       table_ext (h.steps.L + 1) (λ i. at B₁ (6 * size A + (2 * left + 2) + (h.steps.L - i))) (λ i. at R₁ (3 * size A + (2 * left + 2) + (h.steps.L - i)))
       (λ i b. ap (at B₁) (omega arith) ∙ at_B₁ (3 * size A + (2 * left + 2) + (h.steps.L - i)) (omega (arith, f_low)))
-      ∙ sym (listening_generator prime room_R l.listening) ∙ ap (λ v. generator p (take h.terms (terms p A left u v))) first_r
+      ∙ sym (listening_generator known.prime room_R known.heard.listening) ∙ ap (λ v. generator p (take h.terms (terms p A left u v))) first_r
 
-  pub heard_one : at (lent B (3 * size A) m R₁) (6 * size A + (2 * left + 2)) ≡ 1
-  heard_one = ap (at B₁) (omega arith) ∙ at_B₁ (3 * size A + (2 * left + 2)) (omega (arith, f_low)) ∙ listening_one prime room_R l.listening
+  pub heard_one : at (lent B (3 * size A) (length B - 3 * size A) R₁) (6 * size A + (2 * left + 2)) ≡ 1
+  heard_one = ap (at B₁) (omega arith) ∙ at_B₁ (3 * size A + (2 * left + 2)) (omega (arith, f_low)) ∙ listening_one known.prime room_R known.heard.listening
 
   pub heard_degree : degree p (take h.terms (terms p A left u (part (3 * size A) (size A) B))) ≡ h.steps.L
-  heard_degree = ap (λ v. degree p (take h.terms (terms p A left u v))) (sym first_r) ∙ listening_degree prime room_R l.listening
+  heard_degree = ap (λ v. degree p (take h.terms (terms p A left u v))) (sym first_r) ∙ listening_degree known.prime room_R known.heard.listening
 
   pub heard_low : h.steps.L ≤ h.terms
-  heard_low = listening_low prime room_R l.listening
+  heard_low = listening_low known.prime room_R known.heard.listening
 
-  -- where the part from r on is as it was; it is lent again, with its length worked out anew
-  module _ (B₂ : List ℕ) (m₂ : ℕ) (again : m₂ ≡ m) (rest : drop (3 * size A) B₂ ≡ drop (3 * size A) (lent B (3 * size A) m R₁)) where
+  -- where the part from r on is as it was; it is lent again
+  module _ (B₂ : List ℕ) (long : length B₂ ≡ length B) (rest : drop (3 * size A) B₂ ≡ drop (3 * size A) (lent B (3 * size A) (length B - 3 * size A) R₁)) where
+    abbrev m₂ : ℕ
+    m₂ = length B₂ - 3 * size A
+
+    again : length B₂ - 3 * size A ≡ length B - 3 * size A
+    again = ap (λ k. k - 3 * size A) long
+
     part_R : part at_r m₂ B₂ ≡ R₁
     part_R = part_at B₂ at_r m₂ at_r m refl again ∙ ap (take m) rest ∙ back_R
 
     r₂ : part 0 (size A) (part at_r m₂ B₂) ≡ part at_r (size A) B
-    r₂ = ap (part 0 (size A)) part_R ∙ l.listening.iterated.front ∙ first_r
+    r₂ = ap (part 0 (size A)) part_R ∙ known.heard.listening.iterated.front ∙ first_r
 
-    pub heard_again : Listening p A left u (part (3 * size A) m₂ B₂) h (part (3 * size A) m₂ B₂)
+    pub heard_again : Listening p A left u (part (3 * size A) (length B₂ - 3 * size A) B₂) h (part (3 * size A) (length B₂ - 3 * size A) B₂)
     heard_again =
         subst (λ x. Listening p A left u x h x) (sym part_R)
-        (listening_from (sym l.listening.iterated.same_length) (sym l.listening.iterated.front) l.listening)
+        (listening_from (sym known.heard.listening.iterated.same_length) (sym known.heard.listening.iterated.front) known.heard.listening)
 
-    pub heard_room : Room (size A) left (part (3 * size A) m₂ B₂)
+    pub heard_room : Room (size A) left (part (3 * size A) (length B₂ - 3 * size A) B₂)
     heard_room = subst (Room (size A) left) (sym part_R) room_R
 
-    pub heard_vector : Vector p (size A) (part (3 * size A) (size A) B) → Vector p (size A) (part 0 (size A) (part (3 * size A) m₂ B₂))
+    pub heard_vector : Vector p (size A) (part (3 * size A) (size A) B) → Vector p (size A) (part 0 (size A) (part (3 * size A) (length B₂ - 3 * size A) B₂))
     heard_vector v = subst (Vector p (size A)) (sym r₂) v
 
     -- .. on the part alone
     narrow : (k : ℕ) {q : CodePass} {Y : List ℕ} → length Y ≡ m
         → Rule p A w u left (part (3 * size A) (size A) B) (terms p A left u (part (3 * size A) (size A) B)) (2 * left - 1 + k)
-        → Finished p A left u k (part (3 * size A) m₂ B₂) q Y → Shortened p A w u left 0 0 (part (3 * size A) m B) q Y
+        → Finished p A left u k (part (3 * size A) (length B₂ - 3 * size A) B₂) q Y → Shortened p A w u left 0 0 (part (3 * size A) m B) q Y
     narrow k {q} {Y} same-Y rule d =
         record {
           taken = S₁;
@@ -932,10 +978,10 @@ module _ {p : ℕ} {A : Matrix} {left w : ℕ} {u : List ℕ} (B : List ℕ) (m 
               ∙ ap (λ v. generator p (terms p A left u v)) r₂;
         }
 
-    pub finished_shortened : (k : ℕ) {q : CodePass} {Y : List ℕ} → length B₂ ≡ length B → length Y ≡ m₂
+    pub finished_shortened : (k : ℕ) {q : CodePass} {Y : List ℕ} → length Y ≡ length B₂ - 3 * size A
         → Rule p A w u left (part (3 * size A) (size A) B) (terms p A left u (part (3 * size A) (size A) B)) (2 * left - 1 + k)
-        → Finished p A left u k (part (3 * size A) m₂ B₂) q Y → Shortened p A w u left 0 (3 * size A) B q (lent B₂ (3 * size A) m₂ Y)
-    finished_shortened k {q} {Y} long same-Y rule d =
+        → Finished p A left u k (part (3 * size A) (length B₂ - 3 * size A) B₂) q Y → Shortened p A w u left 0 (3 * size A) B q (lent B₂ (3 * size A) (length B₂ - 3 * size A) Y)
+    finished_shortened k {q} {Y} same-Y rule d =
         subst (λ x. Shortened p A w u left 0 at_r B q (lent B₂ at_r x Y)) (sym again)
         (shortened_lent 0 at_r at_r m B₂ (omega arith) long refl (omega arith) fits (omega (arith, room)) (same-Y ∙ again) (narrow k (same-Y ∙ again) rule d))
 
@@ -944,14 +990,14 @@ module _ {p : ℕ} {A : Matrix} {left w : ℕ} {u : List ℕ} (B : List ℕ) (m 
   whole_test : test_at p w (terms p A left u (part 0 (size A) (part at_r m B))) ≡ test_at p w S₁
   whole_test = ap (λ v. test_at p w (terms p A left u v)) first_r
 
-  pub window_whole : h.terms ≡ 2 * left → Rule p A w u left (part (3 * size A) (size A) B) (terms p A left u (part (3 * size A) (size A) B)) (2 * left - 1 + 0)
-  window_whole all =
-      subst (Rule p A w u left (part at_r (size A) B) S₁) (omega arith)
-      (rule_whole p A w u left (part at_r (size A) B) (subst (λ v. length (terms p A left u v) ≤ test_at p w (terms p A left u v)) first_r (listened_none l all)))
+  pub window_whole : {k : ℕ} → k ≡ 0 → h.terms ≡ 2 * left → Rule p A w u left (part (3 * size A) (size A) B) (terms p A left u (part (3 * size A) (size A) B)) (2 * left - 1 + k)
+  window_whole e all =
+      subst (Rule p A w u left (part at_r (size A) B) S₁) (omega (arith, e))
+      (rule_whole p A w u left (part at_r (size A) B) (subst (λ v. length (terms p A left u v) ≤ test_at p w (terms p A left u v)) first_r (listened_none known.heard all)))
 
-  module _ (more : h.terms < 2 * left) {zero? : Bool} {B₂ : List ℕ} (tried : Tried p A left h.steps.L (lent B (3 * size A) m R₁) zero? B₂) where
+  module _ (more : h.terms < 2 * left) {zero? : Bool} {B₂ : List ℕ} (tried : Tried p A left h.steps.L (lent B (3 * size A) (length B - 3 * size A) R₁) zero? B₂) where
     tested : test_at p w S₁ ≡ h.terms
-    tested = sym whole_test ∙ listened_test l prime room_R more
+    tested = sym whole_test ∙ listened_test known.heard known.prime room_R more
 
     value_is : apply p A (turned_at B₁ (6 * size A + (2 * left + 2)) h.steps.L) (part at_r (size A) B₁) ≡ apply p A (generator p (take h.terms S₁)) (part at_r (size A) B)
     value_is = ap₂ (apply p A) heard_generator heard_residual
@@ -973,7 +1019,7 @@ module _ {p : ℕ} {A : Matrix} {left w : ℕ} {u : List ℕ} (B : List ℕ) (m 
           made = h.terms - 1;
           rule = rule_early p A w u left (part at_r (size A) B) h.terms tested more (sym said ∙ z);
           counted = counted;
-          same_length = tried.same_length ∙ length_lent B at_r m R₁ fits same;
+          same_length = tried.same_length ∙ returned_length;
           front = refl;
           answer = degree_is ∙ sym heard_degree;
           short = omega (arith, degree_is, heard_low, more);

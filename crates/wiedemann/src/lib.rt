@@ -3,6 +3,7 @@
 
 pub mod matrix;
 pub mod offered;
+mod operator;
 pub mod pass;
 mod projection;
 mod window;

@@ -1,27 +1,30 @@
 // Sparse matrices: the product of a row, and what is made of it.
-ghost use Rattle.std.specs.Prelude.{◌≡◌, ◌≢◌, ◌+◌, ◌-◌, ◌%◌, ◌≤◌, ◌<◌, length};
+ghost use Rattle.std.specs.Prelude.{◌≡◌, ◌≢◌, ◌+◌, ◌-◌, ◌≤◌, ◌<◌, length};
 ghost use Rattle.meaning.specs.List.{at, sum_from, table};
 ghost use Rattle.meaning.specs.Field.{times};
 ghost use Rattle.modular.specs.Modulus.{Modular};
 ghost use Rattle.modular.specs.Total.{number};
-ghost use Rattle.modular.specs.Sums.{Summed};
-ghost use Rattle.meaning.specs.Matrix.{matrix, product, apply, scaled};
+ghost use Rattle.meaning.specs.Matrix.{product, apply};
+ghost use Rattle.checks.specs.Slices.{matrix_of};
+ghost use Rattle.wiedemann.specs.Operator.{plain, operator, rows};
 ghost use Rattle.meaning.specs.Calls.{product_refusal, product_after, apply_refusal, apply_after};
 ghost use Rattle.checks.specs.Matrix.{scaled_apply_refusal, scaled_apply_after};
-ghost use Rattle.checks.specs.Valid.{Entries, term, Valid, ValidScaled, Vector};
+ghost use Rattle.checks.specs.Valid.{Entries, term, Vector};
 ghost use Rattle.wiedemann.specs.Horner.{step, step_at};
 ghost use Rattle.laws.specs.Written.{Written};
 ghost use Rattle.laws.specs.Part.{part};
 ghost use Rattle.wiedemann.specs.Region.{Regions};
 ghost use Rattle.checks.specs.Answers.{Writes};
-ghost use Rattle.checks.specs.Products.{products_with, Few, added};
+ghost use Rattle.checks.specs.Products.{products_with};
 
-use checks::{Products, Writing, apply_refusal, product_refusal, wide};
+use crate::operator::Operator;
+use checks::{Matrix, Products, check_apply, check_product};
 use field::Field;
 use modular::diagonal::scale;
 use modular::modulus::Modulus;
 use modular::multiplier::Multiplier;
-use modular::sums::{Total, times};
+use modular::sums::{Total, sum_by, times};
+use refusal::Refusal;
 
 // The product of entry k's value with the element of v at its column.
 fn entry(k: usize, columns: &[u32], values: &[u32], v: &[u32]) -> u64
@@ -29,53 +32,12 @@ fn entry(k: usize, columns: &[u32], values: &[u32], v: &[u32]) -> u64
     requires k_in_bounds { k < length columns.now }
     ensures { (result ≡ term columns.now values.now v.now k) × (result ≤ 4611686009837453316) }
 {
-    let j = wide(columns[k]);
+    let j = columns[k] as usize;
     times(values[k], v[j])
 }
 
-// Four of them fit a word.
-fn four(k: usize, columns: &[u32], values: &[u32], v: &[u32]) -> u64
-    requires entries { Entries columns.now values.now v.now }
-    requires k_in_bounds { k + 4 ≤ length columns.now }
-    ensures { result ≡ sum_from k (k + 4) (term columns.now values.now v.now) }
-{
-    entry(k, columns, values, v)
-        + entry(k + 1, columns, values, v)
-        + entry(k + 2, columns, values, v)
-        + entry(k + 3, columns, values, v)
-}
-
-// The total with the products of a whole number of groups of four entries.
-fn fours(total: Total, from: usize, to: usize, columns: &[u32], values: &[u32], v: &[u32]) -> Total
-    requires entries { Entries columns.now values.now v.now }
-    requires from_le_to { (from ≤ to) × (to ≤ length columns.now) × (total.high ≤ from) × ((to - from) % 4 ≡ 0) }
-    ensures { Summed total result from to (term columns.now values.now v.now) }
-{
-    let mut sum = total;
-    let mut k = from;
-    while k < to {
-        sum = sum.add(four(k, columns, values, v));
-        k += 4;
-    }
-    sum
-}
-
-// The total with the products of some entries, one at a time.
-fn ones(total: Total, from: usize, to: usize, columns: &[u32], values: &[u32], v: &[u32]) -> Total
-    requires entries { Entries columns.now values.now v.now }
-    requires from_le_to { (from ≤ to) × (to ≤ length columns.now) × (total.high ≤ from) }
-    ensures { Summed total result from to (term columns.now values.now v.now) }
-{
-    let mut sum = total;
-    let mut k = from;
-    while k < to {
-        sum = sum.add(entry(k, columns, values, v));
-        k += 1;
-    }
-    sum
-}
-
-// start plus the products of the entries from `from` up to but not including `to`, not reduced. So small that LLVM inlines it into a loop over rows.
+// start plus the products of the entries from `from` up to but not including `to`, not reduced: four of them fit a word. So small that LLVM inlines it
+// into a loop over rows.
 pub(crate) fn row(
     start: u64,
     from: usize,
@@ -88,13 +50,11 @@ pub(crate) fn row(
     ensures { (number result ≡ start + sum_from from to (term columns.now values.now v.now))
         × (result.high < 4294967296) }
 {
-    let middle = to - (to - from) % 4;
     let total = Total {
         low: start,
         high: 0,
     };
-    let most = fours(total, from, middle, columns, values, v);
-    ones(most, middle, to, columns, values, v)
+    sum_by::<4, _>(total, from, to, move |k| entry(k, columns, values, v))
 }
 
 // How many entries the rows have up to where one of them ends: what a loop over the rows has gone through there. It is taken from the rows' bounds, so
@@ -103,46 +63,25 @@ pub(crate) fn entries_to(starts: &[u32], end: usize) -> u64
     requires { (0 < length starts.now) × (at starts.now 0 ≤ end) }
     ensures { result ≡ end - at starts.now 0 }
 {
-    (end - wide(starts[0])) as u64
-}
-
-// Some products and some more.
-pub(crate) fn plus(done: Products, more: Products) -> Products
-    requires { Few done × Few more }
-    ensures { result ≡ added done more }
-{
-    Products {
-        made: done.made + more.made,
-        multiplied: done.multiplied + more.multiplied,
-    }
+    (end - starts[0] as usize) as u64
 }
 
 // Horner's step: c × x plus the product with v, into out. It is the product if c is 0. A row's end is the next row's start. The answer is one
 // product, with the entries that it multiplied, by the rows' bounds.
-pub(crate) fn step(
-    m: Modulus,
-    c: u32,
-    x: &[u32],
-    starts: &[u32],
-    columns: &[u32],
-    values: &[u32],
-    v: &[u32],
-    out: &mut [u32],
-) -> Products
-    requires valid { Valid m.p (matrix starts.now columns.now values.now) }
-    requires modular { Modular m × (length out.old ≡ length starts.now - 1) × (length x.now ≡ length starts.now - 1)
-        × Vector m.p (length starts.now - 1) v.now }
-    ensures { (result ≡ products_with 1 (matrix starts.now columns.now values.now)) × (out.new
-        ≡ step m.p (matrix starts.now columns.now values.now) c x.now v.now) }
+pub(crate) fn step(ax: &Operator, c: u32, x: &[u32], v: &[u32], out: &mut [u32]) -> Products
+    requires { (length out.old ≡ rows ax.now) × (length x.now ≡ rows ax.now) × Vector ax.now.m.p (rows ax.now) v.now }
+    ensures { (result ≡ products_with 1 (plain ax.now)) × (out.new ≡ step ax.now.m.p (plain ax.now) c x.now v.now) }
 {
+    let m = ax.m;
+    let starts = ax.a.starts;
+    let columns = ax.a.columns;
+    let values = ax.a.values;
     let rows = starts.len() - 1;
-    let mut from = wide(starts[0]);
-    let mut i = 0;
-    while i < rows {
-        let to = wide(starts[i + 1]);
+    let mut from = starts[0] as usize;
+    for i in 0..rows {
+        let to = starts[i + 1] as usize;
         out[i] = row(times(c, x[i]), from, to, columns, values, v).residue(m);
         from = to;
-        i += 1;
     }
     Products {
         made: 1,
@@ -153,34 +92,32 @@ pub(crate) fn step(
 // Horner's step within one slice: c × the part from `origin` on plus the product with the part from `source` on, into the part from `target` on.
 // The answer is that one product.
 pub(crate) fn step_within(
-    m: Modulus,
+    ax: &Operator,
     c: u32,
-    starts: &[u32],
-    columns: &[u32],
-    values: &[u32],
     work: &mut [u32],
     origin: usize,
     source: usize,
     target: usize,
 ) -> Products
-    requires valid { Valid m.p (matrix starts.now columns.now values.now) }
-    requires modular { Modular m × Regions m.p (length starts.now - 1) origin source target work.old }
-    ensures { (result ≡ products_with 1 (matrix starts.now columns.now values.now))
-        × Written work.old target (length starts.now - 1)
-        (step_at m.p (matrix starts.now columns.now values.now) c
-        (part origin (length starts.now - 1) work.old) (part source (length starts.now - 1) work.old))
+    requires { Regions ax.now.m.p (rows ax.now) origin source target work.old }
+    ensures { (result ≡ products_with 1 (plain ax.now))
+        × Written work.old target (rows ax.now)
+        (step_at ax.now.m.p (plain ax.now) c (part origin (rows ax.now) work.old) (part source (rows ax.now) work.old))
         work.new }
 {
+    let m = ax.m;
+    let starts = ax.a.starts;
+    let columns = ax.a.columns;
+    let values = ax.a.values;
     let n = starts.len() - 1;
-    let end = source + n;
-    let mut from = wide(starts[0]);
-    let mut i = 0;
-    while i < n {
-        let to = wide(starts[i + 1]);
+    let mut from = starts[0] as usize;
+    for i in 0..n {
+        let to = starts[i + 1] as usize;
         let start = times(c, work[origin + i]);
-        work[target + i] = row(start, from, to, columns, values, &work[source..end]).residue(m);
+        work[target + i] = row(start, from, to, columns, values, &work[source..source + n]).residue(
+            m,
+        );
         from = to;
-        i += 1;
     }
     Products {
         made: 1,
@@ -194,162 +131,104 @@ fn multiple(m: Modulus, c: u32, v: &[u32], out: &mut [u32])
     ensures { out.new ≡ table (length v.now) (λ i. times m.p c (at v.now i)) }
 {
     let multiplier = Multiplier::of(m, c);
-    let mut i = 0;
-    while i < v.len() {
+    for i in 0..v.len() {
         out[i] = multiplier.times(m.p, v[i]);
-        i += 1;
     }
 }
 
 // Horner's step with AX: v is scaled in its place, and its product with A then is AX's with what it was.
-fn scaled_step(
-    m: Modulus,
-    c: u32,
-    x: &[u32],
-    starts: &[u32],
-    columns: &[u32],
-    values: &[u32],
-    scales: &[u32],
-    v: &mut [u32],
-    out: &mut [u32],
-) -> Products
-    requires valid_scaled { ValidScaled m.p (matrix starts.now columns.now values.now) scales.now }
-    requires modular { Modular m × (length out.old ≡ length starts.now - 1) × (length x.now ≡ length starts.now - 1)
-        × Vector m.p (length starts.now - 1) v.old }
-    ensures { (result ≡ products_with 1 (scaled m.p (matrix starts.now columns.now values.now) scales.now))
-        × (out.new ≡ step m.p (scaled m.p (matrix starts.now columns.now values.now) scales.now)
-        c x.now v.old)
+fn scaled_step(ax: &Operator, c: u32, x: &[u32], v: &mut [u32], out: &mut [u32]) -> Products
+    requires { (length out.old ≡ rows ax.now) × (length x.now ≡ rows ax.now) × Vector ax.now.m.p (rows ax.now) v.old }
+    ensures { (result ≡ products_with 1 (operator ax.now)) × (out.new ≡ step ax.now.m.p (operator ax.now) c x.now v.old)
         × (length v.new ≡ length v.old) }
 {
-    scale(m, scales, v);
-    step(m, c, x, starts, columns, values, v, out)
+    scale(ax.m, ax.scales, v);
+    step(ax, c, x, v, out)
 }
 
 // g(AX)v into out by Horner's rule, by turns into work and into out, which has what is made of the even coefficients; what a product reads is scaled
 // before it. Nothing is copied. The answer is the products that it made: one for each coefficient after the first.
 pub(crate) fn horner(
-    m: Modulus,
-    starts: &[u32],
-    columns: &[u32],
-    values: &[u32],
-    scales: &[u32],
+    ax: &Operator,
     g: &[u32],
     v: &[u32],
     out: &mut [u32],
     work: &mut [u32],
 ) -> Products
-    requires valid_scaled { ValidScaled m.p (matrix starts.now columns.now values.now) scales.now }
-    requires modular { Modular m × (length out.old ≡ length starts.now - 1) × (length work.old ≡ length starts.now - 1)
-        × Vector m.p (length starts.now - 1) v.now × (0 < length g.now) × (length g.now ≤ 4097) × Vector m.p (length g.now) g.now }
-    ensures { (result ≡ products_with (length g.now - 1) (scaled m.p (matrix starts.now columns.now values.now) scales.now))
-        × (out.new ≡ apply m.p (scaled m.p (matrix starts.now columns.now values.now) scales.now) g.now v.now) }
+    requires { (length out.old ≡ rows ax.now) × (length work.old ≡ rows ax.now) × Vector ax.now.m.p (rows ax.now) v.now
+        × (0 < length g.now) × (length g.now ≤ 4097) × Vector ax.now.m.p (length g.now) g.now }
+    ensures { (result ≡ products_with (length g.now - 1) (operator ax.now)) × (out.new ≡ apply ax.now.m.p (operator ax.now) g.now v.now) }
 {
-    let mut done = Products {
-        made: 0,
-        multiplied: 0,
-    };
-    let mut i = g.len() - 1;
-    if i % 2 == 0 {
-        multiple(m, g[i], v, out);
+    let last = g.len() - 1;
+    let mut done = Products::default();
+    if last % 2 == 0 {
+        multiple(ax.m, g[last], v, out);
     } else {
-        multiple(m, g[i], v, work);
+        multiple(ax.m, g[last], v, work);
     }
-    while 0 < i {
-        i -= 1;
-        if i % 2 == 0 {
-            let even = scaled_step(m, g[i], v, starts, columns, values, scales, work, out);
-            done = plus(done, even);
+    for i in (0..last).rev() {
+        let more = if i % 2 == 0 {
+            scaled_step(ax, g[i], v, work, out)
         } else {
-            let odd = scaled_step(m, g[i], v, starts, columns, values, scales, out, work);
-            done = plus(done, odd);
-        }
+            scaled_step(ax, g[i], v, out, work)
+        };
+        done = done + more;
     }
     done
 }
 
 // Av into out.
-pub fn product(
-    field: Field,
-    starts: &[u32],
-    columns: &[u32],
-    values: &[u32],
-    v: &[u32],
-    out: &mut [u32],
-) -> Writing
-    ensures writes { Writes result
-        (product_refusal field.p (matrix starts.now columns.now values.now) v.now out.old) 1
-        (matrix starts.now columns.now values.now) }
-    ensures out_after { out.new
-        ≡ product_after product field.p (matrix starts.now columns.now values.now) v.now out.old }
+pub fn product(field: Field, a: &Matrix, v: &[u32], out: &mut [u32]) -> Result<Products, Refusal>
+    ensures writes { Writes result (product_refusal field.p (matrix_of a.now) v.now out.old) 1 (matrix_of a.now) }
+    ensures out_after { out.new ≡ product_after product field.p (matrix_of a.now) v.now out.old }
 {
-    let p = field.p;
-    let number = product_refusal(p, starts, columns, values, v, out);
-    if number != 0 {
-        return Writing::Refused(number);
-    }
-    let done = step(Modulus::of(p), 0, v, starts, columns, values, v, out);
-    Writing::Done(done)
+    check_product(field.p, a, v, out)?;
+    let plain = Operator {
+        m: Modulus::of(field.p),
+        a,
+        scales: &[],
+    };
+    Ok(step(&plain, 0, v, v, out))
 }
 
 // g(AX)v into out.
 pub fn apply_scaled(
     field: Field,
-    starts: &[u32],
-    columns: &[u32],
-    values: &[u32],
+    a: &Matrix,
     scales: &[u32],
     g: &[u32],
     v: &[u32],
     out: &mut [u32],
     work: &mut [u32],
-) -> Writing
-    ensures writes { Writes result (scaled_apply_refusal field.p (matrix starts.now columns.now values.now)
-        scales.now g.now v.now out.old work.old) (length g.now - 1)
-        (matrix starts.now columns.now values.now) }
-    ensures out_after { out.new ≡ scaled_apply_after field.p (matrix starts.now columns.now values.now)
-        scales.now g.now v.now out.old work.old }
-    ensures work_unchanged { scaled_apply_refusal field.p (matrix starts.now columns.now values.now)
-        scales.now g.now v.now out.old work.old ≢ 0 → work.new ≡ work.old }
+) -> Result<Products, Refusal>
+    ensures writes { Writes result (scaled_apply_refusal field.p (matrix_of a.now) scales.now g.now v.now out.old work.old)
+        (length g.now - 1) (matrix_of a.now) }
+    ensures out_after { out.new ≡ scaled_apply_after field.p (matrix_of a.now) scales.now g.now v.now out.old work.old }
+    ensures work_unchanged { scaled_apply_refusal field.p (matrix_of a.now) scales.now g.now v.now out.old work.old ≢ 0
+        → work.new ≡ work.old }
 {
-    let p = field.p;
-    let number = apply_refusal(p, starts, columns, values, scales, g, v, out, work);
-    if number != 0 {
-        return Writing::Refused(number);
-    }
-    let front: usize = 0;
-    let n = v.len();
-    let done = horner(
-        Modulus::of(p),
-        starts,
-        columns,
-        values,
+    check_apply(field.p, a, scales, g, v, out, work)?;
+    let ax = Operator {
+        m: Modulus::of(field.p),
+        a,
         scales,
-        g,
-        v,
-        out,
-        &mut work[front..n],
-    );
-    Writing::Done(done)
+    };
+    Ok(horner(&ax, g, v, out, &mut work[..v.len()]))
 }
 
 // g(A)v into out.
 pub fn apply(
     field: Field,
-    starts: &[u32],
-    columns: &[u32],
-    values: &[u32],
+    a: &Matrix,
     g: &[u32],
     v: &[u32],
     out: &mut [u32],
     work: &mut [u32],
-) -> Writing
-    ensures writes { Writes result (apply_refusal field.p (matrix starts.now columns.now values.now)
-        g.now v.now out.old work.old) (length g.now - 1)
-        (matrix starts.now columns.now values.now) }
-    ensures out_after { out.new ≡ apply_after field.p (matrix starts.now columns.now values.now)
-        g.now v.now out.old work.old }
-    ensures work_unchanged { apply_refusal field.p (matrix starts.now columns.now values.now)
-        g.now v.now out.old work.old ≢ 0 → work.new ≡ work.old }
+) -> Result<Products, Refusal>
+    ensures writes { Writes result (apply_refusal field.p (matrix_of a.now) g.now v.now out.old work.old)
+        (length g.now - 1) (matrix_of a.now) }
+    ensures out_after { out.new ≡ apply_after field.p (matrix_of a.now) g.now v.now out.old work.old }
+    ensures work_unchanged { apply_refusal field.p (matrix_of a.now) g.now v.now out.old work.old ≢ 0 → work.new ≡ work.old }
 {
-    apply_scaled(field, starts, columns, values, &[], g, v, out, work)
+    apply_scaled(field, a, &[], g, v, out, work)
 }

@@ -1,4 +1,6 @@
-use mathlib.Core.Path.{sym, ap, ap₂, ◌∙◌}
+use mathlib.Core.Path.{sym, ap, ◌∙◌}
+use Prim.Native.Nat.{◌-◌}
+use lib.ListN.{get_or}
 use mathlib.Core.Bool.{◌&&◌}
 use native.Mathlib.Omega.{arith}
 use lib.Dec.{ltb}
@@ -15,5 +17,5 @@ returns-then-from-end c =
 pub returns : goal.returns
 returns c =
     let at = c.args in
-    ap₂ (λ rise last. rise && ltb last at.n) c.columns_rise.ensures c.wide.ensures.0
+    ap (λ rise. rise && ltb (get_or at.columns.now (at.end - 1) 0) at.n) c.columns_rise.ensures
     ∙ sym (row_last at.n at.from at.end at.columns.now (omega (arith, c.requires.0, c.if-from-end.false)))

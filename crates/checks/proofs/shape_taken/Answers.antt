@@ -7,5 +7,4 @@ use Rattle.checks.proofs.shape_taken.Goals as goal
 
 pub returns : goal.returns
 returns c =
-    let a = c.args in
-    ap (λ t. t && scale_count_taken (length a.starts.now - 1) (length a.scales.now)) c.starts_taken.ensures
+    ap (λ starts. starts && scale_count_taken (length c.args.a.now.starts.now - 1) (length c.args.scales.now)) c.starts_taken.ensures

@@ -1,5 +1,6 @@
-use mathlib.Core.Path.{ap₂}
+use mathlib.Core.Path.{ap}
 use mathlib.Core.Bool.{◌&&◌}
+use Prim.Native.Nat.{◌-◌}
 use lib.Dec.{eqb, leb}
 use lib.ListN.{length}
 use Rattle.meaning.specs.List.{at}
@@ -11,5 +12,5 @@ unfolding starts_taken
 returns c =
     let a = c.args in
     let entries = length a.columns.now in
-    ap₂ (λ rise last. eqb (at a.starts.now 0) 0 && rise && eqb last entries && eqb entries (length a.values.now) && leb entries 65536)
-    c.rising.ensures c.wide.ensures.0
+    ap (λ rise. eqb (at a.starts.now 0) 0 && rise && eqb (at a.starts.now (length a.starts.now - 1)) entries && eqb entries (length a.values.now) && leb entries 65536)
+    c.rising.ensures

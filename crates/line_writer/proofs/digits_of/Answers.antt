@@ -1,35 +1,24 @@
-use mathlib.Core.Path.{ap}
-use mathlib.Core.List.{[], ◌∷◌}
-use Prim.Native.Nat.{◌+◌, ◌/◌, ◌%◌}
-use native.Mathlib.Omega.{arith}
-use lib.ListN.{length, length-append}
+use Rattle.std.proofs.Common.{ℕ, zero, suc, ◌+◌, ◌/◌, ◌%◌, ◌^◌, ◌<◌, ◌≤◌, max, [], ◌∷◌, length, ap, arith, length-append}
+use Rattle.std.proofs.Math.Nat.{one-le-pow}
 use Rattle.meaning.specs.Text.{decimal}
-use Rattle.text_laws.specs.Numeral.{decimal_small, decimal_large, decimal_positive, decimal_short}
+use Rattle.text_laws.specs.Numeral.{decimal_large, decimal_positive, decimal_short}
 use Rattle.line_writer.proofs.digits_of.Goals as goal
 
-pub loop-rest-init : goal.loop-rest-init
-loop-rest-init c = omega arith
-
-pub overflow_add-digits : goal.overflow_add-digits
-overflow_add-digits c =
-    omega (arith, decimal_short 19 c.args.k (omega arith), decimal_positive c.loop-rest.rest)
-
-pub loop-rest-smaller : goal.loop-rest-smaller
-loop-rest-smaller c = omega arith
-
-pub loop-rest-preserved : goal.loop-rest-preserved
-loop-rest-preserved c =
-    let rest = c.loop-rest.rest in
+-- from 10 ^ m on: at least m + 1 digits
+long : (m k : ℕ) → 10 ^ m ≤ max k 1 → m + 1 ≤ length (decimal k)
+long zero k h = omega (arith, decimal_positive k)
+long (suc m) k h =
+    let large : 10 ≤ k = omega (arith, one-le-pow m 10) in
     omega (
       arith,
-      ap length (decimal_large rest (omega arith)),
-      length-append (decimal (rest / 10)) ((48 + rest % 10) ∷ []),
+      long m (k / 10) (omega (arith, one-le-pow m 10)),
+      ap length (decimal_large k large),
+      length-append (decimal (k / 10)) ((48 + k % 10) ∷ []),
     )
 
 pub returns : goal.returns
 returns c =
-    omega (
-      arith,
-      ap length (decimal_small c.loop-rest.rest (omega arith)),
-      decimal_short 19 c.args.k (omega arith),
-    )
+    let n = c.ilog10.result in
+    let e = c.ilog10.ensures in
+    let below : c.args.k < 10 ^ suc n = omega arith in
+    omega (arith, long n c.args.k (omega arith), decimal_short n c.args.k below)

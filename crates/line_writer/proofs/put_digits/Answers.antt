@@ -1,4 +1,4 @@
-use mathlib.Core.Path.{◌≡◌, refl, sym, ap, ◌∙◌}
+use mathlib.Core.Path.{◌≡◌, sym, ap, ◌∙◌}
 use mathlib.Core.List.{[], ◌∷◌, ◌++◌}
 use Prim.Native.Nat.{◌+◌, ◌/◌, ◌%◌, ◌<◌}
 use native.Mathlib.Omega.{arith}
@@ -7,12 +7,6 @@ use Rattle.meaning.specs.Text.{decimal}
 use Rattle.text_laws.specs.Numeral.{decimal_small, decimal_large, decimal_positive}
 use Rattle.line_writer.specs.Placed.{placed, placed_one, store_before}
 use Rattle.line_writer.proofs.put_digits.Goals as goal
-
-pub overflow_sub-left : goal.overflow_sub-left
-overflow_sub-left c = omega (arith, decimal_positive c.args.k)
-
-pub loop-rest-init : goal.loop-rest-init
-loop-rest-init c = let some = decimal_positive c.args.k in (refl, omega arith, omega arith, refl)
 
 pub overflow_sub-left-in-loop-rest : goal.overflow_sub-left-in-loop-rest
 overflow_sub-left-in-loop-rest c =

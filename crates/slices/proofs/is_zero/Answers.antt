@@ -1,26 +1,16 @@
-use lib.Dec.{eqb}
-use Rattle.laws.specs.List.{every_not, is_zero_of}
-use borrow.Author.Count.{below_more}
-use borrow.Author.Tests.{ne_eqb}
-use Rattle.meaning.specs.List.{at}
-use native.Mathlib.Omega.{arith}
-use mathlib.Core.Path.{sym}
+use Rattle.std.proofs.Common.{◌≡◌, Bool, List, [], ◌∷◌, ◌&&◌, eqb, sym, ap, ◌∙◌, rules, tests}
+use Rattle.std.specs.List.{list_all}
+use Rattle.std.proofs.lemmas.Iterator.{YieldsList-from_slice}
+use Rattle.std.proofs.lemmas.Iterator.Search.{all_from_yields_List}
+use Rattle.meaning.specs.List.{every}
+use Rattle.laws.specs.List.{every_nil, every_cons}
 use Rattle.slices.proofs.is_zero.Goals as goal
 
-pub loop-i-init : goal.loop-i-init
-loop-i-init c = (omega arith, λ k l. absurd (omega (arith, l)))
-
-pub returns-then-v-i-ne0 : goal.returns-then-v-i-ne0
-returns-then-v-i-ne0 c =
-    let v = c.args.v.now in
-    sym (every_not (λ a. eqb a 0) v 0 c.loop-i.i c.loop-i-test.true (ne_eqb (at v c.loop-i.i) 0 c.if-v-i-ne0.true))
-
-pub loop-i-preserved : goal.loop-i-preserved
-loop-i-preserved c =
-    let v = c.args.v.now in
-    (omega (arith, c.loop-i-test.true), below_more _ _ c.loop-i.invariant.1 c.if-v-i-ne0.false)
+same : {A : Type 0} (f : A → Bool) (l : List A) → list_all f l ≡ every f l
+same f [] = sym (every_nil f)
+same f (a ∷ l) = ap (λ b. f a && b) (same f l) ∙ sym (every_cons f a l)
 
 pub returns : goal.returns
 returns c =
-    let v = c.args.v.now in
-    sym (is_zero_of v (λ k l. c.loop-i.invariant.1 k (omega (arith, l, c.loop-i-test.false, c.loop-i.invariant.0))))
+    all_from_yields_List (λ a. eqb a 0) _ _ _ c.all.ensures.ran (YieldsList-from_slice c.args.v.now cc)
+    (λ x b q k. search (rules, tests)) ∙ same (λ a. eqb a 0) c.args.v.now

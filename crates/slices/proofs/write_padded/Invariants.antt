@@ -1,11 +1,6 @@
 use Rattle.laws.specs.Written.{Written}
 use Rattle.meaning.specs.List.{at}
-use lib.ListN.{length}
-use Prim.Native.Nat.{◌-◌, ◌≤◌}
 use Rattle.slices.proofs.write_padded.Given as goal
 
 abbrev pub invariant-loop-i : goal.invariant-loop-i
-invariant-loop-i l = (l.i ≤ length l.initial.out) × Written l.initial.out 0 l.i (at l.source) l.out
-
-abbrev pub decreases-loop-i : goal.decreases-loop-i
-decreases-loop-i l = length l.initial.out - l.i
+invariant-loop-i l = Written l.initial.out 0 l.i (at l.source) l.out

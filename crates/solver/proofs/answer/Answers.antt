@@ -1,3 +1,4 @@
+use Rattle.solver.specs.System.{plain, operator, rows}
 use mathlib.Core.Path.{sym, ap, ◌∙◌, subst}
 use Prim.Native.Nat.{◌-◌}
 use lib.ListN.{length}
@@ -11,12 +12,12 @@ use Rattle.solver.proofs.answer.Goals as goal
 pub returns : goal.returns
 returns c =
     let a = c.args in
-    let system = c.requires.checked_system in
-    let n = length a.starts.now - 1 in
-    let X = a.scales.now in
+    let system = c.args.s.now.checked in
+    let n = rows a.s.now in
+    let X = a.s.now.scales.now in
     let y = c.finish-verdict.new.vector in
     let of = c.of in
-    let made = modular_of of.result a.field.p of.ensures system.valid.valid.positive system.valid.valid.small in
+    let made = modular_of of.result a.s.now.field.p of.ensures system.valid.valid.positive system.valid.valid.small in
     let ended = c.finish-verdict.ensures in
     record {
       y = y;

@@ -4,7 +4,8 @@ use Rattle.meaning.specs.List.{padded}
 use lib.ListN.{length}
 use native.Mathlib.Omega.{arith}
 use Prim.Native.Nat.{◌+◌, ◌-◌, ◌≤◌}
-use mathlib.Core.Path.{refl, ap, ◌∙◌}
+use mathlib.Core.Path.{ap, ◌∙◌}
+use Rattle.solver.proofs.Call.{none_of}
 use Rattle.solver.proofs.begin.Goals as goal
 
 pub returns : goal.returns
@@ -19,4 +20,4 @@ returns c =
     let done =
     begun a.work.now b from m c.write_padded.new.out place (omega arith) fits
     (c.write_padded.ensures ∙ ap (λ k. padded k b) (length_part from m a.work.now fits)) in
-    (refl, done.0, done.1)
+    (none_of c.default.ensures, done.0, done.1)

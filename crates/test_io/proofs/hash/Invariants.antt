@@ -1,10 +1,8 @@
--- What is left of the slice turns the hash so far into that of the whole.
-use Rattle.std.proofs.Common.{◌≡◌, ◌-◌, ◌≤◌, length, drop}
+-- The hash so far is that of the elements so far.
+use Rattle.std.proofs.Common.{◌≡◌, ℕ, List, take}
+use Rattle.std.specs.List.{AllZip}
 use Rattle.test_io.specs.Hash.{hash_from}
 use Rattle.test_io.proofs.hash.Given as goal
 
-abbrev pub invariant-loop-i : goal.invariant-loop-i
-invariant-loop-i l = (l.i ≤ length l.s) × (hash_from l.h (drop l.i l.s) ≡ hash_from 0 l.s)
-
-abbrev pub decreases-loop-i : goal.decreases-loop-i
-decreases-loop-i l = length l.s - l.i
+abbrev pub invariant-loop-x : goal.invariant-loop-x
+invariant-loop-x g l = (numbers : List ℕ) × AllZip g.T.Into.converts (take l.x-index l.s) numbers × (l.h ≡ hash_from 0 numbers)

@@ -1,8 +1,4 @@
-use mathlib.Core.Path.{ap, subst}
-use lib.ListN.{take}
-use Rattle.text_call.specs.Program.{Shown}
 use Rattle.text_call.proofs.Program.{printed_short_buffer, printed_over_read, printed_short_out, printed_shown}
-use Rattle.text_call.proofs.Parts.{whole}
 use Rattle.text_call.proofs.output.Goals as goal
 
 -- `text_call::output` meets its contract.
@@ -28,4 +24,4 @@ returns c =
     let out = a.out.now in
     let call = c.show in
     printed_shown buffer a.read out c.if-buffer-lt26625.false c.if-buffer-read.false c.if-out-lt7168.false call.result call.new.out
-    (subst (λ text. Shown text out call.result call.new.out) (ap (λ k. take k buffer) (whole a.read)) call.ensures)
+    call.ensures

@@ -7,7 +7,4 @@ use Rattle.transposed.proofs.scatter.Given as goal
 -- the loop's invariant: out has the entries passed added at their columns.
 abbrev pub invariant-loop-k : goal.invariant-loop-k
 invariant-loop-k l =
-    (l.from ≤ l.k) × (l.k ≤ l.to) × (l.out ≡ scattered l.m.p (get_or l.v l.i 0) l.from l.k l.columns l.values l.initial.out)
-
-abbrev pub decreases-loop-k : goal.decreases-loop-k
-decreases-loop-k l = l.to - l.k
+    l.out ≡ scattered l.m.p (get_or l.v l.i 0) l.from l.k l.columns l.values l.initial.out

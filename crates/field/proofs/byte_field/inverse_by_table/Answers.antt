@@ -15,4 +15,4 @@ returns-then-element-eq0 c =
 pub returns : goal.returns
 returns c =
     let a = c.args.a in
-    c.wide.ensures ∙ c.byte_inverses-table.ensures.agrees (a % 251) (omega (arith, c.if-element-eq0.false)) (mod-lt a (omega arith)) ∙ inverse_mod 251 a
+    c.from.ensures ∙ c.byte_inverses-table.ensures.agrees (a % 251) (omega (arith, c.if-element-eq0.false)) (mod-lt a (omega arith)) ∙ inverse_mod 251 a

@@ -1,4 +1,4 @@
 use Rattle.host.proofs.elements.filzeur_product_of.Goals as goal
 
 pub returns : goal.returns
-returns c = c.numbers_of.ensures _ _ c.product.ensures
+returns c = c.from.ensures _ _ c.product.ensures

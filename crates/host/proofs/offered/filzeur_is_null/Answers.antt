@@ -9,6 +9,6 @@ pub returns : goal.returns
 returns c =
     let a = c.args in
     let A = matrix a.starts.now a.columns.now a.values.now in
-    let e = c.numbers_of.ensures _ _ _ c.is_null.ensures in
+    let e = c.from.ensures _ _ _ c.is_null.ensures in
     let by_entry = subst (λ (x : Yes). x.multiplied ≡ unless_refused x.refusal (entry_count A) 0) (sym e) (is_null_by_entry a.p A a.w.now) in
     record { value = e; multiplied_value = by_entry }

@@ -5,17 +5,16 @@ use Rattle.meaning.specs.Recurrence.{IsShortest}
 use Rattle.meaning.specs.Calls.{recurrence_refusal, recurrence_answer}
 use Rattle.recurrence.specs.Recurrence.{GivesDegree}
 use Rattle.host.specs.declared.recurrences.Degree.{Degree}
-use Rattle.host.proofs.Laid.{degree_answered}
+use Rattle.host.proofs.Laid.{degree_answered, degree_low}
 use Rattle.host.proofs.Small.{degree_small}
 use Rattle.host.proofs.recurrences.filzeur_recurrence.Goals as goal
 
 pub numbers_of-requires : goal.numbers_of-requires
-numbers_of-requires c L r =
+numbers_of-requires c =
     let at = c.args in
-    let number = recurrence_refusal at.p at.s.now at.polynomial.now at.work.now in
-    let answer = recurrence_answer at.p at.s.now at.polynomial.now at.work.now in
-    let e = subst (λ a. GivesDegree a number answer) r c.recurrence.ensures.gives in
-    subst (λ k. k ≤ 8192) e.1 (degree_small at.p at.s.now at.polynomial.now at.work.now e.0)
+    degree_low c.recurrence.result (recurrence_refusal at.p at.s.now at.polynomial.now at.work.now)
+    (recurrence_answer at.p at.s.now at.polynomial.now at.work.now) c.recurrence.ensures.gives
+    (degree_small at.p at.s.now at.polynomial.now at.work.now)
 
 pub returns : goal.returns
 returns c =

@@ -6,7 +6,7 @@ pub returns : goal.returns
 returns c =
     let done = c.read.ensures in
     record {
-      value = c.numbers_of_system.ensures ∙ system_same done.result_value done.result_value_2 done.result_value_3 done.result_value_4;
+      value = c.from.ensures ∙ system_same done.refusal done.modulus done.size done.entries;
       starts_after = done.starts_after;
       columns_after = done.columns_after;
       values_after = done.values_after;

@@ -17,12 +17,6 @@ meeting c =
       end = elim c.if-k-d.branch [ then-k-d w ↦ inl (omega arith) | else-k-d w ↦ inr (omega arith) ];
     }
 
-pub overflow_add-to : goal.overflow_add-to
-overflow_add-to c = omega (arith, c.requires.1.few, c.if-k-d.true)
-
-pub overflow_add-to-else-k-d : goal.overflow_add-to-else-k-d
-overflow_add-to-else-k-d c = omega (arith, c.requires.1.few)
-
 pub crossed-requires : goal.crossed-requires
 crossed-requires c = let pre = c.requires in crossing pre.1 (meeting (goal.at.crossed-requires c).Joined-k-d) pre.0.small
 

@@ -1,27 +1,8 @@
-use Rattle.recurrence.specs.Factor.{product_at, Descending, descending_none, descending_factors, descending_same, descending_more, descending_all}
+use Rattle.recurrence.specs.Factor.{product_at, Descending, descending_same, descending_more, descending_all}
 use native.Mathlib.Omega.{arith}
 use Prim.Native.Nat.{◌+◌, ◌-◌, ◌≤◌}
 use mathlib.Core.Path.{◌≡◌, ◌∙◌, subst}
 use Rattle.recurrence.proofs.factor.multiply_within.Goals as goal
-
-pub loop-k-init : goal.loop-k-init
-loop-k-init c =
-    let a = c.args in
-    (omega arith, descending_none a.m.p a.work.now a.d a.f a.t)
-
-pub coefficient-requires : goal.coefficient-requires
-coefficient-requires c =
-    let pre = c.requires in
-    let loop = c.loop-k in
-    (pre.0, descending_factors pre.0.positive pre.1 loop.invariant.1, omega (arith, loop.invariant.0, c.loop-k-test.true))
-
-pub bounds-work-k : goal.bounds-work-k
-bounds-work-k c =
-    let pre = c.requires in
-    omega (arith, pre.1.below, pre.1.room, c.loop-k.invariant.0, c.loop-k.invariant.1.same_length, c.loop-k-test.true)
-
-pub loop-k-smaller : goal.loop-k-smaller
-loop-k-smaller c = omega (arith, c.loop-k-test.true)
 
 pub loop-k-preserved : goal.loop-k-preserved
 loop-k-preserved c =
@@ -37,9 +18,6 @@ loop-k-preserved c =
       descending_more c.coefficient.result held inside (omega (arith, inside, pre.1.below, pre.1.room))
           (◌∙◌ {b = product_at a.m.p loop.work a.d a.f a.t k} c.coefficient.ensures (descending_same k held pre.1)),
     )
-
-pub shape_of-work : goal.shape_of-work
-shape_of-work c = c.loop-k.invariant.1.same_length
 
 pub returns : goal.returns
 returns c =

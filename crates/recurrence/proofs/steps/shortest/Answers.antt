@@ -10,10 +10,6 @@ use Rattle.recurrence.proofs.HoldsGenerator.{holds_generator}
 use Rattle.recurrence.proofs.steps.shortest.Goals.{After-make_steps-c}
 use Rattle.recurrence.proofs.steps.shortest.Goals as goal
 
--- `recurrence::steps::shortest` meets its contract: the steps for 1 to `count` follow document 01's from its start.
-pub start-fresh-requires : goal.start-fresh-requires
-start-fresh-requires c = first_terms 0 (omega arith) c.requires.0
-
 pub make_steps-c-requires : goal.make_steps-c-requires
 make_steps-c-requires c =
     let ready = c.requires.0 in
@@ -43,23 +39,11 @@ fits c =
     let ready = c.requires.0 in
     (follows_within ready.two (followed c), omega (arith, ready.room, (stays c).same_length))
 
-pub overflow_add-end : goal.overflow_add-end
-overflow_add-end c = let known = fits (goal.at.overflow_add-end c).After-make_steps-c in omega (arith, known.0, known.1)
-
-pub overflow_add-end-2 : goal.overflow_add-end-2
-overflow_add-end-2 c = let known = fits (goal.at.overflow_add-end-2 c).After-make_steps-c in omega (arith, known.0, known.1)
-
-pub slice_bounds-reverse-start : goal.slice_bounds-reverse-start
-slice_bounds-reverse-start c = let known = fits (goal.at.slice_bounds-reverse-start c).After-make_steps-c in omega (arith, known.0, known.1)
-
-pub slice_bounds-reverse-end : goal.slice_bounds-reverse-end
-slice_bounds-reverse-end c = let known = fits (goal.at.slice_bounds-reverse-end c).After-make_steps-c in omega (arith, known.0, known.1)
-
 pub returns : goal.returns
 returns c =
     let q = c.args.count + 2 in
     let L = c.make_steps-c.result.L in
-    let n : q + (L + 1) - q ≡ L + 1 = omega arith in
+    let n : q + L + 1 - q ≡ L + 1 = omega arith in
     let known = fits (goal.at.returns c).After-make_steps-c in
     holds_generator c.make_steps-c.result c.requires.0 refl (followed (goal.at.returns c).After-make_steps-c) (stays (goal.at.returns c).After-make_steps-c)
-    (reversed_lent c.make_steps-c.new.work q L (q + (L + 1) - q) _ n (omega (arith, known.0, known.1)) c.reverse.ensures)
+    (reversed_lent c.make_steps-c.new.work q L (q + L + 1 - q) _ n (omega (arith, known.0, known.1)) c.reverse.ensures)

@@ -1,11 +1,9 @@
 use mathlib.Core.Path.{◌≡◌, refl, ◌∙◌}
-use mathlib.Core.Bool.{Bool, true, false}
 use Prim.Native.Nat.{ℕ, ◌%◌}
 use native.Mathlib.Omega.{arith}
 use Rattle.meaning.specs.Field.{times}
 use Rattle.modular.specs.Modulus.{product_of}
 use Rattle.modular.specs.Total.{number, residue_number}
-use Rattle.recurrence.specs.Convolution.{crossing_within}
 use Rattle.recurrence.proofs.Stepping as stepping
 use Rattle.recurrence.proofs.Stepping.{Kept}
 use Rattle.recurrence.proofs.steps.step.Goals.{After-product-quotient, After-residue-d, Joined-longer, then-longer, else-longer}
@@ -25,10 +23,6 @@ kept c =
       | else-longer w ↦ (_, stepping.kept_same w.work-is)
     ]
 
--- a test comes out one way
-one_way : {b : Bool} {A : Type 0} → b ≡ true → b ≡ false → A
-one_way {b} {A} t f = absurd (let z : ◌≡◌ {A = ℕ} 0 1 = cc in omega arith)
-
 -- the discrepancy
 found : (c : After-residue-d) → c.residue-d.result ≡ number c.crossed.result % c.args.m.p
 found c =
@@ -44,67 +38,16 @@ factor : (c : After-product-quotient)
 factor c =
     let d = c.residue-d in
     c.product-quotient.ensures
-    ∙ product_of c.args.m c.requires.1 d.result c.args.before.inverse d.type_inv (omega (arith, c.struct_known-2-1.given))
-
-pub overflow_add-before : goal.overflow_add-before
-overflow_add-before c =
-    let ask = c.requires.0 in
-    omega (arith, stepping.within ask, ask.first.high, ask.first.few)
-
-pub crossed-requires : goal.crossed-requires
-crossed-requires c = crossing_within 0 _ (stepping.crossing c.requires.0) (omega arith) (omega arith) (omega arith)
-
-pub overflow_add-after : goal.overflow_add-after
-overflow_add-after c =
-    let ask = c.requires.0 in
-    omega (arith, ask.sound.laid.short, ask.first.high, ask.first.few)
+    ∙ product_of c.args.m c.requires.1 d.result c.args.before.inverse d.type_inv (omega arith)
 
 pub returns-then-d-eq0 : goal.returns-then-d-eq0
 returns-then-d-eq0 c =
     stepping.after_zero c.requires.0 c.crossed.result c.residue-d.result c.crossed.ensures (found (goal.at.returns-then-d-eq0 c).After-residue-d) c.if-d-eq0.true
 
-pub overflow_mul-longer : goal.overflow_mul-longer
-overflow_mul-longer c =
-    let ask = c.requires.0 in
-    omega (arith, stepping.within ask, ask.first.high, ask.first.few)
-
-pub overflow_add-before-then-longer : goal.overflow_add-before-then-longer
-overflow_add-before-then-longer c =
-    let ask = c.requires.0 in
-    omega (arith, stepping.within ask, ask.first.high, ask.first.few)
-
-pub overflow_add-from : goal.overflow_add-from
-overflow_add-from c =
-    let ask = c.requires.0 in
-    omega (arith, ask.first.few)
-
-pub overflow_add-from-2 : goal.overflow_add-from-2
-overflow_add-from-2 c =
-    let ask = c.requires.0 in
-    omega (arith, ask.sound.laid.short, ask.first.high, ask.first.few)
-
 pub subtract-requires : goal.subtract-requires
 subtract-requires c =
     let s = stepping.subtracting c.requires.0 (kept (goal.at.subtract-requires c).Joined-longer).1 c.residue-d.result c.product-quotient.result (factor (goal.at.subtract-requires c).After-product-quotient) in
     record { factor_lt_p = (s.0, c.requires.1, s.1, s.2); by_index = s.3 }
-
-pub overflow_add-after-then-longer-2 : goal.overflow_add-after-then-longer-2
-overflow_add-after-then-longer-2 c =
-    let ask = c.requires.0 in
-    omega (arith, stepping.within ask, ask.first.high, ask.first.few)
-
-pub overflow_sub-after : goal.overflow_sub-after
-overflow_sub-after c =
-    let ask = c.requires.0 in
-    omega (arith, stepping.within ask)
-
-pub overflow_add-after-else-longer-2 : goal.overflow_add-after-else-longer-2
-overflow_add-after-else-longer-2 c =
-    let ask = c.requires.0 in
-    omega (arith, ask.sound.laid.short, ask.first.high, ask.first.few)
-
-pub shape_of-work-then-longer-2 : goal.shape_of-work-then-longer-2
-shape_of-work-then-longer-2 c = c.subtract.ensures.same_length ∙ (kept (goal.at.shape_of-work-then-longer-2 c).Joined-longer).1.copied.same_length
 
 pub returns-then-longer-2 : goal.returns-then-longer-2
 returns-then-longer-2 c =
@@ -116,9 +59,6 @@ returns-then-longer-2 c =
           c.inverse_modulo.result c.inverse_modulo.ensures
       | else-longer w ↦ absurd (omega arith)
     ]
-
-pub shape_of-work-else-longer-2 : goal.shape_of-work-else-longer-2
-shape_of-work-else-longer-2 c = c.subtract.ensures.same_length ∙ (kept (goal.at.shape_of-work-else-longer-2 c).Joined-longer).1.copied.same_length
 
 pub returns-else-longer-2 : goal.returns-else-longer-2
 returns-else-longer-2 c =

@@ -1,4 +1,3 @@
-use Prim.Native.Nat.{◌-◌}
 use Rattle.system_reader.proofs.Filling.{EntriesFilled}
 use Rattle.system_reader.proofs.fill.fill_entries.Given as goal
 
@@ -6,6 +5,3 @@ use Rattle.system_reader.proofs.fill.fill_entries.Given as goal
 abbrev pub invariant-loop-k : goal.invariant-loop-k
 invariant-loop-k l =
     EntriesFilled l.text l.from l.count l.n l.initial.starts l.initial.columns l.initial.values l.starts l.columns l.values l.at l.above l.k
-
-abbrev pub decreases-loop-k : goal.decreases-loop-k
-decreases-loop-k l = l.count - l.k

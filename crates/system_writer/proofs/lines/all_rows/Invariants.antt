@@ -1,14 +1,9 @@
-use Prim.Native.Nat.{◌-◌, ◌≤◌}
 use Rattle.meaning.specs.List.{flat, table}
-use Rattle.meaning.specs.Matrix.{matrix}
 use Rattle.meaning.specs.Text.{write_row}
 use Rattle.line_writer.specs.Written.{Wrote}
+use Rattle.checks.specs.Slices.{matrix_of}
 use Rattle.system_writer.proofs.lines.all_rows.Given as goal
 
 -- `lines::all_rows` meets its contract. The invariant: the lines of the rows below i are written.
 abbrev pub invariant-loop-i : goal.invariant-loop-i
-invariant-loop-i l =
-    (l.i ≤ l.n) × Wrote l.initial.out l.at (flat (table l.i (write_row (matrix l.starts l.columns l.values)))) l.next l.out
-
-abbrev pub decreases-loop-i : goal.decreases-loop-i
-decreases-loop-i l = l.n - l.i
+invariant-loop-i l = Wrote l.initial.out l.at (flat (table l.i (write_row (matrix_of l.a)))) l.next l.out

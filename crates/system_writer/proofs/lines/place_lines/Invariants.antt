@@ -1,5 +1,4 @@
-use Prim.Native.Nat.{◌-◌, ◌≤◌}
-use lib.ListN.{length}
+use Prim.Native.Nat.{◌≤◌}
 use Rattle.meaning.specs.List.{flat, table}
 use Rattle.line_writer.specs.Written.{last, Wrote}
 use Rattle.system_writer.specs.Writes.{place_line}
@@ -8,7 +7,4 @@ use Rattle.system_writer.proofs.lines.place_lines.Given as goal
 -- `lines::place_lines` meets its contract. The invariant: the lines of the elements below i are written.
 abbrev pub invariant-loop-i : goal.invariant-loop-i
 invariant-loop-i l =
-    (l.i ≤ length l.v) × (l.next ≤ last) × Wrote l.initial.out l.at (flat (table l.i (place_line l.letter l.v))) l.next l.out
-
-abbrev pub decreases-loop-i : goal.decreases-loop-i
-decreases-loop-i l = length l.v - l.i
+    (l.next ≤ last) × Wrote l.initial.out l.at (flat (table l.i (place_line l.letter l.v))) l.next l.out

@@ -1,11 +1,7 @@
-use Prim.Native.Nat.{◌-◌, ◌≤◌}
 use Rattle.line_writer.specs.Written.{Wrote}
 use Rattle.text_call.specs.AnswerText.{element_lines}
 use Rattle.text_call.proofs.answer.put_elements.Given as goal
 
 -- `answer::put_elements` meets its contract. The invariant: the lines of the first i elements are written.
 abbrev pub invariant-loop-i : goal.invariant-loop-i
-invariant-loop-i l = (l.i ≤ l.n) × Wrote l.initial.out l.at (element_lines l.word l.first l.elements l.i) l.next l.out
-
-abbrev pub decreases-loop-i : goal.decreases-loop-i
-decreases-loop-i l = l.n - l.i
+invariant-loop-i l = Wrote l.initial.out l.at (element_lines l.word l.first l.elements l.i) l.next l.out

@@ -1,11 +1,7 @@
-use Prim.Native.Nat.{◌-◌, ◌≤◌}
 use Rattle.line_writer.specs.Written.{Wrote}
 use Rattle.text_call.specs.AnswerText.{bill_lines}
 use Rattle.text_call.proofs.answer.put_passes.Given as goal
 
 -- `answer::put_passes` meets its contract. The invariant: the lines of the first i passes are written.
 abbrev pub invariant-loop-i : goal.invariant-loop-i
-invariant-loop-i l = (l.i ≤ l.passes) × Wrote l.initial.out l.at (bill_lines l.bill l.i) l.next l.out
-
-abbrev pub decreases-loop-i : goal.decreases-loop-i
-decreases-loop-i l = l.passes - l.i
+invariant-loop-i l = Wrote l.initial.out l.at (bill_lines l.bill l.i) l.next l.out

@@ -1,77 +1,39 @@
-use mathlib.Core.Path.{◌∙◌, ap}
-use Prim.Native.Nat.{◌+◌, ◌-◌}
-use lib.ListN.{take}
+use mathlib.Core.Path.{refl, ap₂, ◌∙◌}
+use Prim.Native.Nat.{◌-◌}
+use native.Mathlib.Omega.{arith}
+use lib.Seq.{take_at, length-take-le}
 use Rattle.line_writer.specs.Written.{wrote_as}
-use Rattle.text_call.specs.Loaded.{ran_answer}
-use Rattle.text_call.proofs.Parts.{none_fits, low, whole}
+use Rattle.text_call.specs.Loaded.{verdict_text, taken_starts, never_refused, taken_solved}
 use Rattle.text_call.proofs.call.put_solved.Goals as goal
 
 -- `call::put_solved` meets its contract: the run, and then its text.
-pub run-verdict-requires : goal.run-verdict-requires
-run-verdict-requires c =
-    let both =
-    c.requires
-    in record { loaded = both.loaded; vector_len = both.vector_len }
+pub overflow_sub-n : goal.overflow_sub-n
+overflow_sub-n c = omega (arith, taken_starts _ _ _ _ c.requires)
 
-pub offset_bounds-polynomial-z : goal.offset_bounds-polynomial-z
-offset_bounds-polynomial-z c = none_fits
-
-pub slice_bounds-put_verdict-count : goal.slice_bounds-put_verdict-count
-slice_bounds-put_verdict-count c = low _
-
-pub slice_bounds-put_verdict-start : goal.slice_bounds-put_verdict-start
-slice_bounds-put_verdict-start c = low _
-
-pub offset_bounds-vector-z : goal.offset_bounds-vector-z
-offset_bounds-vector-z c = none_fits
-
-pub slice_bounds-put_verdict-count-2 : goal.slice_bounds-put_verdict-count-2
-slice_bounds-put_verdict-count-2 c = low _
-
-pub slice_bounds-put_verdict-start-2 : goal.slice_bounds-put_verdict-start-2
-slice_bounds-put_verdict-start-2 c = low _
+pub returns-in_err-verdict : goal.returns-in_err-verdict
+returns-in_err-verdict c =
+    let m = taken_starts _ _ _ _ c.requires in
+    absurd
+    (never_refused _ _ _ _ c.requires _ _ _
+    (length-take-le _ _ (omega (arith, c.requires.rows)))
+    (length-take-le _ _ (omega (arith, c.requires.rows, m)) ∙ m)
+    refl c.in_err-verdict.ensures)
 
 pub put_verdict-requires : goal.put_verdict-requires
 put_verdict-requires c =
-    let a = c.args in
-    let n = a.n in
-    let polynomial = c.run-verdict.new.polynomial in
-    let vector = c.run-verdict.new.vector in
-    let bill = c.run-verdict.new.bill in
-    let m = whole (n + 1) in
-    let k = whole n in
-    let text =
-    ran_answer a.p n a.count a.starts.now a.columns.now a.values.now a.scales.now a.right.now c.requires.loaded c.run-verdict.result vector polynomial bill c.run-verdict.ensures
-    (take (n + 1 - 0) polynomial) (take (n - 0) vector) (ap (λ i. take i polynomial) m) (ap (λ i. take i vector) k)
-    (c.run-verdict.auto.bill ∙ c.requires.vector_len.2) in
-    (text.0, text.1)
+    let m = taken_starts _ _ _ _ c.requires in
+    let lv = length-take-le _ _ (omega (arith, c.requires.rows)) in
+    let lf = length-take-le _ _ (omega (arith, c.requires.rows, m)) in
+    let all = taken_solved _ _ _ _ c.requires _ _ _ lv (lf ∙ m) refl refl c.solve.auto.bill c.in_ok-verdict.ensures in
+    (rw (take_at c.solve.new.polynomial _ _ (c.solve.auto.polynomial ∙ lf)) all.0, all.1)
 
-pub shape_of-answer : goal.shape_of-answer
-shape_of-answer c = c.put_verdict.auto.answer
-
-pub shape_of-vector : goal.shape_of-vector
-shape_of-vector c = c.run-verdict.auto.vector
-
-pub shape_of-polynomial : goal.shape_of-polynomial
-shape_of-polynomial c = c.run-verdict.auto.polynomial
-
-pub shape_of-bill : goal.shape_of-bill
-shape_of-bill c = c.run-verdict.auto.bill
-
-pub shape_of-work : goal.shape_of-work
-shape_of-work c = c.run-verdict.auto.work
-
-pub returns : goal.returns
-returns c =
-    let a = c.args in
-    let n = a.n in
-    let polynomial = c.run-verdict.new.polynomial in
-    let vector = c.run-verdict.new.vector in
-    let bill = c.run-verdict.new.bill in
-    let m = whole (n + 1) in
-    let k = whole n in
-    let text =
-    ran_answer a.p n a.count a.starts.now a.columns.now a.values.now a.scales.now a.right.now c.requires.loaded c.run-verdict.result vector polynomial bill c.run-verdict.ensures
-    (take (n + 1 - 0) polynomial) (take (n - 0) vector) (ap (λ i. take i polynomial) m) (ap (λ i. take i vector) k)
-    (c.run-verdict.auto.bill ∙ c.requires.vector_len.2) in
-    wrote_as text.2 c.put_verdict.ensures
+pub returns-clause-text : goal.returns-clause-text
+returns-clause-text c =
+    let m = taken_starts _ _ _ _ c.requires in
+    let lv = length-take-le _ _ (omega (arith, c.requires.rows)) in
+    let lf = length-take-le _ _ (omega (arith, c.requires.rows, m)) in
+    let all = taken_solved _ _ _ _ c.requires _ _ _ lv (lf ∙ m) refl refl c.solve.auto.bill c.in_ok-verdict.ensures in
+    wrote_as
+    (ap₂ (verdict_text c.in_ok-verdict.verdict c.solve.new.bill) (take_at c.solve.new.polynomial _ _ (c.solve.auto.polynomial ∙ lf)) (take_at c.solve.new.vector _ _ (c.solve.auto.vector ∙ lv))
+    ∙ all.2)
+    c.put_verdict.ensures

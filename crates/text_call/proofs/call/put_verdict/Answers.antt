@@ -1,8 +1,8 @@
 use mathlib.Core.Path.{ap}
 use native.Mathlib.Omega.{arith}
 use Rattle.meaning.specs.List.{bytes}
-use Rattle.line_writer.specs.Written.{wrote_as, wrote_none}
-use Rattle.text_call.specs.Loaded.{degree_of, passes_of, verdict_solved, verdict_singular, verdict_refused}
+use Rattle.line_writer.specs.Written.{wrote_as}
+use Rattle.text_call.specs.Loaded.{degree_of, passes_of, verdict_solved, verdict_singular}
 use Rattle.text_call.proofs.call.put_verdict.Goals as goal
 
 pub put_answer-requires : goal.put_answer-requires
@@ -18,7 +18,7 @@ pub returns-in-Solved : goal.returns-in-Solved
 unfolding bytes
 returns-in-Solved c =
     let a = c.args in
-    wrote_as (verdict_solved a.bill.now a.polynomial.now a.vector.now a.verdict c.in-Solved.c c.in-Solved.is) c.put_answer.ensures
+    wrote_as (verdict_solved a.found.now.bill.now a.found.now.polynomial.now a.found.now.vector.now a.verdict c.in-Solved.c c.in-Solved.is) c.put_answer.ensures
 
 pub shape_of-answer-in-Singular : goal.shape_of-answer-in-Singular
 shape_of-answer-in-Singular c = c.put_answer-in-Singular.auto.out
@@ -27,10 +27,4 @@ pub returns-in-Singular : goal.returns-in-Singular
 unfolding bytes
 returns-in-Singular c =
     let a = c.args in
-    wrote_as (verdict_singular a.bill.now a.polynomial.now a.vector.now a.verdict c.in-Singular.c c.in-Singular.is) c.put_answer-in-Singular.ensures
-
-pub returns-in-Refused : goal.returns-in-Refused
-returns-in-Refused c =
-    let a = c.args in
-    wrote_as (verdict_refused a.bill.now a.polynomial.now a.vector.now a.verdict c.in-Refused.field-0 c.in-Refused.is)
-    (wrote_none a.answer.now 0 (omega arith))
+    wrote_as (verdict_singular a.found.now.bill.now a.found.now.polynomial.now a.found.now.vector.now a.verdict c.in-Singular.c c.in-Singular.is) c.put_answer-in-Singular.ensures

@@ -1,58 +1,33 @@
-use mathlib.Core.Path.{◌≡◌, sym, ◌∙◌, subst}
-use lib.ListN.{length}
-use Prim.Native.Nat.{◌-◌}
-use Rattle.meaning.specs.Matrix.{matrix, product}
+use Rattle.std.proofs.Common.{◌-◌, length, sym, ◌∙◌, subst}
+use Rattle.meaning.specs.Matrix.{product}
 use Rattle.meaning.specs.Calls.{product_refusal}
-use Rattle.checks.specs.Matrix.{Accepted, product_accepted}
-use Rattle.checks.specs.Answers.{writes_refused, writes_done}
+use Rattle.laws.specs.Refusal.{unless_refused_none}
+use Rattle.checks.specs.Slices.{matrix_of}
+use Rattle.checks.specs.Matrix.{product_accepted}
+use Rattle.checks.specs.Valid.{Vector, valid_plain}
+use Rattle.wiedemann.specs.Operator.{made}
 use Rattle.wiedemann.specs.Horner.{step_made}
-use Rattle.modular.specs.Modulus.{Modular, modular_of}
-use Rattle.wiedemann.proofs.matrix.product.Goals.{After-of, Else-number-ne0}
 use Rattle.wiedemann.proofs.matrix.product.Goals as goal
 
-none : (c : Else-number-ne0)
-    → let at = c.args in
-    product_refusal at.field.p (matrix at.starts.now at.columns.now at.values.now) at.v.now at.out.now ≡ 0
-none c = sym c.product_refusal-number.ensures ∙ c.if-number-ne0.false
+pub invariant_of-plain : goal.invariant_of-plain
+invariant_of-plain c =
+    let known = (product_accepted _ _ _ _ (sym c.in_ok-check_product.ensures)).0 in
+    let m = made c.of.ensures known.prime (valid_plain known.valid) in
+    record { prime = m.prime; modular = m.modular; valid = m.valid }
 
-accepted : (c : Else-number-ne0)
-    → let at = c.args in
-    Accepted at.field.p (matrix at.starts.now at.columns.now at.values.now) at.v.now × (length at.out.now ≡ length at.starts.now - 1)
-accepted c =
-    let at = c.args in
-    product_accepted at.field.p (matrix at.starts.now at.columns.now at.values.now) at.v.now at.out.now (none c)
+pub step-requires : goal.step-requires
+step-requires c =
+    let a = c.args in
+    let known = product_accepted _ _ _ _ (sym c.in_ok-check_product.ensures) in
+    let m = made c.of.ensures known.0.prime (valid_plain known.0.valid) in
+    (known.1, known.0.vector.places, subst (λ p. Vector p (length a.a.now.starts.now - 1) a.v.now) (sym m.same) known.0.vector)
 
--- the modulus that was made
-modulus : (c : After-of) → (c.of.result.p ≡ c.args.field.p) × Modular c.of.result
-modulus c =
-    let known = ((let at = c.args in product_accepted at.field.p (matrix at.starts.now at.columns.now at.values.now) at.v.now at.out.now ((sym c.product_refusal-number.ensures ∙ c.if-number-ne0.false)))).0.valid in
-    modular_of c.of.result c.args.field.p c.of.ensures known.positive known.small
-
-pub returns-then-number-ne0 : goal.returns-then-number-ne0
-returns-then-number-ne0 c =
-    let both =
-    let at = c.args in
-    let A = matrix at.starts.now at.columns.now at.values.now in
-    let number = c.product_refusal-number in
-    writes_refused number.result (product_refusal at.field.p A at.v.now at.out.now) (product at.field.p A at.v.now) at.out.now
-    number.ensures c.if-number-ne0.true
-    in record { writes = both.0; out_after = both.1 }
-
-pub step-done-requires : goal.step-done-requires
-step-done-requires c =
-    let at = c.args in
-    let made = modulus (goal.at.step-done-requires c).After-of in
-    let size = (accepted (goal.at.step-done-requires c).Else-number-ne0).1 in
-    let known = subst (λ p. Accepted p (matrix at.starts.now at.columns.now at.values.now) at.v.now) (sym made.0) (accepted (goal.at.step-done-requires c).Else-number-ne0).0 in
-    record { valid = known.valid; modular = (made.1, size, known.vector.places, known.vector) }
-
-pub returns : goal.returns
-returns c =
-    let both =
-    let at = c.args in
-    let A = matrix at.starts.now at.columns.now at.values.now in
-    let left = c.step-done.new.out in
-    writes_done (product_refusal at.field.p A at.v.now at.out.now) (product at.field.p A at.v.now) at.out.now left
-    (none (goal.at.returns c).Else-number-ne0) c.step-done.ensures.0
-    (step_made at.field.p c.of.result.p (modulus (goal.at.returns c).After-of).0 A at.v.now at.v.now left c.step-done.ensures.1)
-    in record { writes = both.0; out_after = both.1 }
+pub returns-clause-out_after : goal.returns-clause-out_after
+returns-clause-out_after c =
+    let a = c.args in
+    let A = matrix_of a.a.now in
+    let zero = sym c.in_ok-check_product.ensures in
+    let known = (product_accepted _ _ _ _ zero).0 in
+    let m = made c.of.ensures known.prime (valid_plain known.valid) in
+    step_made a.field.p c.of.result.p m.same A a.v.now a.v.now c.step.new.out c.step.ensures.1
+    ∙ sym (unless_refused_none (product_refusal a.field.p A a.v.now a.out.now) (product a.field.p A a.v.now) a.out.now zero)

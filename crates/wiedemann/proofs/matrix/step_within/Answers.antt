@@ -1,150 +1,79 @@
-use mathlib.Core.Path.{◌≡◌, sym, ap, ◌∙◌, subst}
-use Prim.Native.Nat.{◌+◌, ◌-◌, ◌*◌}
-use native.Mathlib.Nat.{add-sub_cancel_left, le-add_right}
-use native.Mathlib.Omega.{arith}
-use lib.ListN.{length, get_or}
-use Rattle.meaning.specs.Matrix.{matrix}
-use Rattle.checks.specs.Products.{product_ended, row_behind}
-use Rattle.checks.specs.Valid.{Entries, valid_entries}
-use Rattle.laws.specs.Written.{written_none, written_more, written_all}
+use Rattle.std.proofs.Common.{◌≡◌, ◌+◌, ◌-◌, ◌*◌, refl, sym, ap, ◌∙◌, subst, arith}
+use Rattle.meaning.specs.List.{at}
+use Rattle.laws.specs.Written.{written_more, written_all}
 use Rattle.laws.specs.Part.{part, apart_shorter, at_part, written_other_at, written_other}
+use Rattle.modular.specs.Total.{residue_number}
+use Rattle.checks.specs.Products.{product_ended, row_behind}
+use Rattle.checks.specs.Valid.{Entries, valid_entries, row_bounds}
+use Rattle.wiedemann.specs.Operator.{plain, rows}
 use Rattle.wiedemann.specs.Region.{vector_part}
 use Rattle.wiedemann.specs.Horner.{step_at, row_reduced}
-use Rattle.checks.specs.Valid.{row_bounds}
-use Rattle.modular.specs.Total.{residue_number}
 use Rattle.wiedemann.proofs.matrix.step_within.Goals.{At-loop-i}
 use Rattle.wiedemann.proofs.matrix.step_within.Goals as goal
 
 -- what was written leaves the part that is read
 source-kept : (c : At-loop-i)
-    → let at = c.args in
-    let n = length at.starts.now - 1 in
-    part at.source (at.source + n - at.source) c.loop-i.work ≡ part at.source n at.work.now
+    → let a = c.args in
+    let n = rows a.ax.now in
+    part a.source (a.source + n - a.source) c.loop-i.work ≡ part a.source n a.work.now
 source-kept c =
-    let at = c.args in
-    let n = length at.starts.now - 1 in
-    let known = c.requires.modular.1 in
+    let a = c.args in
+    let ax = a.ax.now in
+    let n = rows ax in
+    let known = c.requires in
     let loop = c.loop-i in
-    ap (λ k. part at.source k loop.work) (add-sub_cancel_left at.source n)
-    ∙ written_other {f = step_at at.m.p (matrix at.starts.now at.columns.now at.values.now) at.c (part at.origin n at.work.now) (part at.source n at.work.now)} at.source n known.source_fits (apart_shorter loop.i loop.invariant.0 known.source_apart) loop.invariant.2
-
-pub overflow_sub-n : goal.overflow_sub-n
-overflow_sub-n c = omega (arith, c.requires.valid.one_more)
-
-pub overflow_add-end : goal.overflow_add-end
-overflow_add-end c = omega (arith, c.requires.modular.1.source_fits, c.well_formed)
-
-pub bounds-starts-0 : goal.bounds-starts-0
-bounds-starts-0 c = omega (arith, c.requires.valid.one_more)
-
-pub loop-i-init : goal.loop-i-init
-loop-i-init c =
-    let at = c.args in
-    let W = at.work.now in
-    let n = length at.starts.now - 1 in (
-      omega arith,
-      c.wide-from.ensures.0,
-      written_none W at.target (step_at at.m.p (matrix at.starts.now at.columns.now at.values.now) at.c (part at.origin n W) (part at.source n W)),
-    )
-
-pub overflow_add-i : goal.overflow_add-i
-overflow_add-i c = omega (arith, c.loop-i-test.true, c.requires.valid.sized)
-
-pub offset_bounds-starts-i : goal.offset_bounds-starts-i
-offset_bounds-starts-i c = omega (arith, c.loop-i-test.true, c.requires.valid.sized)
-
-pub bounds-starts-i : goal.bounds-starts-i
-bounds-starts-i c = omega (arith, c.loop-i-test.true, c.requires.valid.one_more)
-
-pub overflow_add-origin : goal.overflow_add-origin
-overflow_add-origin c = omega (arith, c.loop-i-test.true, c.requires.modular.1.origin_fits, c.well_formed)
-
-pub offset_bounds-work-origin : goal.offset_bounds-work-origin
-offset_bounds-work-origin c = omega (arith, c.loop-i-test.true, c.requires.modular.1.origin_fits, c.well_formed)
-
-pub bounds-work-origin : goal.bounds-work-origin
-bounds-work-origin c = omega (arith, c.loop-i-test.true, c.requires.modular.1.origin_fits, c.loop-i.invariant.2.same_length)
-
-pub offset_bounds-work-source : goal.offset_bounds-work-source
-offset_bounds-work-source c = omega (arith, c.requires.modular.1.source_fits, c.well_formed)
-
-pub slice_bounds-row-count : goal.slice_bounds-row-count
-slice_bounds-row-count c = le-add_right c.args.source (length c.args.starts.now - 1)
-
-pub slice_bounds-row-start : goal.slice_bounds-row-start
-slice_bounds-row-start c = le-add_right c.args.source (length c.args.starts.now - 1)
-
-pub slice_bounds-row-end : goal.slice_bounds-row-end
-slice_bounds-row-end c = omega (arith, c.requires.modular.1.source_fits, c.loop-i.invariant.2.same_length)
+    ap (λ k. part a.source k loop.work) (omega arith)
+    ∙ written_other {f = step_at ax.m.p (plain ax) a.c (part a.origin n a.work.now) (part a.source n a.work.now)} a.source n known.source_fits (apart_shorter loop.i (omega arith) known.source_apart) loop.invariant.1
 
 pub row-requires : goal.row-requires
 row-requires c =
-    let at = c.args in
-    let A = matrix at.starts.now at.columns.now at.values.now in
-    let n = length at.starts.now - 1 in
-    let known = c.requires.modular.1 in
-    let loop = c.loop-i in
-    let to = c.wide-to in
-    let bounds = row_bounds A loop.i loop.from to.result loop.invariant.1 to.ensures.0 c.requires.valid (omega (arith, c.loop-i-test.true)) in (
-      subst (λ l. Entries at.columns.now at.values.now l) (sym (source-kept (goal.at.row-requires c).At-loop-i))
-          (valid_entries at.m.p A (part at.source n at.work.now) c.requires.valid
-          (vector_part at.m.p at.source n at.work.now known.source_fits known.elements)),
+    let a = c.args in
+    let ax = a.ax.now in
+    let A = plain ax in
+    let n = rows ax in
+    let valid = ax.valid.valid in
+    let known = c.requires in
+    let i = c.loop-i.i in
+    let bounds = row_bounds A i c.loop-i.from (at ax.a.now.starts.now (i + 1)) c.loop-i.invariant.0 refl valid (omega (arith, c.loop-i-test.true)) in (
+      subst (λ l. Entries ax.a.now.columns.now ax.a.now.values.now l) (sym (source-kept (goal.at.row-requires c).At-loop-i))
+          (valid_entries ax.m.p A (part a.source n a.work.now) valid (vector_part ax.m.p a.source n a.work.now known.source_fits known.elements)),
       bounds.0,
       bounds.1,
     )
 
-pub overflow_add-work : goal.overflow_add-work
-overflow_add-work c = omega (arith, c.loop-i-test.true, c.requires.modular.1.target_fits, c.well_formed)
-
-pub offset_bounds-work-target : goal.offset_bounds-work-target
-offset_bounds-work-target c = omega (arith, c.loop-i-test.true, c.requires.modular.1.target_fits, c.well_formed)
-
-pub bounds-work-target : goal.bounds-work-target
-bounds-work-target c = omega (arith, c.loop-i-test.true, c.requires.modular.1.target_fits, c.loop-i.invariant.2.same_length)
-
-pub overflow_add-i-in-loop-i : goal.overflow_add-i-in-loop-i
-overflow_add-i-in-loop-i c = omega (arith, c.loop-i-test.true, c.requires.valid.sized)
-
-pub loop-i-smaller : goal.loop-i-smaller
-loop-i-smaller c = omega (arith, c.loop-i-test.true)
-
 pub loop-i-preserved : goal.loop-i-preserved
 loop-i-preserved c =
-    let at = c.args in
-    let A = matrix at.starts.now at.columns.now at.values.now in
-    let n = length at.starts.now - 1 in
-    let known = c.requires.modular.1 in
+    let a = c.args in
+    let ax = a.ax.now in
+    let A = plain ax in
+    let n = rows ax in
+    let known = c.requires in
     let loop = c.loop-i in
+    let i = loop.i in
     let test = c.loop-i-test.true in
-    let to = c.wide-to in
     let begun = c.times-start in
     let sum = c.row in
-    let W = at.work.now in
-    let i = loop.i in
-    let f = step_at at.m.p A at.c (part at.origin n W) (part at.source n W) in
-    let element : get_or loop.work (at.origin + i) 0 ≡ get_or (part at.origin n W) i 0 =
-    written_other_at {f = f} at.origin n i (apart_shorter i loop.invariant.0 known.origin_apart) test loop.invariant.2
-    ∙ sym (at_part at.origin n W i test) in (
-      omega (arith, test),
-      to.ensures.0,
-      written_more {f = f} c.residue.result loop.invariant.2 (omega (arith, test, known.target_fits))
-          (row_reduced A i loop.from to.result loop.invariant.1 to.ensures.0 at.m.p begun.result
-          (at.c * get_or (part at.origin n W) i 0) c.residue.result (part at.source (at.source + n - at.source) loop.work)
-          (part at.source n W) sum.result (begun.ensures ∙ ap (λ y. at.c * y) element) (source-kept (goal.at.loop-i-preserved c).At-loop-i)
-          sum.ensures.0 (c.residue.ensures ∙ residue_number at.m sum.result c.requires.modular.0 (omega (arith, sum.type_inv)) sum.ensures.1)),
+    let W = a.work.now in
+    let f = step_at ax.m.p A a.c (part a.origin n W) (part a.source n W) in
+    let element : at loop.work (a.origin + i) ≡ at (part a.origin n W) i =
+    written_other_at {f = f} a.origin n i (apart_shorter i (omega arith) known.origin_apart) test loop.invariant.1
+    ∙ sym (at_part a.origin n W i test) in (
+      refl,
+      written_more {f = f} c.residue.result loop.invariant.1 (omega (arith, test, known.target_fits))
+          (row_reduced A i loop.from (at ax.a.now.starts.now (i + 1)) loop.invariant.0 refl ax.m.p begun.result
+          (a.c * at (part a.origin n W) i) c.residue.result (part a.source (a.source + n - a.source) loop.work)
+          (part a.source n W) sum.result (begun.ensures ∙ ap (λ y. a.c * y) element) (source-kept (goal.at.loop-i-preserved c).At-loop-i)
+          sum.ensures.0 (c.residue.ensures ∙ residue_number ax.m sum.result ax.modular (omega (arith, sum.type_inv)) sum.ensures.1)),
     )
 
 pub entries_to-requires : goal.entries_to-requires
 entries_to-requires c =
-    let loop = c.loop-i in
-    let valid = c.requires.valid in
-    (omega (arith, valid.one_more), row_behind valid (omega (arith, loop.invariant.0)) loop.invariant.1)
-
-pub shape_of-work : goal.shape_of-work
-shape_of-work c = c.loop-i.invariant.2.same_length
+    let valid = c.args.ax.now.valid.valid in
+    (omega (arith, valid.one_more), row_behind valid (omega (arith, c.loop-i-test.false)) c.loop-i.invariant.0)
 
 pub returns : goal.returns
 returns c =
+    let ax = c.args.ax.now in
     let loop = c.loop-i in
-    let end : loop.i ≡ length c.args.starts.now - 1 = omega (arith, loop.invariant.0, c.loop-i-test.false) in
-    (product_ended c.requires.valid end loop.invariant.1 c.entries_to.ensures, written_all end loop.invariant.2)
+    let end : loop.i ≡ rows ax = omega (arith, c.loop-i-test.false) in
+    (product_ended ax.valid.valid end loop.invariant.0 c.entries_to.ensures, written_all end loop.invariant.1)

@@ -1,13 +1,9 @@
 use mathlib.Core.Path.{sym, ap, ◌∙◌}
-use native.Mathlib.Omega.{arith}
 use Rattle.wiedemann.specs.Turns.{region_at, region_first, region_odd, region_even}
 use Rattle.wiedemann.proofs.pass.region.Goals as goal
 
 pub returns-then-i-eq0 : goal.returns-then-i-eq0
 returns-then-i-eq0 c = let a = c.args in sym (ap (region_at a.n) c.if-i-eq0.true ∙ region_first a.n)
-
-pub overflow_mul-result : goal.overflow_mul-result
-overflow_mul-result c = omega (arith, c.requires)
 
 pub returns-then-i-eq1 : goal.returns-then-i-eq1
 returns-then-i-eq1 c = let a = c.args in sym (region_odd a.n a.i c.if-i-eq1.true)

@@ -1,107 +1,79 @@
 use mathlib.Core.Path.{◌≡◌, refl, sym, ap, ◌∙◌, subst}
-use mathlib.Core.List.{[]}
-use Prim.Native.Nat.{◌+◌, ◌-◌, ◌*◌}
+use Prim.Native.Nat.{◌+◌, ◌-◌, ◌*◌, ◌≤◌}
 use native.Mathlib.Omega.{arith}
-use lib.ListN.{length, get_or}
-use Rattle.meaning.specs.Matrix.{matrix, scaled}
-use Rattle.meaning.specs.Solver.{projections}
 use Rattle.checks.specs.Valid.{valid_scaled, Vector}
 use Rattle.residue.specs.Prime.{is_modulus_Prime}
 use Rattle.checks.specs.declared.Products.{Products}
 use Rattle.checks.specs.Products.{products_with, products_add, products_few}
+use Rattle.wiedemann.specs.Operator.{operator, rows, projection}
 use Rattle.wiedemann.specs.declared.pass.Pass.{Pass}
 use Rattle.wiedemann.specs.Window.{room_as, listening_low, listening_one, listened_all, unasked_none, finished}
-use Rattle.wiedemann.proofs.window.finish.Goals.{After-plus-first}
+use Rattle.wiedemann.proofs.window.finish.Goals.{After-listen-all, After-add}
 use Rattle.wiedemann.proofs.window.finish.Goals as goal
 
-pub listen-all-requires : goal.listen-all-requires
-listen-all-requires c =
-    let a = c.args in
-    let pre = c.requires in
-    let A = scaled a.m.p (matrix a.starts.now a.columns.now a.values.now) a.scales.now in
-    let n = length a.starts.now - 1 in
-    let u = get_or (projections a.m.p n a.words.now) a.u.index [] in
-    record { valid_scaled = pre.valid_scaled; modular = pre.modular; room = pre.room; listening = pre.listening; unasked = unasked_none a.m.p A a.left u _ _ }
+pub listen-all-requires-clause-unasked : goal.listen-all-requires-clause-unasked
+listen-all-requires-clause-unasked c =
+    let a = c.args in let o = a.ax.now in unasked_none o.m.p (operator o) a.left (projection o a.u.now) _ _
 
-pub overflow_sub-n : goal.overflow_sub-n
-overflow_sub-n c = omega (arith, c.requires.valid_scaled.0.valid.one_more)
+-- L is at most 2 × left
+short : (c : After-listen-all) → c.listen-all.result.steps.L ≤ 2 * c.args.left
+short c =
+    let l = c.listen-all.ensures.listening in
+    omega (arith, listening_low (is_modulus_Prime _ c.args.ax.now.prime) (room_as l.iterated.same_length c.requires.room.1) l, l.high)
 
 pub conclude-more-requires : goal.conclude-more-requires
 conclude-more-requires c =
-    let a = c.args in
     let pre = c.requires in
-    let A = scaled a.m.p (matrix a.starts.now a.columns.now a.values.now) a.scales.now in
-    let n = length a.starts.now - 1 in
-    let prime = is_modulus_Prime a.m.p pre.valid_scaled.1 in
-    let all = c.listen-all.ensures in
-    let held = all.listening.iterated in
-    let room = room_as held.same_length pre.room.0 in
-    let low = listening_low prime room all.listening in record {
-      valid_scaled = (pre.valid_scaled.0, pre.modular.0, omega (arith, low, all.listening.high, pre.modular.2));
-      starts_bound = (
+    let o = c.args.ax.now in
+    let l = c.listen-all.ensures.listening in
+    let room = room_as l.iterated.same_length pre.room.1 in
+    let low = short (goal.at.conclude-more-requires c).After-listen-all in
+    record {
+      degree = omega (arith, low, room.low);
+      leading = (
         omega arith,
-        omega (arith, room.room, low, all.listening.high),
+        omega (arith, room.room, low),
         omega (arith, room.sized, room.low),
-        listening_one prime room all.listening,
-        subst (Vector a.m.p n) (sym held.front) pre.room.1,
+        listening_one (is_modulus_Prime o.m.p o.prime) room l,
+        subst (Vector o.m.p (rows o)) (sym l.iterated.front) pre.room.2,
       );
     }
 
-pub plus-first-requires : goal.plus-first-requires
-plus-first-requires c =
-    let a = c.args in
+pub add-requires : goal.add-requires
+add-requires c =
     let pre = c.requires in
-    let A = scaled a.m.p (matrix a.starts.now a.columns.now a.values.now) a.scales.now in
-    let n = length a.starts.now - 1 in
-    let prime = is_modulus_Prime a.m.p pre.valid_scaled.1 in
-    let all = c.listen-all.ensures in (
-      products_few (valid_scaled _ pre.valid_scaled.0.valid) (omega (arith, all.listening.counted, all.listening.high, pre.modular.2)) all.listening.products,
-      products_few (valid_scaled _ pre.valid_scaled.0.valid) (omega (arith, pre.made_bound.0)) pre.made_bound.1,
-    )
+    let valid = valid_scaled _ c.args.ax.now.valid.valid in
+    let l = c.listen-all.ensures.listening in
+    (products_few valid (omega (arith, l.counted, l.high, pre.room.1.low)) l.products, products_few valid (omega (arith, pre.tried.0)) pre.tried.1)
 
 -- the products of the terms and of the test
-first : (c : After-plus-first)
+first : (c : After-add)
     → let a = c.args in
-    c.plus-first.result ≡ products_with (2 * a.left - 1 + a.tried.made) (scaled a.m.p (matrix a.starts.now a.columns.now a.values.now) a.scales.now)
+    c.add.result ≡ products_with (2 * a.left - 1 + a.tried.made) (operator a.ax.now)
 first c =
     let a = c.args in
-    let pre = c.requires in
-    let A = scaled a.m.p (matrix a.starts.now a.columns.now a.values.now) a.scales.now in
-    let n = length a.starts.now - 1 in
-    let prime = is_modulus_Prime a.m.p pre.valid_scaled.1 in
+    let A = operator a.ax.now in
     let all = c.listen-all.ensures in
-    let done = all.listening in
-    let made : c.listen-all.result.done.made ≡ 2 * a.left - 1 = omega (arith, done.counted, listened_all all) in
-    c.plus-first.ensures
+    let made : c.listen-all.result.done.made ≡ 2 * a.left - 1 = omega (arith, all.listening.counted, listened_all all) in
+    c.add.ensures
     ∙ products_add A (2 * a.left - 1) a.tried.made (2 * a.left - 1 + a.tried.made)
-    (done.products ∙ ap {B = Products} (λ j. products_with j A) made) pre.made_bound.1 refl
+    (all.listening.products ∙ ap {B = Products} (λ j. products_with j A) made) c.requires.tried.1 refl
 
-pub plus-done-requires : goal.plus-done-requires
-plus-done-requires c =
-    let a = c.args in
+pub add-done-requires : goal.add-done-requires
+add-done-requires c =
     let pre = c.requires in
-    let A = scaled a.m.p (matrix a.starts.now a.columns.now a.values.now) a.scales.now in
-    let n = length a.starts.now - 1 in
-    let prime = is_modulus_Prime a.m.p pre.valid_scaled.1 in
-    let all = c.listen-all.ensures in
-    let room = room_as all.listening.iterated.same_length pre.room.0 in
-    let low = listening_low prime room all.listening in (
-      products_few (valid_scaled _ pre.valid_scaled.0.valid) (omega (arith, pre.made_bound.0, pre.modular.2)) (first (goal.at.plus-done-requires c).After-plus-first),
-      products_few (valid_scaled _ pre.valid_scaled.0.valid) (omega (arith, low, all.listening.high, pre.modular.2)) c.conclude-more.ensures.0,
+    let valid = valid_scaled _ c.args.ax.now.valid.valid in (
+      products_few valid (omega (arith, pre.tried.0, pre.room.1.low)) (first (goal.at.add-done-requires c).After-add),
+      products_few valid (omega (arith, short (goal.at.add-done-requires c).After-listen-all, pre.room.1.low)) c.conclude-more.ensures.0,
     )
 
 pub returns : goal.returns
 returns c =
     let a = c.args in
-    let pre = c.requires in
-    let A = scaled a.m.p (matrix a.starts.now a.columns.now a.values.now) a.scales.now in
-    let n = length a.starts.now - 1 in
-    let prime = is_modulus_Prime a.m.p pre.valid_scaled.1 in
     let all = c.listen-all.ensures in
-    let L = all.listening in
     let t = c.listen-all.result.steps.L in
     let k = a.tried.made in
     let more = c.conclude-more.ensures in
-    finished k prime pre.room.0 all more.1 refl
+    finished k (is_modulus_Prime a.ax.now.m.p a.ax.now.prime) c.requires.room.1 all more.1 refl
     (ap {B = Pass} (λ (x : Products). record { left = a.left; degree = t; applications = x.made; multiplied = x.multiplied })
-    (c.plus-done.ensures ∙ products_add A (2 * a.left - 1 + k) t (2 * a.left - 1 + k + t) (first (goal.at.returns c).After-plus-first) more.0 refl))
+    (c.add-done.ensures ∙ products_add (operator a.ax.now) (2 * a.left - 1 + k) t (2 * a.left - 1 + k + t) (first (goal.at.returns c).After-add) more.0 refl))

@@ -1,17 +1,13 @@
 use Prim.Native.Nat.{◌-◌, ◌*◌}
-use lib.ListN.{length}
-use mathlib.Core.List.{[]}
-use lib.ListN.{get_or}
-use Rattle.meaning.specs.Matrix.{matrix, scaled}
-use Rattle.meaning.specs.Solver.{projections}
 use Rattle.laws.specs.Part.{part}
+use Rattle.wiedemann.specs.Operator.{operator, rows, projection}
 use Rattle.wiedemann.specs.Window.{Listening, Unasked}
 use Rattle.wiedemann.proofs.window.listen.Given as goal
 
-abbrev pub invariant-loop-m : goal.invariant-loop-m
-invariant-loop-m l =
-    Listening l.m.p (scaled l.m.p (matrix l.starts l.columns l.values) l.scales) l.left (get_or (projections l.m.p (length l.starts - 1) l.words) l.u.index []) l.initial.area l.heard l.area
-    × Unasked l.m.p (scaled l.m.p (matrix l.starts l.columns l.values) l.scales) l.left l.window (get_or (projections l.m.p (length l.starts - 1) l.words) l.u.index []) (part 0 (length l.starts - 1) l.initial.area) l.heard.terms
+abbrev pub invariant-loop-area : goal.invariant-loop-area
+invariant-loop-area l =
+    Listening l.ax.m.p (operator l.ax) l.left (projection l.ax l.u) l.initial.area l.heard l.area
+    × Unasked l.ax.m.p (operator l.ax) l.left l.window (projection l.ax l.u) (part 0 (rows l.ax) l.initial.area) l.heard.terms
 
-abbrev pub decreases-loop-m : goal.decreases-loop-m
-decreases-loop-m l = 2 * l.left - l.heard.terms
+abbrev pub decreases-loop-area : goal.decreases-loop-area
+decreases-loop-area l = 2 * l.left - l.heard.terms

@@ -1,33 +1,15 @@
-use mathlib.Core.Path.{◌≡◌, sym, ◌∙◌}
-use Prim.Native.Nat.{◌+◌, ◌-◌, ◌*◌, ◌≤◌}
-use native.Mathlib.Omega.{arith}
-use lib.ListN.{length}
-use Rattle.laws.specs.Part.{length_part}
-use Rattle.wiedemann.specs.Window.{step_lent, step_never}
-use Rattle.wiedemann.proofs.window.step.Goals.{In-Refused}
+use Rattle.wiedemann.specs.Operator.{rows}
+use Rattle.wiedemann.specs.Window.{never_refused, step_lent, step_never}
 use Rattle.wiedemann.proofs.window.step.Goals as goal
 
-pub returns-in-Made : goal.returns-in-Made
-returns-in-Made c =
+pub unwrap-requires : goal.unwrap-requires
+unwrap-requires c =
     let a = c.args in
-    let call = c.make_step-answer in
-    let W = a.area.now in
-    let m = 3 * a.n + (8 * a.left + 8) - 3 * a.n in
-    let size : m ≡ 8 * a.left + 8 = omega arith in
-    let fits : 3 * a.n + m ≤ length W = omega (arith, size, c.requires.1.room) in
-    step_lent a.m.p a.n a.left W m size fits _ (call.auto.work ∙ length_part (3 * a.n) m W fits) c.requires.2 call.ensures c.in-Made.is
+    let o = a.ax.now in
+    never_refused _ _ _ _ _ c.make_step.ensures (step_never o.m.p (rows o) a.left a.area.now c.requires.room o.prime c.requires.to_step)
 
--- it is never refused
-refused : (c : In-Refused) → ⊥
-refused c =
+pub returns : goal.returns
+returns c =
     let a = c.args in
-    let m = 3 * a.n + (8 * a.left + 8) - 3 * a.n in
-    let size : m ≡ 8 * a.left + 8 = omega arith in
-    let said = c.make_step-answer.ensures.refused _ c.in-Refused.is in
-    said.1 (sym said.0 ∙ step_never a.m.p a.n a.left a.area.now m size (omega (arith, size, c.requires.1.room)) c.requires.0 c.requires.1.low c.requires.2)
-
-pub shape_of-area-in-Refused : goal.shape_of-area-in-Refused
-shape_of-area-in-Refused c = absurd (refused (goal.at.shape_of-area-in-Refused c).In-Refused)
-
-pub returns-in-Refused : goal.returns-in-Refused
-returns-in-Refused c = absurd (refused (goal.at.returns-in-Refused c).In-Refused)
+    let o = a.ax.now in
+    step_lent o.m.p (rows o) a.left a.area.now c.requires.room _ c.make_step.auto.work c.requires.to_step c.make_step.ensures c.unwrap.ensures

@@ -6,16 +6,6 @@ use Rattle.modular.proofs.modulus.Modulus.of.Goals as goal
 weight : (p : ℕ) → 0 < p → p ≤ 4294967295 → (18446744073709551615 % p + 1) % p ≡ 18446744073709551616 % p % 4294967296
 weight p z l = mod-add-mod 18446744073709551615 p 1 ∙ sym (mod-eq_of_lt (omega (arith, mod-lt 18446744073709551616 z, l)))
 
-pub returns-then-p-eq0 : goal.returns-then-p-eq0
-returns-then-p-eq0 c = rw c.if-p-eq0.true
-
-pub overflow_cast-m-2 : goal.overflow_cast-m-2
-overflow_cast-m-2 c =
-    let p = c.args.p in omega (arith, mod-lt 18446744073709551615 {m = p} (omega (arith, c.if-p-eq0.false)), c.ranges.p)
-
-pub successor-requires : goal.successor-requires
-successor-requires c = mod-lt 18446744073709551615 {m = c.args.p} (omega (arith, c.if-p-eq0.false))
-
 pub returns : goal.returns
 returns c =
     rw (c.successor.ensures ∙ weight c.args.p (omega (arith, c.if-p-eq0.false)) (omega (arith, c.ranges.p)))

@@ -1,4 +1,0 @@
-use Rattle.host.proofs.elements.filzeur_field.Goals as goal
-
-pub returns : goal.returns
-returns c = c.number_of.ensures _ _ c.new.ensures

@@ -1,0 +1,13 @@
+use Rattle.std.proofs.Common.{◌≡◌, ◌*◌, ◌≤◌, ◌+◌}
+use Rattle.meaning.specs.List.{sum_from}
+use Rattle.modular.specs.Sums.{Summed}
+use Rattle.modular.proofs.sums.sum_by.Given as goal
+
+abbrev pub invariant-loop-group : goal.invariant-loop-group
+invariant-loop-group g l = Summed l.initial.sum l.sum l.from (l.from + l.group * g.row.GROUP) g.value
+
+abbrev pub invariant-loop-j : goal.invariant-loop-j
+invariant-loop-j g l = (l.word ≡ sum_from l.first (l.first + l.j) g.value) × (l.word * g.row.GROUP ≤ l.j * 18446744073709551615)
+
+abbrev pub invariant-loop-k : goal.invariant-loop-k
+invariant-loop-k g l = Summed l.fn.total l.sum l.from l.k g.value

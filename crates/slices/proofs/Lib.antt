@@ -1,2 +1,0 @@
--- laws that only the proofs here use
-pub mod Reversing
