@@ -1,4 +1,4 @@
-// "Where a system stops": what a call of the library is refused for. Each check covers the whole input before the next, and every function here
+// "Where a system stops": what a call of the library is refused for. Each check covers the whole input before the next, and every public function here
 // answers for all inputs: a test, or the first check that turns the input down.
 // The tests of entries and elements go through to the end and join by `&`: a loop without branches is compiled to vector instructions.
 //
@@ -78,15 +78,17 @@ fn rising(starts: &[u32]) -> bool
 }
 
 // 5: the starts and the number of entries.
-fn starts_taken(starts: &[u32], columns: &[u32], values: &[u32]) -> bool
-    requires { 0 < length starts.now }
-    ensures { result ≡ starts_taken (matrix starts.now columns.now values.now) }
+fn starts_taken(a: &Matrix) -> bool
+    requires { 0 < length a.now.starts.now }
+    ensures { result ≡ starts_taken (matrix_of a.now) }
 {
+    let starts = a.starts;
+    let entries = a.columns.len();
     (starts[0] == 0)
         & rising(starts)
-        & (starts[starts.len() - 1] as usize == columns.len())
-        & (columns.len() == values.len())
-        & (columns.len() <= 65536)
+        & (starts[starts.len() - 1] as usize == entries)
+        & (entries == a.values.len())
+        & (entries <= 65536)
 }
 
 // 5 with the scales' number: none, or n.
@@ -94,8 +96,7 @@ fn shape_taken(a: &Matrix, scales: &[u32]) -> bool
     requires { 0 < length a.now.starts.now }
     ensures { result ≡ starts_taken (matrix_of a.now) && scale_count_taken (size (matrix_of a.now)) (length scales.now) }
 {
-    starts_taken(a.starts, a.columns, a.values)
-        & ((scales.len() == 0) | (scales.len() == a.starts.len() - 1))
+    starts_taken(a) & ((scales.len() == 0) | (scales.len() == a.starts.len() - 1))
 }
 
 // The columns from `from` to `last` rise strictly.

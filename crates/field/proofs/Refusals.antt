@@ -1,9 +1,8 @@
--- What the field's calls refuse (meaning's Calls), check by check, and the answers' cases.
+-- What the field's calls refuse (meaning's Calls), check by check.
 --     field_taken, field_refused               the modulus
 --     operation_modulus, operation_operand, operation_taken      3, 9 or 0
 --     operation_accepted                       0 says what the operations without checks want
 --     inverse_operation, inverse_of_zero, inverse_taken          an operation's number, 12 or 0
---     gives_element, gives_refused             the two cases of an operation's answer
 use mathlib.Core.Path.{◌≡◌, sym, ap, ◌∙◌}
 use mathlib.Core.Logic.{◌≢◌, ◌⊎◌, inl, inr}
 use mathlib.Core.Bool.{true, false, not, cond, ◌&&◌}

@@ -9,18 +9,18 @@ ghost use Rattle.meaning.specs.Inverses.{inverses_text};
 ghost use Rattle.inverse_lines.specs.Printed.{Printed};
 
 use field::inverse_by_euclid;
-use line_writer::put_line;
+use line_writer::Lines;
 
 // A line for each element; answers the place after the last.
 fn put_lines(out: &mut [u8]) -> usize
     ensures { Wrote out.old 0 inverses_text result out.new }
 {
-    let mut next = 0;
+    let mut lines = Lines::new(out);
     for element in 1..=250 {
         let inverse = inverse_by_euclid(251, element);
-        next = put_line(out, next, b"i", &[u64::from(element), u64::from(inverse)]);
+        lines.put(b"i", &[u64::from(element), u64::from(inverse)]);
     }
-    next
+    lines.place()
 }
 
 // Puts the lines at the front of a slice of at least 2,500 bytes and answers their length; a shorter slice stays as it is, and the answer is 0.

@@ -7,7 +7,7 @@
 --     line_length n ks      the length of a line of a word of n bytes and of these numbers
 --     Wrote l at w r m     w was written into l from `at` on: r is the place after it, and m what it leaves, if there is room for all of w
 -- Laws:
---     capped_low, capped_high, capped_min, capped_plus, capped_add      the two cases; a saturating sum; a sum of capped numbers
+--     capped_low, capped_high, capped_min, capped_plus, capped_add, after_within      the two cases; a saturating sum; a sum of capped numbers; `last` bounds a place
 --     written_fits, written_not      the two cases
 --     line_fields_law, length_line       a line and its length by its fields
 --     fields_nil, fields_more, fields_room      the fields of the first numbers
@@ -80,6 +80,9 @@ pub capped_add : (a b : ℕ) → capped (a + capped b) ≡ capped (a + b)
 capped_add a b =
     by_last b (λ h. ap (λ k. capped (a + k)) (capped_low b h))
     (λ h. ap (λ k. capped (a + k)) (capped_high b h) ∙ capped_high (a + last) (omega arith) ∙ sym (capped_high (a + b) (omega arith)))
+
+pub after_within : (at : ℕ) (w : List ℕ) → after at w ≤ last
+after_within at w = omega (arith, capped_min (at + length w))
 
 -- below the last place nothing is capped
 pub capped_below : (k : ℕ) → capped k < last → capped k ≡ k

@@ -1,14 +1,19 @@
 // Lines written into byte slices: a word, then numbers with a tab before each, then byte 10.
 //
-// `put_line` is the one call. What does not fit is not written, and the place after it is answered all the same: in a slice without room
-// the call measures. The contracts cite the crate meaning (Text: decimal, line), specs/Placed.antt (a slice with a word in it) and
-// specs/Written.antt (what a line leaves, and lines one after the other).
+// `Lines` writes lines one after the other from the front of a slice, `put_line` one line at a place. What does not fit is not written, and the
+// place after it is answered all the same: in a slice without room they measure. The contracts cite the crate meaning (Text: decimal, line),
+// specs/Placed.antt (a slice with a word in it), specs/Written.antt (what a line leaves, and lines one after the other) and specs/Adds.antt
+// (what is added to lines).
 #![tactic(auto)]
+
+mod lines;
 
 ghost use Rattle.std.specs.Prelude.{◌≡◌, ◌&&◌, ◌∷◌, map, ◌+◌, ◌≤◌, ◌<◌, ltb, leb, length};
 ghost use Rattle.meaning.specs.Text.{decimal, line};
 ghost use Rattle.line_writer.specs.Placed.{placed};
 ghost use Rattle.line_writer.specs.Written.{last, capped, after, written, fields, line_length};
+
+pub use lines::Lines;
 
 // The number of k's digits.
 fn digits_of(k: u64) -> usize

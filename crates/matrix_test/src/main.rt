@@ -12,26 +12,17 @@ use checks::{Matrix, Products};
 use field::Field;
 use refusal::Refusal;
 use std::io;
-use test_io::{FREE, LENT, MEMORY, at, filled, front, list, part, place, print, show};
+use test_io::{Case, Cases, Lent, MEMORY, at, filled, place, print, print_refusal};
 use wiedemann::offered::Offered;
 
-// The answer; the places of work that the call was free to change.
-fn print_writing(
-    rt: &impl Print,
-    answer: Result<Products, Refusal>,
-    work: usize,
-) -> io::Result<usize> {
+fn print_products(rt: &impl Print, answer: Result<Products, Refusal>) -> io::Result<()> {
     match answer {
         Ok(products) => {
             print(rt, 0)?;
-            print(rt, products.made as u64)?;
-            print(rt, products.multiplied)?;
-            Ok(work)
+            print(rt, products.made)?;
+            print(rt, products.multiplied)
         }
-        Err(refusal) => {
-            print(rt, u64::from(u32::from(refusal)))?;
-            Ok(0)
-        }
+        Err(refusal) => print_refusal(rt, refusal),
     }
 }
 
@@ -39,55 +30,69 @@ fn print_verdict(rt: &impl Print, answer: Result<Offered, Refusal>) -> io::Resul
     match answer {
         Ok(found) => {
             print(rt, 0)?;
-            print(rt, u64::from(found.holds))?;
+            print(rt, u32::from(found.holds))?;
             print(rt, found.multiplied)
         }
-        Err(refusal) => print(rt, u64::from(u32::from(refusal))),
+        Err(refusal) => print_refusal(rt, refusal),
     }
 }
 
-fn calls(rt: &impl Print, memory: &[u32], from: usize) -> io::Result<()> {
-    let head = list(memory, from, 0);
-    let room = place(head, 1);
-    let scratch = place(head, 2);
-    let f = Field { p: at(head, 0) };
-    let a = Matrix {
-        starts: list(memory, from, 1),
-        columns: list(memory, from, 2),
-        values: list(memory, from, 3),
+// What the calls of a case are given: p and the places of out and work, the matrix, g, v and b.
+#[derive(Clone, Copy)]
+struct Given<'a> {
+    head: &'a [u32],
+    a: Matrix<'a>,
+    g: &'a [u32],
+    v: &'a [u32],
+    b: &'a [u32],
+}
+
+fn calls(rt: &impl Print, given: &Given) -> io::Result<()> {
+    let f = Field {
+        p: at(given.head, 0),
     };
-    let v = list(memory, from, 5);
-    let mut out: [u32; LENT] = filled(FREE);
-    let product = wiedemann::matrix::product(f, &a, v, front(&mut out, room));
-    print_writing(rt, product, 0)?;
-    show(rt, &out, 0, room)?;
-    let left = part(&out, 0, room);
-    print_verdict(rt, wiedemann::offered::takes(f, &a, v, left))?;
-    let transposed = transposed::transposed(f, &a, v, front(&mut out, room));
-    print_writing(rt, transposed, 0)?;
-    show(rt, &out, 0, room)?;
-    let mut work: [u32; LENT] = filled(FREE);
-    let applied = wiedemann::matrix::apply(
-        f,
-        &a,
-        list(memory, from, 4),
-        v,
-        front(&mut out, room),
-        front(&mut work, scratch),
-    );
-    let free = print_writing(rt, applied, scratch)?;
-    show(rt, &out, 0, room)?;
-    show(rt, &work, free, scratch)?;
-    let b = list(memory, from, 6);
-    print_verdict(rt, wiedemann::offered::takes(f, &a, v, b))?;
-    print_verdict(rt, wiedemann::offered::is_null(f, &a, v))?;
+    let room = place(given.head, 1);
+    let a = &given.a;
+    let v = given.v;
+    let mut out = Lent::new(room);
+    let product = wiedemann::matrix::product(f, a, v, out.lend());
+    print_products(rt, product)?;
+    out.show(rt)?;
+    let left = out.first(room);
+    print_verdict(rt, wiedemann::offered::takes(f, a, v, left))?;
+    let transposed = transposed::transposed(f, a, v, out.lend());
+    print_products(rt, transposed)?;
+    out.show(rt)?;
+    let mut work = Lent::new(place(given.head, 2));
+    let applied = wiedemann::matrix::apply(f, a, given.g, v, out.lend(), work.lend());
+    print_products(rt, applied)?;
+    out.show(rt)?;
+    work.show_kept(rt, &applied)?;
+    print_verdict(rt, wiedemann::offered::takes(f, a, v, given.b))?;
+    print_verdict(rt, wiedemann::offered::is_null(f, a, v))?;
     test_io::end_line(rt)
+}
+
+fn listed_case(rt: &impl Print, case: Case) -> io::Result<()> {
+    let given = Given {
+        head: case.head(),
+        a: Matrix {
+            starts: case.list(1),
+            columns: case.list(2),
+            values: case.list(3),
+        },
+        g: case.list(4),
+        v: case.list(5),
+        b: case.list(6),
+    };
+    calls(rt, &given)
 }
 
 // ---- large cases: 4,096 rows, two of them with 32 entries together, the first of the two with `even` of them; of two entries the second is the
 // first with the other sign, so that 1, 1, .. is taken to zero where `even` is an even number. The first list goes on after p, out and work
 // with `even`, a seed, the number of elements of each of the seven lists, and the numbers at which the elements of g, v and b begin.
 
+// A remainder; 0 where there is nothing to divide by.
 fn below(x: u32, m: u32) -> u32
     ensures { result ≤ m }
 {
@@ -95,8 +100,11 @@ fn below(x: u32, m: u32) -> u32
 }
 
 fn word(seed: u32, base: u32, i: u32) -> u32 {
-    let x = ((base as u64 + i as u64) % 4294967296 * 2654435761 + seed as u64) % 4294967296;
-    ((x / 65536 * 48271 + x) % 4294967296) as u32
+    let x = base
+        .wrapping_add(i)
+        .wrapping_mul(2_654_435_761)
+        .wrapping_add(seed);
+    (x / 65_536).wrapping_mul(48_271).wrapping_add(x)
 }
 
 fn value(p: u32, seed: u32, j: u32) -> u32 {
@@ -153,10 +161,8 @@ fn held(head: &[u32], c: Place) -> u32 {
     if c.j == 0 {
         return count;
     }
-    if c.list == 1 {
-        if c.j == count {
-            return at(head, 7);
-        }
+    if c.list == 1 && c.j == count {
+        return at(head, 7);
     }
     made(head, c.list, c.j - 1)
 }
@@ -182,25 +188,28 @@ fn make(head: &[u32], lists: &mut [u32]) {
     }
 }
 
-fn case(rt: &impl Print, memory: &[u32], from: usize) -> io::Result<()> {
-    let head = list(memory, from, 0);
-    if head.len() == 3 {
-        return calls(rt, memory, from);
-    }
-    let mut lists: [u32; MEMORY] = filled(0);
-    make(head, &mut lists);
-    calls(rt, &lists, 0)
+fn large_case(rt: &impl Print, head: &[u32]) -> io::Result<()> {
+    let mut memory: [u32; MEMORY] = filled(0);
+    make(head, &mut memory);
+    listed_case(
+        rt,
+        Case {
+            memory: &memory,
+            from: 0,
+        },
+    )
 }
 
 fn main(rt: HostRuntime) -> io::Result<()> {
-    let mut room: [u32; MEMORY] = filled(0);
-    test_io::read_numbers(&mut rt.stdin(), &mut room)?;
-    let memory: &[u32] = &room;
-    let cases = at(memory, 0);
-    let mut from = 1;
-    for _ in 0..cases {
-        case(&rt, memory, from)?;
-        from = test_io::after(memory, from, 7);
+    let mut memory: [u32; MEMORY] = filled(0);
+    test_io::read_numbers(&mut rt.stdin(), &mut memory)?;
+    for case in Cases::new(&memory, 7) {
+        let head = case.head();
+        if head.len() == 3 {
+            listed_case(&rt, case)?;
+        } else {
+            large_case(&rt, head)?;
+        }
     }
     Ok(())
 }

@@ -1,8 +1,8 @@
 -- The product of two polynomials in one slice: F at its front, f further up; it takes F's place from its highest coefficient down.
---     Factors          what the product asks: room, and residues
+--     AreFactors       what the product asks: room, and residues
 --     factors_fit, factors_refusal      8: their places; 3, 8 and 9 of two factors
 --     GivesProduct     what a call answers and leaves; product_of: where no check turns the factors down
---     fits_of, fits_by      what the places' test says; the test as the code makes it
+--     fits_of, fits_not, fits_by      what the places' test says; that it fails; the test as the code makes it
 --     product_one      the product where F = 1: f
 --     factors_of, factors_taken       what no check turned down, and that none turns it down
 --     product_at        coefficient k of the product
@@ -38,7 +38,7 @@ use Rattle.laws.specs.Part.{part, length_part, at_part}
 use Rattle.laws.specs.Lent.{lent, length_lent, part_lent, inner_lent, drop_lent, part_at, part_of_part, same_after, drop_ext}
 
 -- F, degree d, and f, degree t
-pub record Factors (p : ℕ) (W : List ℕ) (d f t : ℕ) : Type 0 where
+pub record AreFactors (p : ℕ) (W : List ℕ) (d f t : ℕ) : Type 0 where
   pub few : d + t ≤ 8192
   pub below : d + t < f
   pub room : f + t < length W
@@ -70,7 +70,7 @@ pub record Meeting (d t k from to : ℕ) : Type 0 where
 sum_from_zeros : (a b : ℕ) (f : ℕ → ℕ) → ((k : ℕ) → a ≤ k → k < b → f k ≡ 0) → sum_from a b f ≡ 0
 sum_from_zeros a b f h = sum_zeros (b - a) (λ j. f (a + j)) (λ j l. h (a + j) (omega arith) (omega arith))
 
-module _ {p : ℕ} {W : List ℕ} {d f t : ℕ} (h : Factors p W d f t) where
+module _ {p : ℕ} {W : List ℕ} {d f t : ℕ} (h : AreFactors p W d f t) where
   left : ℕ → ℕ
   left i = at (part 0 (d + 1) W) i
 
@@ -161,7 +161,7 @@ descending_none p W d f t =
     record { same_length = refl; below = λ i l. refl; inside = λ i a b. absurd (omega (arith, a, b)); after = λ i l. refl }
 
 -- what has been written so far are residues
-pub descending_factors : {p : ℕ} {W : List ℕ} {d f t k : ℕ} {W' : List ℕ} → 0 < p → Factors p W d f t → Descending p W d f t k W' → Factors p W' d f t
+pub descending_factors : {p : ℕ} {W : List ℕ} {d f t k : ℕ} {W' : List ℕ} → 0 < p → AreFactors p W d f t → Descending p W d f t k W' → AreFactors p W' d f t
 descending_factors {p} {W} {d} {f} {t} {k} {W'} positive h w =
     record {
       few = h.few;
@@ -203,7 +203,7 @@ place_same a n W W' i l e h = go (dec_lt i n)
         ∙ sym (get_or-eq_default (part a n W) 0 (omega (arith, k, length_part a n W l)))
 
 -- what has been written so far is not read for coefficient k
-pub descending_same : {p : ℕ} {W : List ℕ} {d f t : ℕ} (k : ℕ) {W' : List ℕ} → Descending p W d f t (k + 1) W' → Factors p W d f t
+pub descending_same : {p : ℕ} {W : List ℕ} {d f t : ℕ} (k : ℕ) {W' : List ℕ} → Descending p W d f t (k + 1) W' → AreFactors p W d f t
     → product_at p W' d f t k ≡ product_at p W d f t k
 descending_same {p} {W} {d} {f} {t} k {W'} w h =
     ap (λ x. x % p)
@@ -217,7 +217,7 @@ pub record Multiplied (p : ℕ) (W : List ℕ) (d f t : ℕ) (W' : List ℕ) : T
   pub product : part 0 (d + t + 1) W' ≡ multiply p (part 0 (d + 1) W) (part f (t + 1) W)
   pub rest : drop (d + t + 1) W' ≡ drop (d + t + 1) W
 
-pub descending_all : {p : ℕ} {W : List ℕ} {d f t : ℕ} {W' : List ℕ} → Factors p W d f t → Descending p W d f t 0 W' → Multiplied p W d f t W'
+pub descending_all : {p : ℕ} {W : List ℕ} {d f t : ℕ} {W' : List ℕ} → AreFactors p W d f t → Descending p W d f t 0 W' → Multiplied p W d f t W'
 unfolding multiply
 descending_all {p} {W} {d} {f} {t} {W'} h w =
     record {
@@ -278,7 +278,7 @@ fits_by places d f t degree last fit fit_f e g =
     (λ h. lt-ltb last places (omega (arith, g, ltb-true (f + t) places h))))
 
 -- what no check turned down, and back
-pub factors_of : (p : ℕ) (W : List ℕ) (d f t : ℕ) → factors_refusal p W d f t ≡ 0 → (within 2 2147483647 p ≡ true) × Factors p W d f t
+pub factors_of : (p : ℕ) (W : List ℕ) (d f t : ℕ) → factors_refusal p W d f t ≡ 0 → (within 2 2147483647 p ≡ true) × AreFactors p W d f t
 unfolding factors_refusal elements
 factors_of p W d f t z =
     let a = first_passed 3 (within 2 2147483647 p) _ (omega arith) z in
@@ -297,7 +297,7 @@ factors_of p W d f t z =
       },
     )
 
-pub factors_taken : {p : ℕ} {W : List ℕ} {d f t : ℕ} → 1 < p → p ≤ 2147483647 → Factors p W d f t → factors_refusal p W d f t ≡ 0
+pub factors_taken : {p : ℕ} {W : List ℕ} {d f t : ℕ} → 1 < p → p ≤ 2147483647 → AreFactors p W d f t → factors_refusal p W d f t ≡ 0
 unfolding factors_refusal factors_fit
 factors_taken {p} {W} {d} {f} {t} two small h =
     first_pass 3 (within 2 2147483647 p) _ (within_of 2 2147483647 p two small)
@@ -320,7 +320,7 @@ factors_taken {p} {W} {d} {f} {t} two small h =
     right i l = subst (λ x. x < p) (sym (at_part f (t + 1) W i l)) (h.right i (omega (arith, l)))
 
 -- F = 1: the product is f
-pub product_one : {p : ℕ} {W : List ℕ} {d f t : ℕ} {W' : List ℕ} → Factors p W d f t → d ≡ 0 → at W 0 ≡ 1
+pub product_one : {p : ℕ} {W : List ℕ} {d f t : ℕ} {W' : List ℕ} → AreFactors p W d f t → d ≡ 0 → at W 0 ≡ 1
     → Written W 0 (t + 1) (λ i. at W (f + i)) W' → Multiplied p W d f t W'
 product_one {p} {W} {d} {f} {t} {W'} h z one w =
     descending_all h

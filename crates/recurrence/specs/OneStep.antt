@@ -5,7 +5,7 @@
 --     step_refusal              the number of a step's refusal
 --     Answers                  what a call answers and leaves: a register, or its refusal
 --     Starts, StepsOn          the two calls': document 01's start, and its step for r of what was found
---     Fits, fits_of, fits_by        what register_fits says; as the code makes it
+--     Fits, fits_of, fits_not, fits_by        what register_fits says; that it fails; as the code makes it
 --     makes_modulus, makes_one the modulus by its other name; a step of the steps
 --     room_ready, step_asked   what no check turns down is what a start, and a step, ask
 --     step_taken               .. and what follows the steps modulo a prime is not turned down

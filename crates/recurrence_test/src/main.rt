@@ -5,50 +5,39 @@
 
 use refusal::Refusal;
 use std::io;
-use test_io::{FREE, LENT, MEMORY, at, filled, front, list, place, print, show};
+use test_io::{Case, Cases, Lent, MEMORY, at, filled, place, print, print_refusal};
 
-// The answer; the places that the call was free to change.
-fn print_answer(rt: &impl Print, answer: Result<usize, Refusal>, work: usize) -> io::Result<usize> {
+fn print_answer(rt: &impl Print, answer: Result<usize, Refusal>) -> io::Result<()> {
     match answer {
         Ok(degree) => {
             print(rt, 0)?;
-            print(rt, degree as u64)?;
-            Ok(work)
+            print(rt, degree)
         }
-        Err(refusal) => {
-            print(rt, u64::from(u32::from(refusal)))?;
-            Ok(0)
-        }
+        Err(refusal) => print_refusal(rt, refusal),
     }
 }
 
-fn call(rt: &impl Print, memory: &[u32], from: usize) -> io::Result<()> {
-    let head = list(memory, from, 0);
-    let places = place(head, 1);
-    let room = place(head, 2);
-    let mut polynomial: [u32; LENT] = filled(FREE);
-    let mut work: [u32; LENT] = filled(FREE);
+fn call(rt: &impl Print, case: Case) -> io::Result<()> {
+    let head = case.head();
+    let mut polynomial = Lent::new(place(head, 1));
+    let mut work = Lent::new(place(head, 2));
     let answer = recurrence::recurrence(
         field::Field { p: at(head, 0) },
-        list(memory, from, 1),
-        front(&mut polynomial, places),
-        front(&mut work, room),
+        case.list(1),
+        polynomial.lend(),
+        work.lend(),
     );
-    let free = print_answer(rt, answer, room)?;
-    show(rt, &polynomial, 0, places)?;
-    show(rt, &work, free, room)?;
+    print_answer(rt, answer)?;
+    polynomial.show(rt)?;
+    work.show_kept(rt, &answer)?;
     test_io::end_line(rt)
 }
 
 fn main(rt: HostRuntime) -> io::Result<()> {
-    let mut room: [u32; MEMORY] = filled(0);
-    test_io::read_numbers(&mut rt.stdin(), &mut room)?;
-    let memory: &[u32] = &room;
-    let calls = at(memory, 0);
-    let mut from = 1;
-    for _ in 0..calls {
-        call(&rt, memory, from)?;
-        from = test_io::after(memory, from, 2);
+    let mut memory: [u32; MEMORY] = filled(0);
+    test_io::read_numbers(&mut rt.stdin(), &mut memory)?;
+    for case in Cases::new(&memory, 2) {
+        call(&rt, case)?;
     }
     Ok(())
 }

@@ -8,83 +8,61 @@ use checks::Matrix;
 use refusal::Refusal;
 use solver::{Counts, Verdict};
 use std::io;
-use test_io::{FREE, LENT, MEMORY, at, filled, front, list, place, print, show};
+use test_io::{Case, Cases, Lent, MEMORY, at, filled, place, print, print_refusal};
 
-fn print_counts(rt: &impl Print, solved: u64, counts: Counts) -> io::Result<()> {
+fn print_counts(rt: &impl Print, solved: bool, counts: Counts) -> io::Result<()> {
     print(rt, 0)?;
-    print(rt, solved)?;
-    print(rt, counts.degree as u64)?;
+    print(rt, u32::from(solved))?;
+    print(rt, counts.degree)?;
     print(rt, counts.passes)?;
     print(rt, counts.applications)?;
     print(rt, counts.multiplied)
 }
 
-// The answer; the places that the call was free to change.
-fn print_verdict(
-    rt: &impl Print,
-    verdict: Result<Verdict, Refusal>,
-    work: usize,
-) -> io::Result<usize> {
+fn print_verdict(rt: &impl Print, verdict: Result<Verdict, Refusal>) -> io::Result<()> {
     match verdict {
-        Ok(Verdict::Solved(counts)) => {
-            print_counts(rt, 1, counts)?;
-            Ok(work)
-        }
-        Ok(Verdict::Singular(counts)) => {
-            print_counts(rt, 0, counts)?;
-            Ok(work)
-        }
-        Err(refusal) => {
-            print(rt, u64::from(u32::from(refusal)))?;
-            Ok(0)
-        }
+        Ok(Verdict::Solved(counts)) => print_counts(rt, true, counts),
+        Ok(Verdict::Singular(counts)) => print_counts(rt, false, counts),
+        Err(refusal) => print_refusal(rt, refusal),
     }
 }
 
-fn call(rt: &impl Print, memory: &[u32], from: usize) -> io::Result<()> {
-    let head = list(memory, from, 0);
-    let places = place(head, 2);
-    let coefficients = place(head, 3);
-    let billed = place(head, 4);
-    let room = place(head, 5);
-    let mut vector: [u32; LENT] = filled(FREE);
-    let mut polynomial: [u32; LENT] = filled(FREE);
-    let mut bill: [u32; LENT] = filled(FREE);
-    let mut work: [u32; LENT] = filled(FREE);
+fn call(rt: &impl Print, case: Case) -> io::Result<()> {
+    let head = case.head();
+    let mut vector = Lent::new(place(head, 2));
+    let mut polynomial = Lent::new(place(head, 3));
+    let mut bill = Lent::new(place(head, 4));
+    let mut work = Lent::new(place(head, 5));
     let a = Matrix {
-        starts: list(memory, from, 1),
-        columns: list(memory, from, 2),
-        values: list(memory, from, 3),
+        starts: case.list(1),
+        columns: case.list(2),
+        values: case.list(3),
     };
     let verdict = solver::solve(
         field::Field { p: at(head, 0) },
         &a,
-        list(memory, from, 4),
-        list(memory, from, 5),
-        list(memory, from, 6),
+        case.list(4),
+        case.list(5),
+        case.list(6),
         at(head, 1),
-        front(&mut vector, places),
-        front(&mut polynomial, coefficients),
-        front(&mut bill, billed),
-        front(&mut work, room),
+        vector.lend(),
+        polynomial.lend(),
+        bill.lend(),
+        work.lend(),
     );
-    let free = print_verdict(rt, verdict, room)?;
-    show(rt, &vector, 0, places)?;
-    show(rt, &polynomial, 0, coefficients)?;
-    show(rt, &bill, 0, billed)?;
-    show(rt, &work, free, room)?;
+    print_verdict(rt, verdict)?;
+    vector.show(rt)?;
+    polynomial.show(rt)?;
+    bill.show(rt)?;
+    work.show_kept(rt, &verdict)?;
     test_io::end_line(rt)
 }
 
 fn main(rt: HostRuntime) -> io::Result<()> {
-    let mut room: [u32; MEMORY] = filled(0);
-    test_io::read_numbers(&mut rt.stdin(), &mut room)?;
-    let memory: &[u32] = &room;
-    let calls = at(memory, 0);
-    let mut from = 1;
-    for _ in 0..calls {
-        call(&rt, memory, from)?;
-        from = test_io::after(memory, from, 7);
+    let mut memory: [u32; MEMORY] = filled(0);
+    test_io::read_numbers(&mut rt.stdin(), &mut memory)?;
+    for case in Cases::new(&memory, 7) {
+        call(&rt, case)?;
     }
     Ok(())
 }

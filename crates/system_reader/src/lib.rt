@@ -42,34 +42,40 @@ fn count_taken(count: u32, entries: usize, n: u32, scales: usize) -> bool
     count as usize == entries && entries <= 65536 && (scales == 0 || scales == n as usize)
 }
 
-// 11: the room in the slices.
-fn room(
-    n: u32,
-    count: u32,
+// How long the lent slices are.
+#[derive(Clone, Copy)]
+struct Room {
     starts: usize,
     columns: usize,
     values: usize,
     scales: usize,
     right: usize,
-) -> bool
-    ensures { result ≡ leb (n + 1) starts && leb count columns && leb count values && leb n scales && leb n right }
-{
-    let size = n as usize;
-    let entries = count as usize;
-    size + 1 <= starts && entries <= columns && entries <= values && size <= scales && size <= right
+}
+
+impl Room {
+    // 11: whether a system of size n with `count` entries goes in.
+    fn holds(&self, n: u32, count: u32) -> bool
+        ensures { result
+            ≡ leb (n + 1) self.now.starts
+            && leb count self.now.columns
+            && leb count self.now.values
+            && leb n self.now.scales
+            && leb n self.now.right }
+    {
+        let size = n as usize;
+        let entries = count as usize;
+        size + 1 <= self.starts
+            && entries <= self.columns
+            && entries <= self.values
+            && size <= self.scales
+            && size <= self.right
+    }
 }
 
 // The first check that turns a text in form down.
 #[tactic(auto, unfolding(crate::specs::Surveys::survey_refusal, meaning::specs::Refusal::first))]
-fn check(
-    s: Survey,
-    starts: usize,
-    columns: usize,
-    values: usize,
-    scales: usize,
-    right: usize,
-) -> Result<(), Refusal>
-    ensures { refused_by result ≡ survey_refusal (Some s) starts columns values scales right }
+fn check(s: Survey, room: &Room) -> Result<(), Refusal>
+    ensures { refused_by result ≡ survey_refusal (Some s) room.now.starts room.now.columns room.now.values room.now.scales room.now.right }
 {
     if !is_modulus(s.p) {
         return Err(Refusal::Modulus);
@@ -86,7 +92,7 @@ fn check(
     if !s.values {
         return Err(Refusal::Values);
     }
-    if !room(s.n, s.count, starts, columns, values, scales, right) {
+    if !room.holds(s.n, s.count) {
         return Err(Refusal::Room);
     }
     Ok(())
@@ -114,14 +120,14 @@ pub fn read(
     let Some(s) = first_pass(text) else {
         return Err(Refusal::Form);
     };
-    check(
-        s,
-        starts.len(),
-        columns.len(),
-        values.len(),
-        scales.len(),
-        right.len(),
-    )?;
+    let room = Room {
+        starts: starts.len(),
+        columns: columns.len(),
+        values: values.len(),
+        scales: scales.len(),
+        right: right.len(),
+    };
+    check(s, &room)?;
     let n = s.n as usize;
     fill_entries(text, s.body, s.entries, n, starts, columns, values);
     fill_placed(text, s.scaling, b"s", s.scales, n, 1, scales);

@@ -11,170 +11,159 @@
 ghost use Rattle.std.specs.Prelude.{◌≤◌};
 
 use checks::Matrix;
-use refusal::Refusal;
 use std::io;
 use system_reader::Header;
 use test_io::{
-    FREE, FREE_BYTE, LENT, LENT_TEXT, MEMORY, TEXT, at, filled, front, list, part, place, print,
-    show,
+    Case, Cases, Lent, LentText, MEMORY, TEXT, at, filled, part, place, print, print_refusal,
 };
+
+#[derive(Clone, Copy)]
+struct System<'a> {
+    p: u32,
+    a: Matrix<'a>,
+    scales: &'a [u32],
+    b: &'a [u32],
+}
 
 // ---- the writer
 
-// Into the text slice of place i.
-fn write(
-    rt: &impl Print,
-    p: u32,
-    a: &Matrix,
-    scales: &[u32],
-    b: &[u32],
-    sizes: &[u32],
-    i: usize,
-) -> io::Result<()> {
-    let size = place(sizes, i);
-    let mut out: [u8; LENT_TEXT] = filled(FREE_BYTE);
-    let text = front(&mut out, size);
-    match system_writer::write(p, a, scales, b, text) {
+// Into a text slice of so many places.
+fn write(rt: &impl Print, system: &System, size: usize) -> io::Result<()> {
+    let mut out = LentText::new(size);
+    match system_writer::write(system.p, &system.a, system.scales, system.b, out.lend()) {
         Ok(length) => {
             print(rt, 0)?;
-            print(rt, length as u64)?;
+            print(rt, length)?;
         }
-        Err(refusal) => print(rt, u64::from(u32::from(refusal)))?,
+        Err(refusal) => print_refusal(rt, refusal)?,
     }
-    test_io::show_text(rt, &out, 0, size)
+    out.show_from(rt, 0)
 }
 
-fn write_all(
-    rt: &impl Print,
-    p: u32,
-    a: &Matrix,
-    scales: &[u32],
-    b: &[u32],
-    sizes: &[u32],
-) -> io::Result<()> {
-    for i in 0..sizes.len() {
-        write(rt, p, a, scales, b, sizes, i)?;
+fn write_all(rt: &impl Print, system: &System, sizes: &[u32]) -> io::Result<()> {
+    for &size in sizes {
+        write(rt, system, size as usize)?;
     }
     Ok(())
 }
 
 // ---- the reader
 
-// What was read, and what is written of it.
-fn print_reading(
-    rt: &impl Print,
-    answer: Result<Header, Refusal>,
-    starts: &[u32],
-    columns: &[u32],
-    values: &[u32],
-    scales: &[u32],
-    b: &[u32],
-    sizes: &[u32],
-) -> io::Result<()> {
-    let header = match answer {
-        Ok(header) => header,
-        Err(refusal) => return print(rt, u64::from(u32::from(refusal))),
-    };
+fn print_header(rt: &impl Print, header: Header) -> io::Result<()> {
     print(rt, 0)?;
-    print(rt, u64::from(header.modulus))?;
-    print(rt, u64::from(header.size))?;
-    print(rt, u64::from(header.entries))?;
-    let size = header.size as usize;
-    let count = header.entries as usize;
-    let a = Matrix {
-        starts: part(starts, 0, size + 1),
-        columns: part(columns, 0, count),
-        values: part(values, 0, count),
-    };
-    write_all(
-        rt,
-        header.modulus,
-        &a,
-        part(scales, 0, size),
-        part(b, 0, size),
-        sizes,
-    )
+    print(rt, header.modulus)?;
+    print(rt, header.size)?;
+    print(rt, header.entries)
 }
 
+// What is read, and what is written of it.
 fn read(rt: &impl Print, text: &[u8], head: &[u32], sizes: &[u32]) -> io::Result<()> {
-    let l0 = place(head, 3);
-    let l1 = place(head, 4);
-    let l2 = place(head, 5);
-    let l3 = place(head, 6);
-    let l4 = place(head, 7);
-    let mut starts: [u32; LENT] = filled(FREE);
-    let mut columns: [u32; LENT] = filled(FREE);
-    let mut values: [u32; LENT] = filled(FREE);
-    let mut scales: [u32; LENT] = filled(FREE);
-    let mut b: [u32; LENT] = filled(FREE);
+    let mut starts = Lent::new(place(head, 3));
+    let mut columns = Lent::new(place(head, 4));
+    let mut values = Lent::new(place(head, 5));
+    let mut scales = Lent::new(place(head, 6));
+    let mut b = Lent::new(place(head, 7));
     let reading = system_reader::read(
         text,
-        front(&mut starts, l0),
-        front(&mut columns, l1),
-        front(&mut values, l2),
-        front(&mut scales, l3),
-        front(&mut b, l4),
+        starts.lend(),
+        columns.lend(),
+        values.lend(),
+        scales.lend(),
+        b.lend(),
     );
-    print_reading(rt, reading, &starts, &columns, &values, &scales, &b, sizes)?;
-    show(rt, &starts, 0, l0)?;
-    show(rt, &columns, 0, l1)?;
-    show(rt, &values, 0, l2)?;
-    show(rt, &scales, 0, l3)?;
-    show(rt, &b, 0, l4)
+    match reading {
+        Ok(header) => {
+            print_header(rt, header)?;
+            let size = header.size as usize;
+            let count = header.entries as usize;
+            let system = System {
+                p: header.modulus,
+                a: Matrix {
+                    starts: starts.first(size + 1),
+                    columns: columns.first(count),
+                    values: values.first(count),
+                },
+                scales: scales.first(size),
+                b: b.first(size),
+            };
+            write_all(rt, &system, sizes)?;
+        }
+        Err(refusal) => print_refusal(rt, refusal)?,
+    }
+    starts.show(rt)?;
+    columns.show(rt)?;
+    values.show(rt)?;
+    scales.show(rt)?;
+    b.show(rt)
 }
 
 // ---- long texts
 
 // A remainder; 0 where there is nothing to divide by.
 fn below(x: usize, m: usize) -> usize
-    ensures { result ≤ m }
+    ensures { result ≤ x }
 {
-    if m == 0 { 0 } else { x % m }
+    x.checked_rem(m).unwrap_or(0)
 }
 
-// Byte i of a long text.
-fn long_byte(text: &[u8], head: &[u32], i: usize) -> u8 {
-    let first = place(head, 8);
-    let skip = place(head, 11);
-    let mut from = i;
-    if first <= i && i < place(head, 10) {
-        from = first + below(i - first, place(head, 9));
-    } else if first <= i && skip <= i {
-        from = i - skip;
-    }
-    if from < text.len() { text[from] } else { 0 }
+// A text made longer: up to `end` the `unit` bytes from `first` on are repeated, and what comes then stands `skip` places before in the text.
+#[derive(Clone, Copy)]
+struct Long<'a> {
+    text: &'a [u8],
+    first: usize,
+    unit: usize,
+    end: usize,
+    skip: usize,
 }
 
-fn lengthen(text: &[u8], head: &[u32], long: &mut [u8]) {
-    for (i, byte) in long.iter_mut().enumerate() {
-        *byte = long_byte(text, head, i);
+impl<'a> Long<'a> {
+    fn byte(&self, i: usize) -> u8 {
+        let from = if i < self.first {
+            i
+        } else if i < self.end {
+            self.first + below(i - self.first, self.unit)
+        } else {
+            i.checked_sub(self.skip).unwrap_or(i)
+        };
+        self.text.get(from).copied().unwrap_or(0)
     }
 }
 
 fn read_long(rt: &impl Print, text: &[u8], head: &[u32], sizes: &[u32]) -> io::Result<()> {
+    let end = place(head, 10);
+    let source = Long {
+        text,
+        first: place(head, 8),
+        unit: place(head, 9),
+        end,
+        skip: place(head, 11),
+    };
     let mut long: [u8; TEXT] = filled(0);
-    lengthen(text, head, &mut long);
-    read(rt, part(&long, 0, place(head, 10) + 4), head, sizes)
+    for (i, byte) in long.iter_mut().enumerate() {
+        *byte = source.byte(i);
+    }
+    read(rt, part(&long, 0, end + 4), head, sizes)
 }
 
-fn call(rt: &impl Print, memory: &[u8], lists: &[u32], from: usize) -> io::Result<()> {
-    let head = list(lists, from, 0);
-    let sizes = list(lists, from, 6);
+fn call(rt: &impl Print, memory: &[u8], case: Case) -> io::Result<()> {
+    let head = case.head();
+    let sizes = case.list(6);
     let text = part(memory, place(head, 1), place(head, 2));
     match at(head, 0) {
         0 => read(rt, text, head, sizes)?,
-        1 => write_all(
-            rt,
-            at(head, 1),
-            &Matrix {
-                starts: list(lists, from, 1),
-                columns: list(lists, from, 2),
-                values: list(lists, from, 3),
-            },
-            list(lists, from, 4),
-            list(lists, from, 5),
-            sizes,
-        )?,
+        1 => {
+            let system = System {
+                p: at(head, 1),
+                a: Matrix {
+                    starts: case.list(1),
+                    columns: case.list(2),
+                    values: case.list(3),
+                },
+                scales: case.list(4),
+                b: case.list(5),
+            };
+            write_all(rt, &system, sizes)?;
+        }
         _ => read_long(rt, text, head, sizes)?,
     }
     test_io::end_line(rt)
@@ -182,16 +171,11 @@ fn call(rt: &impl Print, memory: &[u8], lists: &[u32], from: usize) -> io::Resul
 
 fn main(rt: HostRuntime) -> io::Result<()> {
     let mut text: [u8; TEXT] = filled(0);
-    let mut room: [u32; MEMORY] = filled(0);
+    let mut lists: [u32; MEMORY] = filled(0);
     test_io::read_text(&mut rt.stdin(), &mut text)?;
-    let memory: &[u8] = &text;
-    test_io::numbers_of(memory, &mut room);
-    let lists: &[u32] = &room;
-    let calls = at(lists, 0);
-    let mut from = 1;
-    for _ in 0..calls {
-        call(&rt, memory, lists, from)?;
-        from = test_io::after(lists, from, 7);
+    test_io::numbers_of(&text, &mut lists);
+    for case in Cases::new(&lists, 7) {
+        call(&rt, &text, case)?;
     }
     Ok(())
 }

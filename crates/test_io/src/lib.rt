@@ -1,21 +1,28 @@
 // What the test programs share. A program reads all of its input into one slice, its memory. There a call under test finds its slices, each as a list:
 // the number of its elements, then the elements. What it answers is printed as numbers, and so is what it leaves in a slice: the elements of a
 // few places, the hash of more. No contract knows what standard input holds, or speaks of what is written to standard output: a program's output is
-// held to its file. generator.py says the same to the generators. The contracts cite specs/Lists (what stands in the memory) and specs/Hash.
+// held to its file. generator.py says the same to the generators. The contracts cite specs/Lists (what stands in the memory), specs/Cases (its calls) and
+// specs/Hash.
 //
 //     filled, MEMORY, LENT, .. room for the input, and for slices that a call writes
+//     Lent, LentText           slices that a call writes: lent, read and shown
 //     read_numbers             the numbers of the input
-//     at, place, list, after   what stands in the memory
-//     part, front, ..          a part of a slice, to be read or to be lent
-//     print, show, ..          numbers, and what a slice holds
+//     Cases, Case              the calls that stand in the memory, and each one's lists
+//     at, place                what stands in a list
+//     part, front              a part of a slice, to be read or to be lent
+//     print, ..                numbers and refusals
 #![tactic(auto)]
 
 ghost use Rattle.std.specs.Prelude.{◌≡◌, ℕ, ◌+◌, ◌*◌, ◌-◌, ◌%◌, ◌≤◌, ◌⊎◌, List, IfOk, OnErr, min, length, get_or, take, drop};
 ghost use Rattle.std.specs.Io.KnownBytes.{Consumes, IsAtEnd};
 ghost use Rattle.std.specs.List.{AllZip};
+ghost use Rattle.std.specs.Iterator.{YieldsFirstBy, item_count};
 ghost use Rattle.test_io.specs.Lists.{next_place, place_after, list_at};
+ghost use Rattle.test_io.specs.Cases.{cases, case_of, cases_left};
 ghost use Rattle.test_io.specs.Hash.{hash_from};
 
+use refusal::Refusal;
+use std::fmt::Display;
 use std::io;
 use std::io::Read;
 
@@ -75,9 +82,9 @@ pub fn numbers_of(text: &[u8], s: &mut [u32]) -> usize
 {
     let mut count = 0;
     let mut value = 0;
-    for byte in text {
-        match *byte {
-            b'0'..=b'9' => value = with_digit(value, *byte),
+    for &byte in text {
+        match byte {
+            b'0'..=b'9' => value = with_digit(value, byte),
             b':'.. => break,
             _ => {
                 if count == s.len() {
@@ -142,25 +149,84 @@ fn next(s: &[u32], from: usize) -> usize
     from.saturating_add(1 + place(s, from)).min(s.len())
 }
 
-// The place after `count` lists from `from` on, at most the slice's end.
-#[tactic(auto, using(crate::specs::Lists::place_after_none, crate::specs::Lists::place_after_more))]
-pub fn after(s: &[u32], from: usize, count: usize) -> usize
-    ensures { (result ≡ place_after s.now from count) × (result ≤ length s.now) }
-{
-    let mut at = from.min(s.len());
-    for _k in 0..count {
-        at = next(s, at);
-    }
-    at
+// The lists of a call: those that stand in the memory from a place on.
+#[derive(Clone, Copy)]
+pub struct Case<'a> {
+    pub memory: &'a [u32],
+    pub from: usize,
 }
 
-// List `k` of those from `from` on.
-pub fn list(s: &[u32], from: usize, k: usize) -> &[u32]
-    ensures { (result.now ≡ list_at s.now from k) × (length result.now ≤ length s.now) }
-{
-    let start = after(s, from, k);
-    let end = next(s, start);
-    part(s, start + 1, end)
+impl<'a> Case<'a> {
+    // The place after the first `count` lists, at most the memory's end.
+    #[tactic(auto, using(crate::specs::Lists::place_after_none, crate::specs::Lists::place_after_more))]
+    pub fn after(&self, count: usize) -> usize
+        ensures { (result ≡ place_after self.now.memory.now self.now.from count) × (result ≤ length self.now.memory.now) }
+    {
+        let mut at = self.from.min(self.memory.len());
+        for _k in 0..count {
+            at = next(self.memory, at);
+        }
+        at
+    }
+
+    pub fn list(&self, k: usize) -> &'a [u32]
+        ensures { (result.now ≡ list_at self.now.memory.now self.now.from k) × (length result.now ≤ length self.now.memory.now) }
+    {
+        let start = self.after(k);
+        let end = next(self.memory, start);
+        part(self.memory, start + 1, end)
+    }
+
+    // The first list, of the call's own numbers.
+    pub fn head(&self) -> &'a [u32]
+        ensures { (result.now ≡ list_at self.now.memory.now self.now.from 0) × (length result.now ≤ length self.now.memory.now) }
+    {
+        self.list(0)
+    }
+}
+
+// The calls that a memory holds, each of so many lists, after their number.
+#[derive(Drop)]
+pub struct Cases<'a> {
+    memory: &'a [u32],
+    lists: usize,
+    from: usize,
+    left: u32,
+}
+
+impl<'a> Cases<'a> {
+    pub fn new(memory: &'a [u32], lists: usize) -> Cases<'a>
+        ensures { cases_left result ≡ cases memory.now lists 1 (get_or memory.now 0 0) }
+    {
+        Cases {
+            memory,
+            lists,
+            from: 1,
+            left: at(memory, 0),
+        }
+    }
+}
+
+impl<'a> Iterator for Cases<'a> {
+    type Item = Case<'a>;
+
+    ghost next_gives = { YieldsFirstBy case_of cases_left };
+
+    ghost remaining = { item_count cases_left };
+
+    #[tactic(auto, using(crate::specs::Cases::cases_none, crate::specs::Cases::cases_next))]
+    fn next(&mut self) -> Option<Case<'a>> {
+        if self.left == 0 {
+            return None;
+        }
+        self.left -= 1;
+        let case = Case {
+            memory: self.memory,
+            from: self.from,
+        };
+        self.from = case.after(self.lists);
+        Some(case)
+    }
 }
 
 // ---- output
@@ -177,16 +243,22 @@ fn hash<T: Copy + Into<u32>>(s: &[T]) -> u32
     ensures { (numbers : List ℕ) × AllZip T.converts s.now numbers × (result ≡ hash_from 0 numbers) }
 {
     let mut h = 0;
-    for x in s {
-        h = hashed(h, (*x).into());
+    for &x in s {
+        h = hashed(h, x.into());
     }
     h
 }
 
-pub fn print(rt: &impl Print, x: u64) -> io::Result<()>
+pub fn print(rt: &impl Print, x: impl Display + Copy) -> io::Result<()>
     ensures { Unit {0} }
 {
     print!(rt; " {x}")
+}
+
+pub fn print_refusal(rt: &impl Print, refusal: Refusal) -> io::Result<()>
+    ensures { Unit {0} }
+{
+    print(rt, u32::from(refusal))
 }
 
 pub fn end_line(rt: &impl Print) -> io::Result<()>
@@ -201,8 +273,8 @@ fn print_hash<T: Copy + Into<u32>>(rt: &impl Print, s: &[T]) -> io::Result<()> {
 }
 
 fn print_all(rt: &impl Print, s: &[u32]) -> io::Result<()> {
-    for x in s {
-        print(rt, u64::from(*x))?;
+    for &x in s {
+        print(rt, x)?;
     }
     Ok(())
 }
@@ -214,21 +286,97 @@ fn behind(size: usize) -> usize
     size.min(u32::MAX as usize) + 2
 }
 
-// Of a slice whose first `size` places were lent, the elements from `from` on, and of two places behind them; of more than 12 their hash.
-pub fn show(rt: &impl Print, s: &[u32], from: usize, size: usize) -> io::Result<()>
-    ensures { Unit {0} }
-{
-    let shown = part(s, from, behind(size));
-    if shown.len() > 12 {
-        print_hash(rt, shown)
-    } else {
-        print_all(rt, shown)
+// A slice that a call is to write. Its first `size` places are lent; all hold FREE before.
+#[derive(Drop)]
+pub struct Lent {
+    places: [u32; LENT],
+    size: usize,
+}
+
+impl Lent {
+    pub fn new(size: usize) -> Lent
+        ensures { result.size ≡ size }
+    {
+        Lent {
+            places: filled(FREE),
+            size,
+        }
+    }
+
+    pub fn lend(&mut self) -> &mut [u32]
+        ensures { result.now ≡ take self.old.size self.old.places }
+    {
+        let size = self.size;
+        front(&mut self.places, size)
+    }
+
+    // The elements in the first `count` places.
+    pub fn first(&self, count: usize) -> &[u32]
+        ensures { result.now ≡ take count self.now.places }
+    {
+        part(&self.places, 0, count)
+    }
+
+    // From the place `from` on what was lent, and two places behind it; of more than 12 their hash.
+    fn show_from(&self, rt: &impl Print, from: usize) -> io::Result<()> {
+        let shown = part(&self.places, from, behind(self.size));
+        if shown.len() > 12 {
+            print_hash(rt, shown)
+        } else {
+            print_all(rt, shown)
+        }
+    }
+
+    pub fn show(&self, rt: &impl Print) -> io::Result<()>
+        ensures { Unit {0} }
+    {
+        self.show_from(rt, 0)
+    }
+
+    // What a call with such an answer may not change of its work: the two places behind it and, where it refused, all.
+    pub fn show_kept<T>(&self, rt: &impl Print, answer: &Result<T, Refusal>) -> io::Result<()>
+        ensures { Unit {0} }
+    {
+        let free = if answer.is_ok() { self.size } else { 0 };
+        self.show_from(rt, free)
     }
 }
 
-// The hash of the same in bytes.
-pub fn show_text(rt: &impl Print, s: &[u8], from: usize, size: usize) -> io::Result<()>
-    ensures { Unit {0} }
-{
-    print_hash(rt, part(s, from, behind(size)))
+// The same of bytes, which hold FREE_BYTE before.
+#[derive(Drop)]
+pub struct LentText {
+    bytes: [u8; LENT_TEXT],
+    size: usize,
+}
+
+impl LentText {
+    pub fn new(size: usize) -> LentText
+        ensures { result.size ≡ size }
+    {
+        LentText {
+            bytes: filled(FREE_BYTE),
+            size,
+        }
+    }
+
+    pub fn lend(&mut self) -> &mut [u8]
+        ensures { result.now ≡ take self.old.size self.old.bytes }
+    {
+        let size = self.size;
+        front(&mut self.bytes, size)
+    }
+
+    // The first `count` bytes.
+    pub fn first(&self, count: usize) -> &[u8]
+        ensures { result.now ≡ take count self.now.bytes }
+    {
+        part(&self.bytes, 0, count)
+    }
+
+    // From the place `from` on what was lent, and two places behind it: their hash.
+    pub fn show_from(&self, rt: &impl Print, from: usize) -> io::Result<()>
+        ensures { Unit {0} }
+    {
+        print_hash(rt, part(&self.bytes, from, behind(self.size)))
+    }
 }

@@ -1,7 +1,8 @@
 -- The text call's checks, by the reader's: arrays for 128 rows and 1,024 entries make the reader's 11 the text call's.
 --     by_reader text room r     the text call's refusal, r being the reader's: 1 first, then the reader's, then the answer's room
 --     text_by_reader           text_refusal text room ≡ by_reader text room (reader_refusal ..) for slices of 129, 1,024, 1,024, 128 and 128 places
---     by_reader_refused, by_reader_short, by_reader_taken      its cases where the text is not too long
+--     by_reader_long           1 where the text is too long
+--     by_reader_refused, by_reader_short, by_reader_taken      its cases where it is not
 --     text_refused, text_given what the call answers and leaves in either case
 --     TextTaken text, text_taken      what text_refusal text room ≡ 0 says
 --     run_checked              a run without words on a system that passes the checks

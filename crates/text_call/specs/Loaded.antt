@@ -3,6 +3,7 @@
 --     Taken                          a system of at most 128 rows that passes the checks
 --     Loaded                         .. in the leading parts of the arrays
 --     read_loaded                    what the arrays hold after the reader took a text
+--     read_modulus_law, refused_number      the modulus that the reader answers; where it refuses, its number is from 1
 --     read_outcome                   the answer's text is the text call's
 --     verdict_text, degree_of, passes_of      the answer's text, the degree and the passes, of what the solver says
 --     verdict_solved, verdict_singular      .. by its cases

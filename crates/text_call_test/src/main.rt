@@ -5,49 +5,48 @@
 #![tactic(auto)]
 
 use std::io;
-use test_io::{FREE_BYTE, LENT_TEXT, MEMORY, TEXT, at, filled, front, part, place, print};
+use test_io::{Cases, LentText, MEMORY, TEXT, at, filled, part, place, print};
 
-// Makes the call; the answer's length.
-fn answered(
-    rt: &impl Print,
-    which: u32,
-    text: &[u8],
-    buffer: &[u8],
-    answer: &mut [u8],
-) -> io::Result<usize> {
-    if which == 1 {
-        let length = text_call::output(buffer, text.len(), answer);
-        print(rt, length as u64)?;
-        return Ok(length);
-    }
+// ---- the two calls: each prints what it returns; the answer's length
+
+// A number up to 18 is no length.
+fn answer_text(rt: &impl Print, text: &[u8], answer: &mut [u8]) -> io::Result<usize> {
     let number = text_call::filzeur_text(text, answer);
     print(rt, number)?;
     Ok(if number > 18 { number as usize } else { 0 })
 }
 
+fn answer_output(
+    rt: &impl Print,
+    buffer: &[u8],
+    count: usize,
+    answer: &mut [u8],
+) -> io::Result<usize> {
+    let length = text_call::output(buffer, count, answer);
+    print(rt, length)?;
+    Ok(length)
+}
+
 fn call(rt: &impl Print, memory: &[u8], head: &[u32]) -> io::Result<()> {
     let text = part(memory, place(head, 2), place(head, 3));
     let buffer = part(memory, place(head, 2), place(head, 4));
-    let room = place(head, 1);
-    let mut answer: [u8; LENT_TEXT] = filled(FREE_BYTE);
-    let length = answered(rt, at(head, 0), text, buffer, front(&mut answer, room))?;
-    test_io::show_text(rt, &answer, length, room)?;
+    let mut answer = LentText::new(place(head, 1));
+    let length = match at(head, 0) {
+        1 => answer_output(rt, buffer, text.len(), answer.lend())?,
+        _ => answer_text(rt, text, answer.lend())?,
+    };
+    answer.show_from(rt, length)?;
     test_io::end_line(rt)?;
-    rt.write_all(part(&answer, 0, length))
+    rt.write_all(answer.first(length))
 }
 
 fn main(rt: HostRuntime) -> io::Result<()> {
     let mut text: [u8; TEXT] = filled(0);
-    let mut room: [u32; MEMORY] = filled(0);
+    let mut lists: [u32; MEMORY] = filled(0);
     test_io::read_text(&mut rt.stdin(), &mut text)?;
-    let memory: &[u8] = &text;
-    test_io::numbers_of(memory, &mut room);
-    let lists: &[u32] = &room;
-    let calls = at(lists, 0);
-    let mut from = 1;
-    for _ in 0..calls {
-        call(&rt, memory, test_io::list(lists, from, 0))?;
-        from = test_io::after(lists, from, 1);
+    test_io::numbers_of(&text, &mut lists);
+    for case in Cases::new(&lists, 1) {
+        call(&rt, &text, case.head())?;
     }
     Ok(())
 }

@@ -1,5 +1,6 @@
 -- Offered vectors (src/offered.rt): two tests place by place.
 --     equal_all, zero_all      lists are equal, or zero, in every place
+--     zero_tested              a test of zeros in every place
 --     takes_all                A takes x to b, row after row; takes_tested: a test of that
 use Rattle.std.specs.Prelude.{◌-◌, take, drop, ◌≡◌, Bool, true, List, ℕ, ◌<◌, eqb, length}
 use Rattle.std.proofs.Math.Nat.{sub_self}

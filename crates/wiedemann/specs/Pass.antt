@@ -5,6 +5,7 @@
 --     pass_of, passed       the meaning's record of a pass; the code's, by A, left, t and the products made beside f(A)r's
 --     Rule                 the terms that a pass ends with, and its products beside f(A)r's, by the meaning's `pass`: rule_whole, rule_early, rule_on, as
 --                          there was no test, it found f(A)r zero, or not; rule_present: w = 0
+--     makes_modulus        the modulus by its other name
 --     Shortened            terms, recurrence and f(A)r, in a slice of which the places from `base` on are r's and the first `kept` stay:
 --                          shortened, shortened_lent, shortened_window
 --     Makes, Answers       what a pass leaves; what each case of an answer says
@@ -31,7 +32,7 @@ use Rattle.refusal.specs.Number.{number_of}
 use Rattle.laws.specs.Part.{part, length_part, at_part}
 use Rattle.laws.specs.Lent.{lent, length_lent, take_lent, inner_lent, part_at, part_of_part, same_take, same_drop}
 use Rattle.wiedemann.specs.Turns.{Sequenced, Generated, Applied}
-use Rattle.recurrence.specs.Factor.{Factors, Multiplied}
+use Rattle.recurrence.specs.Factor.{AreFactors, Multiplied}
 
 abbrev pub generator_at : ℕ → ℕ → ℕ
 generator_at n left = residual_at n + (3 * n + (2 * left + 2))
@@ -205,7 +206,7 @@ module _ {p : ℕ} {A : Matrix} {w : ℕ} {u W W₁ : List ℕ} {q : CodePass} (
 
   -- F's coefficients passed check 9, f's are a generator's
   pub shortened_factors : Prime p → size A ≤ 4096 → Vector p (D + 1) (part 0 (D + 1) W)
-      → (f m : ℕ) → f ≡ generator_at (size A) (size A - D) → f + q.degree < m → m ≤ length W → Factors p (part 0 m W₁) D f q.degree
+      → (f m : ℕ) → f ≡ generator_at (size A) (size A - D) → f + q.degree < m → m ≤ length W → AreFactors p (part 0 m W₁) D f q.degree
   shortened_factors prime sized F f m e inside fits =
       record {
         few = omega (arith, within, sized);

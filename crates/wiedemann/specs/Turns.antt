@@ -5,6 +5,7 @@
 --     Turning                what a product from one region into another asks
 --     Prepared               the iterate times X, where the product will read it: copied_part, prepared_none, prepared_other, prepared_first; prepared_turning
 --     Advanced               what a product leaves: Horner's step with r; advanced_scaled: with AX, of an iterate that was made ready
+--     regions                the lent part has what the step asks
 --     advanced, advanced_at      the step within the part that r and its iterates have is that
 --     Iterated               the terms of a sequence up to i, and Aⁱr in a region: iterated_none, iterated_more, iterated_from; Sequenced: all of
 --                            them, iterated_all; iterated_kept: what stands behind the terms is not asked

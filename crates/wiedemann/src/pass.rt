@@ -24,7 +24,7 @@ use checks::{Matrix, Products, check_pass, residual_at};
 use field::Field;
 use modular::diagonal::scale;
 use modular::modulus::Modulus;
-use recurrence::factor::multiply;
+use recurrence::factor::{Factors, multiply};
 use recurrence::generate;
 use refusal::Refusal;
 use slices::copy_within;
@@ -245,8 +245,9 @@ fn pass_of_state(
     let q = take_factor(ax, &u, &mut work[first..], left, window);
     let f = generator_at(n, left);
     let end = f + q.degree + 1;
+    let factors = Factors { d, f, t: q.degree };
     // never refused: F and f are such factors
-    let _ = multiply(ax.m.p, &mut work[..end], d, f, q.degree);
+    let _ = multiply(ax.m.p, &mut work[..end], factors);
     q
 }
 

@@ -1,56 +1,54 @@
+use Rattle.std.proofs.Common.{◌≡◌, refl, sym, ap, ◌∙◌, subst, List, ℕ, ◌≤◌, length, Some, None}
 use Rattle.std.proofs.lemmas.Result.{err_from_is_err_and}
-use Rattle.refusal.specs.Number.{number_positive}
-use Rattle.std.proofs.Common.{◌≡◌, refl, sym, ap, ◌∙◌, subst, arith, ◌≤◌, length}
 use Rattle.meaning.specs.List.{overwrite}
-use Rattle.meaning.specs.Calls.{reader_refusal}
+use Rattle.meaning.specs.Calls.{reader_refusal, reader_answer}
 use Rattle.laws.specs.Refusal.{unless_refused_none, unless_refused_some}
-use Rattle.std.proofs.Common.{Some, None}
+use Rattle.refusal.specs.declared.Refusal.{Refusal}
+use Rattle.refusal.specs.declared.Refusal.TheVariants.{Form}
+use Rattle.refusal.specs.Number.{number_of, number_positive}
+use Rattle.system_reader.specs.Answers.{modulus_of_document, size_of_document, count_of_document, starts_after, columns_after, values_after, scales_after, right_after}
 use Rattle.system_reader.specs.Surveys.{survey_refusal, reader_refusal_law, accepted, entries_ahead, scales_ahead, elements_ahead, starts_are, columns_are, values_are, scales_are, right_is}
 use Rattle.system_reader.proofs.read.Goals as goal
+
+module _ (text starts columns values scales right : List ℕ) (r : Refusal) where
+  -- a refusal reads nothing and leaves the slices as they were
+  refused : number_of r ≡ reader_refusal text starts columns values scales right
+      → record {
+        refusal : number_of r ≡ reader_refusal text starts columns values scales right;
+        modulus : 0 ≡ reader_answer modulus_of_document text starts columns values scales right;
+        size : 0 ≡ reader_answer size_of_document text starts columns values scales right;
+        entries : 0 ≡ reader_answer count_of_document text starts columns values scales right;
+        starts_after : starts ≡ starts_after text starts columns values scales right;
+        columns_after : columns ≡ columns_after text starts columns values scales right;
+        values_after : values ≡ values_after text starts columns values scales right;
+        scales_after : scales ≡ scales_after text starts columns values scales right;
+        right_after : right ≡ right_after text starts columns values scales right;
+      }
+  refused q =
+      let k = reader_refusal text starts columns values scales right in
+      let n : k ≡ 0 → ⊥ = λ e. number_positive r (q ∙ e) in
+      record {
+        refusal = q;
+        modulus = sym (unless_refused_some k _ 0 n);
+        size = sym (unless_refused_some k _ 0 n);
+        entries = sym (unless_refused_some k _ 0 n);
+        starts_after = sym (unless_refused_some k _ starts n);
+        columns_after = sym (unless_refused_some k _ columns n);
+        values_after = sym (unless_refused_some k _ values n);
+        scales_after = sym (unless_refused_some k _ scales n);
+        right_after = sym (unless_refused_some k _ right n);
+      }
 
 -- not in form
 pub returns-in_default : goal.returns-in_default
 unfolding survey_refusal
-returns-in_default c =
-    let a = c.args in
-    let q = reader_refusal_law a.text.now a.starts.now a.columns.now a.values.now a.scales.now a.right.now None c.in_default.ensures in
-    let k = reader_refusal a.text.now a.starts.now a.columns.now a.values.now a.scales.now a.right.now in
-    let n : k ≡ 0 → ⊥ = λ e. omega (arith, q, e) in
-    record {
-      refusal = q;
-      modulus = sym (unless_refused_some k _ 0 n);
-      size = sym (unless_refused_some k _ 0 n);
-      entries = sym (unless_refused_some k _ 0 n);
-      starts_after = sym (unless_refused_some k _ a.starts.now n);
-      columns_after = sym (unless_refused_some k _ a.columns.now n);
-      values_after = sym (unless_refused_some k _ a.values.now n);
-      scales_after = sym (unless_refused_some k _ a.scales.now n);
-      right_after = sym (unless_refused_some k _ a.right.now n);
-    }
+returns-in_default c = refused _ _ _ _ _ _ Form (reader_refusal_law _ _ _ _ _ _ None c.in_default.ensures)
 
+-- turned down by a check
 pub returns-in_err-check : goal.returns-in_err-check
 returns-in_err-check c =
-    let a = c.args in
-    let s = c.in-Some.s in
-    let e = c.in_err-check.field-0.0 in
     let exit = err_from_is_err_and c.from_residual.result c.from_residual.ensures.1 in
-    let q =
-    c.in_err-check.ensures
-    ∙ reader_refusal_law a.text.now a.starts.now a.columns.now a.values.now a.scales.now a.right.now (Some s) c.in-Some.ensures in
-    let k = reader_refusal a.text.now a.starts.now a.columns.now a.values.now a.scales.now a.right.now in
-    let n : k ≡ 0 → ⊥ = λ z. number_positive e (q ∙ z) in
-    rw (exit.1, exit.2)
-    (record {
-      refusal = q;
-      modulus = sym (unless_refused_some k _ 0 n);
-      size = sym (unless_refused_some k _ 0 n);
-      entries = sym (unless_refused_some k _ 0 n);
-      starts_after = sym (unless_refused_some k _ a.starts.now n);
-      columns_after = sym (unless_refused_some k _ a.columns.now n);
-      values_after = sym (unless_refused_some k _ a.values.now n);
-      scales_after = sym (unless_refused_some k _ a.scales.now n);
-      right_after = sym (unless_refused_some k _ a.right.now n);
-    })
+    rw (exit.1, exit.2) (refused _ _ _ _ _ _ _ (c.in_err-check.ensures ∙ reader_refusal_law _ _ _ _ _ _ (Some c.in-Some.s) c.in-Some.ensures))
 
 pub fill_entries-requires : goal.fill_entries-requires
 fill_entries-requires c =

@@ -7,7 +7,7 @@ use Rattle.recurrence.proofs.factor.coefficient.Goals.{Joined-k-d, then-k-t, els
 use Rattle.recurrence.proofs.factor.coefficient.Goals as goal
 
 -- the sum's bounds
-meeting : (c : Joined-k-d) → Meeting c.args.d c.args.t c.args.k c.if-k-t.from c.if-k-d.to
+meeting : (c : Joined-k-d) → Meeting c.args.factors.d c.args.factors.t c.args.k c.if-k-t.from c.if-k-d.to
 meeting c =
     record {
       inside = c.requires.2;

@@ -4,16 +4,16 @@ use native.Mathlib.Omega.{arith}
 use lib.ListN.{length}
 use Rattle.meaning.specs.List.{flat, table}
 use Rattle.meaning.specs.Text.{write_row}
-use Rattle.line_writer.specs.Written.{wrote_as, wrote_rows_none, wrote_rows_more}
+use Rattle.line_writer.specs.Adds.{adds_as, adds_rows_none, adds_rows_more}
 use Rattle.checks.specs.Slices.{matrix_of}
 use Rattle.system_writer.specs.Writes.{row_text_law}
 use Rattle.system_writer.proofs.lines.all_rows.Goals as goal
 
 pub loop-i-init : goal.loop-i-init
-loop-i-init c = wrote_rows_none c.args.out.now c.args.at (write_row (matrix_of c.args.a.now)) (omega arith)
+loop-i-init c = adds_rows_none c.args.lines.now (write_row (matrix_of c.args.a.now))
 
-pub row_lines-next-requires : goal.row_lines-next-requires
-row_lines-next-requires c =
+pub row_lines-requires : goal.row_lines-requires
+row_lines-requires c =
     let i = c.loop-i.i in
     let l : i < length c.args.a.now.starts.now - 1 = c.loop-i-test.true in
     let q = c.requires.within (i + 1) (omega (arith, l)) in
@@ -23,12 +23,9 @@ pub loop-i-preserved : goal.loop-i-preserved
 loop-i-preserved c =
     let A = matrix_of c.args.a.now in
     let i = c.loop-i.i in
-    wrote_rows_more (write_row A) i c.loop-i.invariant (wrote_as (row_text_law A i _ _ refl refl) c.row_lines-next.ensures)
-
-pub shape_of-out : goal.shape_of-out
-shape_of-out c = c.loop-i.invariant.same
+    adds_rows_more (write_row A) i c.loop-i.invariant (adds_as (row_text_law A i _ _ refl refl) c.row_lines.ensures)
 
 pub returns : goal.returns
 returns c =
     let q : c.loop-i.i ≡ length c.args.a.now.starts.now - 1 = omega (arith, c.loop-i-test.false) in
-    wrote_as (ap (λ m. flat (table m (write_row (matrix_of c.args.a.now)))) q) c.loop-i.invariant
+    adds_as (ap (λ m. flat (table m (write_row (matrix_of c.args.a.now)))) q) c.loop-i.invariant

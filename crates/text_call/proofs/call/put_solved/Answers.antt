@@ -1,5 +1,4 @@
 use mathlib.Core.Path.{refl, ap₂, ◌∙◌}
-use Prim.Native.Nat.{◌-◌}
 use native.Mathlib.Omega.{arith}
 use lib.Seq.{take_at, length-take-le}
 use Rattle.line_writer.specs.Written.{wrote_as}
