@@ -1,13 +1,14 @@
 -- Products with a matrix, as the code counts them: how many, and the entries that they multiply (request (iii)).
 --     products_with k A       k products with A
 --     added                  some products and some more
+--     wrapped                .. modulo 2⁶⁴, as the code adds any two counts: wrapped_few
 --     products_none, products_zero, products_add, products_next      .. with A; one more
 --     products_scaled        .. with AX
 --     Few, products_few      what keeps a sum of two within 64 bits: up to 65,536 products each; so it is of those with a valid matrix,
 --     per_product_low        each of which multiplies at most 65,536 entries
 --     rows_ended, product_ended, row_behind      a loop over all rows is one product, which goes from the first row's start to the last one's end
-use Rattle.std.specs.Prelude.{◌≡◌, refl, List, ℕ, zero, suc, ◌+◌, ◌-◌, ◌≤◌, ◌<◌, length}
-use Rattle.std.proofs.Common.{sym, ap, ap₂, ◌∙◌, add-one, arith}
+use Rattle.std.specs.Prelude.{◌≡◌, refl, List, ℕ, zero, suc, ◌+◌, ◌-◌, ◌%◌, ◌≤◌, ◌<◌, length}
+use Rattle.std.proofs.Common.{sym, ap, ap₂, ◌∙◌, add-one, mod-eq_of_lt, arith}
 use Rattle.meaning.specs.List.{at}
 use Rattle.meaning.specs.Matrix.{Matrix, size, per_product, multiplied, scaled}
 use Rattle.laws.specs.Products.{multiplied_none, multiplied_one, multiplied_add, multiplied_most, multiplied_scaled, rows_entries}
@@ -19,6 +20,9 @@ products_with k A = record { made = k; multiplied = multiplied k A }
 
 abbrev pub added : Products → Products → Products
 added a b = record { made = a.made + b.made; multiplied = a.multiplied + b.multiplied }
+
+abbrev pub wrapped : Products → Products → Products
+wrapped a b = record { made = (a.made + b.made) % 18446744073709551616; multiplied = (a.multiplied + b.multiplied) % 18446744073709551616 }
 
 pub products_none : (A : Matrix) → ◌≡◌ {A = Products} (record { made = 0; multiplied = 0 }) (products_with 0 A)
 products_none A = ap {B = Products} (λ m. record { made = 0; multiplied = m }) (sym (multiplied_none A))
@@ -43,6 +47,11 @@ products_scaled p A X k = ap {B = Products} (λ m. record { made = k; multiplied
 pub record Few (a : Products) : Type 0 where
   pub made_low : a.made ≤ 65536
   pub multiplied_low : a.multiplied ≤ 4294967296
+
+pub wrapped_few : {a b : Products} → Few a → Few b → wrapped a b ≡ added a b
+wrapped_few h k =
+    ap₂ {C = Products} (λ m n. record { made = m; multiplied = n }) (mod-eq_of_lt (omega (arith, h.made_low, k.made_low)))
+    (mod-eq_of_lt (omega (arith, h.multiplied_low, k.multiplied_low)))
 
 pub per_product_low : {p : ℕ} {A : Matrix} → Valid p A → per_product A ≤ 65536
 unfolding per_product

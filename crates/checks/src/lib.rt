@@ -15,7 +15,7 @@ ghost use Rattle.meaning.specs.Calls.{system_checks, product_refusal, takes_refu
 ghost use Rattle.refusal.specs.Number.{refused_by};
 ghost use Rattle.checks.specs.Slices.{matrix_of};
 ghost use Rattle.checks.specs.Pass.{residual_at, state_checks, pass_refusal};
-ghost use Rattle.checks.specs.Products.{Few, added};
+ghost use Rattle.checks.specs.Products.{wrapped};
 ghost use Rattle.checks.specs.Matrix.{column_taken, rises, Ordered, scaled_apply_refusal};
 
 use field::is_modulus;
@@ -30,18 +30,16 @@ pub struct Products {
     pub multiplied: u64,
 }
 
-// Some products and some more.
+// Some products and some more: for every two counts modulo 2^64, which is their sum for as many as a pass makes (`wrapped_few`).
 impl Add for Products {
     type Output = Self;
 
-    ghost can_add = { λ a b. Few a × Few b };
-
-    ghost add_gives = { λ a b r. r ≡ added a b };
+    ghost add_gives = { λ a b r. r ≡ wrapped a b };
 
     fn add(self, more: Self) -> Self {
         Products {
-            made: self.made + more.made,
-            multiplied: self.multiplied + more.multiplied,
+            made: self.made.wrapping_add(more.made),
+            multiplied: self.multiplied.wrapping_add(more.multiplied),
         }
     }
 }

@@ -19,7 +19,8 @@ pub use lines::Lines;
 fn digits_of(k: u64) -> usize
     ensures { (result ≡ length (decimal k)) × (result ≤ 20) }
 {
-    k.max(1).ilog10() as usize + 1
+    // the most frequent case by far in small systems
+    if k < 10 { 1 } else { k.ilog10() as usize + 1 }
 }
 
 // The length of a line of a word of so many bytes and of these numbers.
@@ -64,12 +65,14 @@ fn put_digits(out: &mut [u8], at: usize, digits: usize, k: u64)
     out[at] = digit(rest);
 }
 
-#[tactic(auto, using(crate::specs::Placed::placed_part))]
+// (Byte after byte: std's `copy_from_slice` would have the library ask the host's C library for `memmove`.)
 fn put_word(out: &mut [u8], at: usize, word: &[u8])
     requires { at + length word.now ≤ length out.old }
     ensures { out.new ≡ placed out.old at word.now }
 {
-    out[at..at + word.len()].copy_from_slice(word);
+    for i in 0..word.len() {
+        out[at + i] = word[i];
+    }
 }
 
 // Writes the numbers, a tab before each.
@@ -86,7 +89,9 @@ fn put_fields(out: &mut [u8], at: usize, numbers: &[u64])
     }
 }
 
-// Writes a line, if there is room for all of it, and answers the place after it.
+// Writes a line, if there is room for all of it, and answers the place after it. (Compiled into each caller, whose words and numbers are few: as a call a
+// line of a few bytes took twice the time.)
+#[inline(always)]
 pub fn put_line(out: &mut [u8], at: usize, word: &[u8], numbers: &[u64]) -> usize
     ensures value { result ≡ after at (line (word.now ∷ map decimal numbers.now)) }
     ensures out_after { out.new ≡ written out.old at (line (word.now ∷ map decimal numbers.now)) }

@@ -24,6 +24,7 @@ impl<'a> Lines<'a> {
     }
 
     // Writes a line, if there is room for all of it, and goes to the place after it.
+    #[inline(always)]
     pub fn put(&mut self, word: &[u8], numbers: &[u64])
         ensures adds { Adds self.old (line (word.now ∷ map decimal numbers.now)) self.new }
         ensures bytes { self.new.out.now ≡ written self.old.out.now self.old.at (line (word.now ∷ map decimal numbers.now)) }

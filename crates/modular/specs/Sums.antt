@@ -6,8 +6,10 @@
 --     sum_from_ext      terms that agree within the range
 --     Summed           the invariant of every loop that sums into a total: summed_none where it begins, summed_more for a turn, summed_one for a
 --                      turn with one term, summed_both for two such loops after each other
-use Rattle.std.specs.Prelude.{◌≡◌, ℕ, zero, suc, ◌+◌, ◌-◌, ◌<◌, ◌≤◌}
-use Rattle.std.proofs.Common.{sym, ap, ap₂, ◌∙◌, zero-add, add-zero, add_assoc, add-suc, add-sub_of_le, add-one, arith}
+--     Grouped          the word with some terms of a group, of which so many fit a word: grouped_none, grouped_fits, grouped_more for one term
+--                      more, summed_group for a turn with a whole group; group_within: a group lies in the range
+use Rattle.std.specs.Prelude.{◌≡◌, ℕ, zero, suc, ◌+◌, ◌-◌, ◌*◌, ◌/◌, ◌<◌, ◌≤◌}
+use Rattle.std.proofs.Common.{sym, ap, ap₂, ◌∙◌, subst, zero-add, add-zero, add_assoc, add-suc, add-sub_of_le, add-one, add-mul, le-div_iff_mul-le, le_of_mul-le-mul_right, arith}
 use Rattle.std.proofs.Math.Nat.{sub-zero, sub_self}
 use Rattle.meaning.specs.List.{sum, sum_from}
 use Rattle.laws.specs.List.{sum_zero, sum_suc, sum_ext}
@@ -104,3 +106,40 @@ summed_both t s r a b c f l k h m =
       low = m.low;
       carries = m.carries;
     }
+
+-- ---- by groups of so many terms that a word holds their sum
+
+-- the word with the first j terms of the group from `first` on
+pub record Grouped (size first j word : ℕ) (f : ℕ → ℕ) : Type 0 where
+  pub sum : word ≡ sum_from first (first + j) f
+  pub low : word * size ≤ j * 18446744073709551615
+
+pub group_within : (from to group size : ℕ) → 0 < size → group < (to - from) / size → from ≤ to → from + group * size + size ≤ to
+group_within from to group size z l h =
+    omega (arith, (le-div_iff_mul-le {k = size} {x = group + 1} {y = to - from} z).0 (omega (arith, l)), add-mul group 1 size, h)
+
+pub grouped_none : (size first : ℕ) (f : ℕ → ℕ) → Grouped size first 0 0 f
+grouped_none size first f =
+    record { sum = sym (ap (λ n. sum_from first n f) (add-zero first) ∙ sum_from_empty first f); low = omega arith }
+
+-- one term more fits
+pub grouped_fits : {size first j word : ℕ} {f : ℕ → ℕ} (x : ℕ) → 0 < size → j < size → Grouped size first j word f → x * size < 18446744073709551616
+    → word + x < 18446744073709551616
+grouped_fits {size} {first} {j} {word} x z l g one =
+    omega (arith, le_of_mul-le-mul_right {m = word + x} {n = 18446744073709551615} {k = size} (omega (arith, add-mul word x size, g.low, one, l)) z)
+
+pub grouped_more : {size first j word : ℕ} {f : ℕ → ℕ} (x : ℕ) → Grouped size first j word f → x ≡ f (first + j) → x * size < 18446744073709551616
+    → Grouped size first (j + 1) (word + x) f
+grouped_more {size} {first} {j} {word} {f} x g e one =
+    record {
+      sum = ap₂ ◌+◌ g.sum e ∙ sym (sum_from_next first (first + j) f (omega arith)) ∙ ap (λ n. sum_from first n f) (add_assoc first j 1);
+      low = omega (arith, add-mul word x size, g.low, one);
+    }
+
+-- a turn adds a whole group
+pub summed_group : (t s r : Total) (a group size : ℕ) (f : ℕ → ℕ) (word : ℕ) → 0 < size → a + group * size + size < 4294967296
+    → Summed t s a (a + group * size) f → word < 18446744073709551616 → Grouped size (a + group * size) size word f → r ≡ added s word
+    → Summed t r a (a + (group + 1) * size) f
+summed_group t s r a group size f word z n h w g m =
+    subst (λ k. Summed t r a k f) (omega (arith, add-mul group 1 size))
+    (summed_more t s r a (a + group * size) (a + group * size + size) f word (omega arith) (omega (arith, z)) n h w g.sum m)

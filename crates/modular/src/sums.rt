@@ -1,12 +1,11 @@
 // Sums of products of residues with one reduction at the end, and neither a division nor an unpredictable branch for a product: the sum stands in two
 // words, and the carry of the lower one goes into the higher.
 //
-//     let start = Total { low: word, high: 0 };
-//     let total = sum_by::<4, _>(start, from, to, term);   // four products of residues fit a word, and two of a residue with any 32-bit word
+//     let mut total = Total { low: start, high: 0 };
+//     total = total.add(x);         // for each word x: up to four products of residues, or two of a residue with any 32-bit word
 //     total.residue(m)
-ghost use Rattle.std.specs.Prelude.{◌≡◌, ℕ, ◌*◌, ◌^◌, ◌<◌, ◌≤◌};
+ghost use Rattle.std.specs.Prelude.{◌≡◌, ◌*◌};
 ghost use Rattle.modular.specs.Total.{added, residue_of};
-ghost use Rattle.modular.specs.Sums.{Summed};
 
 use crate::modulus::Modulus;
 
@@ -23,38 +22,6 @@ pub fn times(a: u32, b: u32) -> u64
     ensures { result ≡ a * b }
 {
     (a as u64) * (b as u64)
-}
-
-// The total with the terms from `from` up to but not including `to`: by groups of so many that a word holds their sum, and what is left one at a
-// time. So a group costs one addition and one with carry.
-pub fn sum_by<const GROUP: usize, F: Fn(usize) -> u64>(
-    total: Total,
-    from: usize,
-    to: usize,
-    term: F,
-) -> Total
-    ghost value: { ℕ → ℕ }
-    requires group { 0 < GROUP }
-    requires range { (from ≤ to) × (to < 4294967296) × (total.high ≤ from) }
-    requires callable { (k : ℕ) → from ≤ k → k < to → F.pre term k }
-    requires terms { (k x : ℕ) → from ≤ k → k < to → F.post term k x → (x ≡ value k) × (x * GROUP < 2 ^ 64) }
-    ensures { Summed total result from to value }
-{
-    let groups = (to - from) / GROUP;
-    let middle = from + groups * GROUP;
-    let mut sum = total;
-    for group in 0..groups {
-        let first = from + group * GROUP;
-        let mut word = 0;
-        for j in 0..GROUP {
-            word += term(first + j);
-        }
-        sum = sum.add(word);
-    }
-    for k in middle..to {
-        sum = sum.add(term(k));
-    }
-    sum
 }
 
 impl Total {

@@ -2,6 +2,7 @@
 --     same_modulus               what the core holds, the modulus by its other name
 --     recurred_refused           the answer of a refusal, and slices left as they were
 --     modulus_range, ready       what the checks leave known: of p, and for the core
+--     padded_same, copied        a list in as many places; .. at the front of a slice
 --     recurred_generator         the answer of an accepted call, from the core's
 use mathlib.Core.Path.{◌≡◌, refl, sym, ap, ◌∙◌, subst}
 use mathlib.Core.Bool.{true, false, cond}
@@ -47,6 +48,10 @@ recurred_refused p s polynomial work r e =
 
 pub modulus_range : {p : ℕ} {s polynomial work : List ℕ} → Accepted p s polynomial work → (0 < p) × (p ≤ 2147483647)
 modulus_range {p} input = (omega (arith, (is_modulus_Prime p input.modulus).two_le), is_modulus_le p input.modulus)
+
+-- a list written into as many places as it has
+pub padded_same : {n : ℕ} (s : List ℕ) → n ≡ length s → padded n s ≡ s
+padded_same s e = sym (table_of 0 s _ (at s) (sym e) (λ i l. refl))
 
 -- a list copied to the front of a slice
 pub copied : (s work Y : List ℕ) → length s ≤ length work → Y ≡ s → Written work 0 (length s) (at s) (lent work 0 (length s) Y)

@@ -2,7 +2,8 @@
 ghost use Rattle.modular.specs.Sums.{Summed};
 ghost use Rattle.recurrence.specs.Convolution.{cross, Crossing, nothing};
 
-use modular::sums::{Total, sum_by, times};
+use crate::sums::sum_by;
+use modular::sums::{Total, times};
 
 // The sum of the products of the elements at `forward` + i and at `backward` − i, for i from `from` up to but not including `to`. Four of them fit a
 // word.

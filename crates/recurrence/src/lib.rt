@@ -8,6 +8,7 @@
 mod convolution;
 pub mod factor;
 mod steps;
+mod sums;
 
 ghost use Rattle.std.specs.Prelude.{◌≡◌, ◌+◌, ◌*◌, ◌≤◌, ◌<◌, length};
 ghost use Rattle.meaning.specs.Refusal.{first};
@@ -22,6 +23,7 @@ use field::Field;
 use modular::modulus::Modulus;
 use modular::sums::times;
 use refusal::Refusal;
+use slices::write_padded;
 
 // 3, 8 and 11 of room for a recurrence: p is 2 to 2,147,483,647, prime or not; at most 8,192 terms; the slice.
 fn check_room(p: u32, count: usize, work: &[u32]) -> Result<(), Refusal>
@@ -141,10 +143,10 @@ pub fn recurrence(
 {
     check_recurrence(field.p, s, polynomial, work)?;
     let count = s.len();
-    work[..count].copy_from_slice(s);
+    write_padded(s, &mut work[..count]);
     let degree = shortest(Modulus::of(field.p), count, work);
     let f = count + 2;
     let size = count + 1;
-    polynomial[..size].copy_from_slice(&work[f..f + size]);
+    write_padded(&work[f..f + size], &mut polynomial[..size]);
     Ok(degree)
 }

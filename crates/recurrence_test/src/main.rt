@@ -19,8 +19,11 @@ fn print_answer(rt: &impl Print, answer: Result<usize, Refusal>) -> io::Result<(
 
 fn call(rt: &impl Print, case: Case) -> io::Result<()> {
     let head = case.head();
-    let mut polynomial = Lent::new(place(head, 1));
-    let mut work = Lent::new(place(head, 2));
+    // All lengths before the first slice: with one between two of them each slice would be cleared before it is filled.
+    let places = place(head, 1);
+    let room = place(head, 2);
+    let mut polynomial = Lent::new(places);
+    let mut work = Lent::new(room);
     let answer = recurrence::recurrence(
         field::Field { p: at(head, 0) },
         case.list(1),

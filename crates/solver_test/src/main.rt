@@ -29,10 +29,15 @@ fn print_verdict(rt: &impl Print, verdict: Result<Verdict, Refusal>) -> io::Resu
 
 fn call(rt: &impl Print, case: Case) -> io::Result<()> {
     let head = case.head();
-    let mut vector = Lent::new(place(head, 2));
-    let mut polynomial = Lent::new(place(head, 3));
-    let mut bill = Lent::new(place(head, 4));
-    let mut work = Lent::new(place(head, 5));
+    // All lengths before the first slice: with one between two of them each slice would be cleared before it is filled.
+    let places = place(head, 2);
+    let coefficients = place(head, 3);
+    let billed = place(head, 4);
+    let room = place(head, 5);
+    let mut vector = Lent::new(places);
+    let mut polynomial = Lent::new(coefficients);
+    let mut bill = Lent::new(billed);
+    let mut work = Lent::new(room);
     let a = Matrix {
         starts: case.list(1),
         columns: case.list(2),

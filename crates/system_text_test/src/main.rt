@@ -56,13 +56,13 @@ fn print_header(rt: &impl Print, header: Header) -> io::Result<()> {
     print(rt, header.entries)
 }
 
-// What is read, and what is written of it.
-fn read(rt: &impl Print, text: &[u8], head: &[u32], sizes: &[u32]) -> io::Result<()> {
-    let mut starts = Lent::new(place(head, 3));
-    let mut columns = Lent::new(place(head, 4));
-    let mut values = Lent::new(place(head, 5));
-    let mut scales = Lent::new(place(head, 6));
-    let mut b = Lent::new(place(head, 7));
+// What is read into slices of so many places, and what is written of it.
+fn read_into(rt: &impl Print, text: &[u8], rooms: [usize; 5], sizes: &[u32]) -> io::Result<()> {
+    let mut starts = Lent::new(rooms[0]);
+    let mut columns = Lent::new(rooms[1]);
+    let mut values = Lent::new(rooms[2]);
+    let mut scales = Lent::new(rooms[3]);
+    let mut b = Lent::new(rooms[4]);
     let reading = system_reader::read(
         text,
         starts.lend(),
@@ -95,6 +95,18 @@ fn read(rt: &impl Print, text: &[u8], head: &[u32], sizes: &[u32]) -> io::Result
     values.show(rt)?;
     scales.show(rt)?;
     b.show(rt)
+}
+
+// The same with the head's lengths. (They are read before: with one read between two slices each would be cleared before it is filled.)
+fn read(rt: &impl Print, text: &[u8], head: &[u32], sizes: &[u32]) -> io::Result<()> {
+    let rooms = [
+        place(head, 3),
+        place(head, 4),
+        place(head, 5),
+        place(head, 6),
+        place(head, 7),
+    ];
+    read_into(rt, text, rooms, sizes)
 }
 
 // ---- long texts

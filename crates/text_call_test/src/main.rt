@@ -27,10 +27,11 @@ fn answer_output(
     Ok(length)
 }
 
-fn call(rt: &impl Print, memory: &[u8], head: &[u32]) -> io::Result<()> {
+// With an answer slice of so many places. (Its length is read before: with that read beside it the slice would be cleared before it is filled.)
+fn answer(rt: &impl Print, memory: &[u8], head: &[u32], room: usize) -> io::Result<()> {
+    let mut answer = LentText::new(room);
     let text = part(memory, place(head, 2), place(head, 3));
     let buffer = part(memory, place(head, 2), place(head, 4));
-    let mut answer = LentText::new(place(head, 1));
     let length = match at(head, 0) {
         1 => answer_output(rt, buffer, text.len(), answer.lend())?,
         _ => answer_text(rt, text, answer.lend())?,
@@ -38,6 +39,10 @@ fn call(rt: &impl Print, memory: &[u8], head: &[u32]) -> io::Result<()> {
     answer.show_from(rt, length)?;
     test_io::end_line(rt)?;
     rt.write_all(answer.first(length))
+}
+
+fn call(rt: &impl Print, memory: &[u8], head: &[u32]) -> io::Result<()> {
+    answer(rt, memory, head, place(head, 1))
 }
 
 fn main(rt: HostRuntime) -> io::Result<()> {

@@ -180,56 +180,44 @@ pub never_refused : (number : ℕ) (Left : Register → Type 0) (W : List ℕ) (
 never_refused number Left W (Ok c) W' h z = refl
 never_refused number Left W (Err r) W' h z = absurd (h.1 (sym h.0 ∙ z))
 
--- the part that is lent to the steps, of as many places as the code takes: its size, and that it fits
-module _ (p n left : ℕ) (W : List ℕ) (room : Room n left W) where
-  abbrev lent_m : ℕ
-  lent_m = 3 * n + (8 * left + 8) - 3 * n
-
-  lent_size : 3 * n + (8 * left + 8) - 3 * n ≡ 8 * left + 8
-  lent_size = omega arith
-
-  lent_fits : 3 * n + (3 * n + (8 * left + 8) - 3 * n) ≤ length W
-  lent_fits = omega (arith, room.room)
-
+-- the part of m places that is lent to the steps
+module _ (p n left : ℕ) (W : List ℕ) (m : ℕ) (e : m ≡ 8 * left + 8) (fits : 3 * n + m ≤ length W) where
   abbrev T : List ℕ
-  T = part (3 * n) lent_m W
+  T = part (3 * n) m W
 
-  size_T : length T ≡ lent_m
-  size_T = length_part (3 * n) lent_m W lent_fits
+  size_T : length T ≡ m
+  size_T = length_part (3 * n) m W fits
 
-  first_of : (r : ℕ) → r ≤ lent_m → take r T ≡ part (3 * n) r W
-  first_of r l = take-take r lent_m (drop (3 * n) W) l
+  first_of : (r : ℕ) → r ≤ m → take r T ≡ part (3 * n) r W
+  first_of r l = take-take r m (drop (3 * n) W) l
 
   whole : part (3 * n) (8 * left + 8) W ≡ T
-  whole = part_at W (3 * n) (8 * left + 8) (3 * n) lent_m refl (sym lent_size)
+  whole = part_at W (3 * n) (8 * left + 8) (3 * n) m refl (sym e)
 
-  module _ (Y : List ℕ) (kept : length Y ≡ length (part (3 * n) (3 * n + (8 * left + 8) - 3 * n) W)) where
-    lent_same : length Y ≡ 3 * n + (8 * left + 8) - 3 * n
-    lent_same = kept ∙ size_T
-
+  module _ (Y : List ℕ) (same : length Y ≡ m) where
     abbrev W' : List ℕ
-    W' = lent W (3 * n) lent_m Y
+    W' = lent W (3 * n) m Y
 
     back : part (3 * n) (8 * left + 8) W' ≡ Y
-    back = part_at W' (3 * n) (8 * left + 8) (3 * n) lent_m refl (sym lent_size) ∙ part_lent W (3 * n) lent_m Y lent_fits lent_same
+    back = part_at W' (3 * n) (8 * left + 8) (3 * n) m refl (sym e) ∙ part_lent W (3 * n) m Y fits same
 
     -- a leading part of it that stayed
-    front_of : (b : ℕ) → b ≤ lent_m → take b Y ≡ take b T → take (3 * n + b) W' ≡ take (3 * n + b) W
+    front_of : (b : ℕ) → b ≤ m → take b Y ≡ take b T → take (3 * n + b) W' ≡ take (3 * n + b) W
     front_of b l h =
-        take_ext (3 * n + b) W W' (omega (arith, l, lent_fits)) (length_lent W (3 * n) lent_m Y lent_fits lent_same) (λ k g. place k g (dec_lt k (3 * n)))
+        take_ext (3 * n + b) W W' (omega (arith, l, fits)) (length_lent W (3 * n) m Y fits same) (λ k g. place k g (dec_lt k (3 * n)))
       where
         place : (k : ℕ) → k < 3 * n + b → Dec (k < 3 * n) → at W' k ≡ at W k
         place k g (yes a) =
-            sym (get_or-take (3 * n) W' k 0 a) ∙ ap (λ x. at x k) (take_lent W (3 * n) lent_m Y lent_fits lent_same) ∙ get_or-take (3 * n) W k 0 a
+            sym (get_or-take (3 * n) W' k 0 a) ∙ ap (λ x. at x k) (take_lent W (3 * n) m Y fits same) ∙ get_or-take (3 * n) W k 0 a
         place k g (no a) =
             let i = k - 3 * n in
             let there : 3 * n + i ≡ k = omega arith in
             let low : i < b = omega arith in
-            ap (at W') (sym there) ∙ sym (at_part (3 * n) lent_m W' i (omega (arith, low, l)))
-            ∙ ap (λ x. at x i) (part_lent W (3 * n) lent_m Y lent_fits lent_same) ∙ sym (get_or-take b Y i 0 low) ∙ ap (λ x. at x i) h
-            ∙ get_or-take b T i 0 low ∙ at_part (3 * n) lent_m W i (omega (arith, low, l)) ∙ ap (at W) there
+            ap (at W') (sym there) ∙ sym (at_part (3 * n) m W' i (omega (arith, low, l)))
+            ∙ ap (λ x. at x i) (part_lent W (3 * n) m Y fits same) ∙ sym (get_or-take b Y i 0 low) ∙ ap (λ x. at x i) h
+            ∙ get_or-take b T i 0 low ∙ at_part (3 * n) m W i (omega (arith, low, l)) ∙ ap (at W) there
 
-    pub begun_lent : {c : Register} {a : Result Register Refusal} → Starts p (2 * left) (part (3 * n) (3 * n + (8 * left + 8) - 3 * n) W) a Y → a ≡ Ok c → Begun p n left W c (lent W (3 * n) (3 * n + (8 * left + 8) - 3 * n) Y)
+    pub begun_lent : {c : Register} {a : Result Register Refusal} → Starts p (2 * left) (part (3 * n) m W) a Y → a ≡ Ok c → Begun p n left W c (lent W (3 * n) m Y)
     begun_lent {c} h is =
         let made = answered (first (room_checks p (2 * left) T)) (Started p (2 * left) T Y) T Y is h in
         record {
@@ -239,51 +227,51 @@ module _ (p n left : ℕ) (W : List ℕ) (room : Room n left W) where
                 laid = made.laid;
                 zeros = zeros_none_yet p [];
               };
-          same_length = length_lent W (3 * n) lent_m Y lent_fits lent_same;
-          front = take_lent W (3 * n) lent_m Y lent_fits lent_same;
+          same_length = length_lent W (3 * n) m Y fits same;
+          front = take_lent W (3 * n) m Y fits same;
         }
 
-    pub step_lent : {r : ℕ} {c c' : Register} {a : Result Register Refusal} → ToStep p n left r W c → StepsOn p (2 * left) r (part (3 * n) (3 * n + (8 * left + 8) - 3 * n) W) c a Y → a ≡ Ok c'
-        → StepMade p n left r W c' (lent W (3 * n) (3 * n + (8 * left + 8) - 3 * n) Y)
+    pub step_lent : {r : ℕ} {c c' : Register} {a : Result Register Refusal} → ToStep p n left r W c → StepsOn p (2 * left) r (part (3 * n) m W) c a Y → a ≡ Ok c'
+        → StepMade p n left r W c' (lent W (3 * n) m Y)
     step_lent {r} {c} {c'} ask h is =
         record {
           steps =
               subst (λ x. FollowsSteps p (part (3 * n) r W) r c'.d (represented (2 * left) x c')) (sym back)
-              (subst (λ x. FollowsSteps p x r c'.d (represented (2 * left) Y c')) (first_of r (omega (arith, ask.high, lent_size)))
+              (subst (λ x. FollowsSteps p x r c'.d (represented (2 * left) Y c')) (first_of r (omega (arith, ask.high, e)))
               (made.follows
-              (subst (λ x. FollowsSteps p x (r - 1) c.d (represented (2 * left) T c)) (sym (first_of (r - 1) (omega (arith, ask.high, lent_size))))
+              (subst (λ x. FollowsSteps p x (r - 1) c.d (represented (2 * left) T c)) (sym (first_of (r - 1) (omega (arith, ask.high, e))))
               (subst (λ x. FollowsSteps p (part (3 * n) (r - 1) W) (r - 1) c.d (represented (2 * left) x c)) whole ask.steps))));
           laid = made.sound.laid;
-          same_length = length_lent W (3 * n) lent_m Y lent_fits lent_same;
-          front = front_of (2 * left + 2) (omega (arith, lent_size)) made.stay.same_front;
+          same_length = length_lent W (3 * n) m Y fits same;
+          front = front_of (2 * left + 2) (omega (arith, e)) made.stay.same_front;
         }
       where
         made : MakesStep p (2 * left) r T c Y c'
         made = answered (step_refusal p (2 * left) r T c) (MakesStep p (2 * left) r T c Y) T Y is h
 
   -- a start with room is never refused
-  pub begun_never : is_modulus p ≡ true → first (room_checks p (2 * left) (part (3 * n) (3 * n + (8 * left + 8) - 3 * n) W)) ≡ 0
-  begun_never modulus =
+  pub begun_never : is_modulus p ≡ true → left ≤ 4096 → first (room_checks p (2 * left) (part (3 * n) m W)) ≡ 0
+  begun_never modulus low =
       room_to
-      (record { two = (is_modulus_Prime p modulus).two_le; small = is_modulus_le p modulus; few = omega (arith, room.low); room = omega (arith, size_T, lent_size) })
+      (record { two = (is_modulus_Prime p modulus).two_le; small = is_modulus_le p modulus; few = omega (arith, low); room = omega (arith, size_T, e) })
 
   -- the steps' own state is never refused
-  pub step_never : {r : ℕ} {c : Register} → is_modulus p ≡ true → ToStep p n left r W c → step_refusal p (2 * left) r (part (3 * n) (3 * n + (8 * left + 8) - 3 * n) W) c ≡ 0
-  step_never {r} {c} modulus ask =
+  pub step_never : {r : ℕ} {c : Register} → is_modulus p ≡ true → left ≤ 4096 → ToStep p n left r W c → step_refusal p (2 * left) r (part (3 * n) m W) c ≡ 0
+  step_never {r} {c} modulus low ask =
       step_taken (is_modulus_Prime p modulus) ask.low
       (record {
         ready = record {
           two = (is_modulus_Prime p modulus).two_le;
           small = is_modulus_le p modulus;
-          few = omega (arith, ask.high, room.low);
-          room = omega (arith, ask.high, size_T, lent_size);
-          elements = λ i l. subst (λ x. x < p) (at_part (3 * n) r W i l ∙ sym (at_part (3 * n) lent_m W i (omega (arith, l, ask.high, lent_size)))) (ask.terms.below i l);
+          few = omega (arith, ask.high, low);
+          room = omega (arith, ask.high, size_T, e);
+          elements = λ i l. subst (λ x. x < p) (at_part (3 * n) r W i l ∙ sym (at_part (3 * n) m W i (omega (arith, l, ask.high, e)))) (ask.terms.below i l);
         };
         high = ask.high;
-        few = omega (arith, room.low);
-        room = omega (arith, size_T, lent_size);
+        few = omega (arith, low);
+        room = omega (arith, size_T, e);
       })
-      (subst (λ x. FollowsSteps p x (r - 1) c.d (represented (2 * left) T c)) (sym (first_of (r - 1) (omega (arith, ask.high, lent_size))))
+      (subst (λ x. FollowsSteps p x (r - 1) c.d (represented (2 * left) T c)) (sym (first_of (r - 1) (omega (arith, ask.high, e))))
       (subst (λ x. FollowsSteps p (part (3 * n) (r - 1) W) (r - 1) c.d (represented (2 * left) x c)) whole ask.steps))
       ask.laid
 
@@ -866,30 +854,22 @@ module _ (p : ℕ) (A : Matrix) (left L : ℕ) {W W₁ W₂ W₃ : List ℕ} (lo
 
 -- ---- the pass
 
--- what was heard in the places from r on, which were lent and hold R₁ now; the slice B begins with the test's places
-pub record Returned (p : ℕ) (A : Matrix) (left w : ℕ) (u B : List ℕ) (h : Heard) (R₁ : List ℕ) : Type 0 where
+-- what was heard in the m places from r on, which were lent and hold R₁ now; the slice B begins with the test's places
+pub record Returned (p : ℕ) (A : Matrix) (left w : ℕ) (u B : List ℕ) (m : ℕ) (h : Heard) (R₁ : List ℕ) : Type 0 where
   pub prime : Prime p
   pub sized : size A ≤ 4096
   pub low : left ≤ 4096
-  pub room : 6 * size A + (8 * left + 8) ≤ length B
-  pub same_length : length R₁ ≡ length B - 3 * size A
-  pub heard : Listened p A left w u (part (3 * size A) (length B - 3 * size A) B) h R₁
+  pub fits : 3 * size A + m ≤ length B
+  pub room : 3 * size A + (8 * left + 8) ≤ m
+  pub same_length : length R₁ ≡ m
+  pub heard : Listened p A left w u (part (3 * size A) m B) h R₁
 
-module _ {p : ℕ} {A : Matrix} {left w : ℕ} {u B : List ℕ} {h : Heard} {R₁ : List ℕ} (known : Returned p A left w u B h R₁) where
+module _ {p : ℕ} {A : Matrix} {left w : ℕ} {u B : List ℕ} {m : ℕ} {h : Heard} {R₁ : List ℕ} (known : Returned p A left w u B m h R₁) where
   abbrev at_r : ℕ
   at_r = 3 * size A
 
-  abbrev m : ℕ
-  m = length B - 3 * size A
-
-  fits : 3 * size A + (length B - 3 * size A) ≤ length B
-  fits = omega (arith, known.room)
-
-  room : 3 * size A + (8 * left + 8) ≤ length B - 3 * size A
-  room = omega (arith, known.room)
-
-  pub returned_length : length (lent B (3 * size A) (length B - 3 * size A) R₁) ≡ length B
-  returned_length = length_lent B at_r m R₁ fits known.same_length
+  pub returned_length : length (lent B (3 * size A) m R₁) ≡ length B
+  returned_length = length_lent B at_r m R₁ known.fits known.same_length
 
   abbrev B₁ : List ℕ
   B₁ = lent B (3 * size A) m R₁
@@ -898,33 +878,33 @@ module _ {p : ℕ} {A : Matrix} {left w : ℕ} {u B : List ℕ} {h : Heard} {R�
   S₁ = terms p A left u (part (3 * size A) (size A) B)
 
   room_R : Room (size A) left R₁
-  room_R = record { sized = known.sized; low = known.low; room = omega (arith, room, known.same_length) }
+  room_R = record { sized = known.sized; low = known.low; room = omega (arith, known.room, known.same_length) }
 
   back_R : part at_r m B₁ ≡ R₁
-  back_R = part_lent B at_r m R₁ fits known.same_length
+  back_R = part_lent B at_r m R₁ known.fits known.same_length
 
   -- r
   first_r : part 0 (size A) (part at_r m B) ≡ part at_r (size A) B
-  first_r = part_of_part 0 (size A) at_r m B (omega (arith, room)) fits ∙ part_at B (at_r + 0) (size A) at_r (size A) (add-zero at_r) refl
+  first_r = part_of_part 0 (size A) at_r m B (omega (arith, known.room)) known.fits ∙ part_at B (at_r + 0) (size A) at_r (size A) (add-zero at_r) refl
 
-  pub heard_residual : part (3 * size A) (size A) (lent B (3 * size A) (length B - 3 * size A) R₁) ≡ part (3 * size A) (size A) B
+  pub heard_residual : part (3 * size A) (size A) (lent B (3 * size A) m R₁) ≡ part (3 * size A) (size A) B
   heard_residual =
-      part_at B₁ at_r (size A) (at_r + 0) (size A) (sym (add-zero at_r)) refl ∙ inner_lent B at_r m R₁ fits known.same_length 0 (size A) (omega (arith, room))
+      part_at B₁ at_r (size A) (at_r + 0) (size A) (sym (add-zero at_r)) refl ∙ inner_lent B at_r m R₁ known.fits known.same_length 0 (size A) (omega (arith, known.room))
       ∙ known.heard.listening.iterated.front ∙ first_r
 
   at_B₁ : (k : ℕ) → k < m → at B₁ (at_r + k) ≡ at R₁ k
   at_B₁ k b = sym (at_part at_r m B₁ k b) ∙ ap (λ x. at x k) back_R
 
   f_low : 3 * size A + (2 * left + 2) + h.steps.L < m
-  f_low = omega (arith, room, listening_low known.prime room_R known.heard.listening, known.heard.listening.high)
+  f_low = omega (arith, known.room, listening_low known.prime room_R known.heard.listening, known.heard.listening.high)
 
-  pub heard_generator : turned_at (lent B (3 * size A) (length B - 3 * size A) R₁) (6 * size A + (2 * left + 2)) h.steps.L ≡ generator p (take h.terms (terms p A left u (part (3 * size A) (size A) B)))
+  pub heard_generator : turned_at (lent B (3 * size A) m R₁) (6 * size A + (2 * left + 2)) h.steps.L ≡ generator p (take h.terms (terms p A left u (part (3 * size A) (size A) B)))
   heard_generator =
       table_ext (h.steps.L + 1) (λ i. at B₁ (6 * size A + (2 * left + 2) + (h.steps.L - i))) (λ i. at R₁ (3 * size A + (2 * left + 2) + (h.steps.L - i)))
       (λ i b. ap (at B₁) (omega arith) ∙ at_B₁ (3 * size A + (2 * left + 2) + (h.steps.L - i)) (omega (arith, f_low)))
       ∙ sym (listening_generator known.prime room_R known.heard.listening) ∙ ap (λ v. generator p (take h.terms (terms p A left u v))) first_r
 
-  pub heard_one : at (lent B (3 * size A) (length B - 3 * size A) R₁) (6 * size A + (2 * left + 2)) ≡ 1
+  pub heard_one : at (lent B (3 * size A) m R₁) (6 * size A + (2 * left + 2)) ≡ 1
   heard_one = ap (at B₁) (omega arith) ∙ at_B₁ (3 * size A + (2 * left + 2)) (omega (arith, f_low)) ∙ listening_one known.prime room_R known.heard.listening
 
   pub heard_degree : degree p (take h.terms (terms p A left u (part (3 * size A) (size A) B))) ≡ h.steps.L
@@ -933,42 +913,36 @@ module _ {p : ℕ} {A : Matrix} {left w : ℕ} {u B : List ℕ} {h : Heard} {R�
   pub heard_low : h.steps.L ≤ h.terms
   heard_low = listening_low known.prime room_R known.heard.listening
 
-  -- where the part from r on is as it was; it is lent again
-  module _ (B₂ : List ℕ) (long : length B₂ ≡ length B) (rest : drop (3 * size A) B₂ ≡ drop (3 * size A) (lent B (3 * size A) (length B - 3 * size A) R₁)) where
-    abbrev m₂ : ℕ
-    m₂ = length B₂ - 3 * size A
-
-    again : length B₂ - 3 * size A ≡ length B - 3 * size A
-    again = ap (λ k. k - 3 * size A) long
-
+  -- where the part from r on is as it was; it is lent again, with its length worked out anew
+  module _ (B₂ : List ℕ) (m₂ : ℕ) (again : m₂ ≡ m) (rest : drop (3 * size A) B₂ ≡ drop (3 * size A) (lent B (3 * size A) m R₁)) where
     part_R : part at_r m₂ B₂ ≡ R₁
     part_R = part_at B₂ at_r m₂ at_r m refl again ∙ ap (take m) rest ∙ back_R
 
     r₂ : part 0 (size A) (part at_r m₂ B₂) ≡ part at_r (size A) B
     r₂ = ap (part 0 (size A)) part_R ∙ known.heard.listening.iterated.front ∙ first_r
 
-    pub heard_again : Listening p A left u (part (3 * size A) (length B₂ - 3 * size A) B₂) h (part (3 * size A) (length B₂ - 3 * size A) B₂)
+    pub heard_again : Listening p A left u (part (3 * size A) m₂ B₂) h (part (3 * size A) m₂ B₂)
     heard_again =
         subst (λ x. Listening p A left u x h x) (sym part_R)
         (listening_from (sym known.heard.listening.iterated.same_length) (sym known.heard.listening.iterated.front) known.heard.listening)
 
-    pub heard_room : Room (size A) left (part (3 * size A) (length B₂ - 3 * size A) B₂)
+    pub heard_room : Room (size A) left (part (3 * size A) m₂ B₂)
     heard_room = subst (Room (size A) left) (sym part_R) room_R
 
-    pub heard_vector : Vector p (size A) (part (3 * size A) (size A) B) → Vector p (size A) (part 0 (size A) (part (3 * size A) (length B₂ - 3 * size A) B₂))
+    pub heard_vector : Vector p (size A) (part (3 * size A) (size A) B) → Vector p (size A) (part 0 (size A) (part (3 * size A) m₂ B₂))
     heard_vector v = subst (Vector p (size A)) (sym r₂) v
 
     -- .. on the part alone
     narrow : (k : ℕ) {q : CodePass} {Y : List ℕ} → length Y ≡ m
         → Rule p A w u left (part (3 * size A) (size A) B) (terms p A left u (part (3 * size A) (size A) B)) (2 * left - 1 + k)
-        → Finished p A left u k (part (3 * size A) (length B₂ - 3 * size A) B₂) q Y → Shortened p A w u left 0 0 (part (3 * size A) m B) q Y
+        → Finished p A left u k (part (3 * size A) m₂ B₂) q Y → Shortened p A w u left 0 0 (part (3 * size A) m B) q Y
     narrow k {q} {Y} same-Y rule d =
         record {
           taken = S₁;
           made = 2 * left - 1 + k;
           rule = subst (λ v. Rule p A w u left v S₁ (2 * left - 1 + k)) (sym first_r) rule;
           counted = d.counted;
-          same_length = same-Y ∙ sym (length_part at_r m B fits);
+          same_length = same-Y ∙ sym (length_part at_r m B known.fits);
           front = refl;
           answer = d.answer ∙ ap (λ v. degree p (terms p A left u v)) r₂;
           short = d.short;
@@ -978,12 +952,12 @@ module _ {p : ℕ} {A : Matrix} {left w : ℕ} {u B : List ℕ} {h : Heard} {R�
               ∙ ap (λ v. generator p (terms p A left u v)) r₂;
         }
 
-    pub finished_shortened : (k : ℕ) {q : CodePass} {Y : List ℕ} → length Y ≡ length B₂ - 3 * size A
+    pub finished_shortened : (k : ℕ) {q : CodePass} {Y : List ℕ} → length B₂ ≡ length B → length Y ≡ m₂
         → Rule p A w u left (part (3 * size A) (size A) B) (terms p A left u (part (3 * size A) (size A) B)) (2 * left - 1 + k)
-        → Finished p A left u k (part (3 * size A) (length B₂ - 3 * size A) B₂) q Y → Shortened p A w u left 0 (3 * size A) B q (lent B₂ (3 * size A) (length B₂ - 3 * size A) Y)
-    finished_shortened k {q} {Y} same-Y rule d =
+        → Finished p A left u k (part (3 * size A) m₂ B₂) q Y → Shortened p A w u left 0 (3 * size A) B q (lent B₂ (3 * size A) m₂ Y)
+    finished_shortened k {q} {Y} long same-Y rule d =
         subst (λ x. Shortened p A w u left 0 at_r B q (lent B₂ at_r x Y)) (sym again)
-        (shortened_lent 0 at_r at_r m B₂ (omega arith) long refl (omega arith) fits (omega (arith, room)) (same-Y ∙ again) (narrow k (same-Y ∙ again) rule d))
+        (shortened_lent 0 at_r at_r m B₂ (omega arith) long refl (omega arith) known.fits (omega (arith, known.room)) (same-Y ∙ again) (narrow k (same-Y ∙ again) rule d))
 
   -- ---- the three ends
 
@@ -995,7 +969,7 @@ module _ {p : ℕ} {A : Matrix} {left w : ℕ} {u B : List ℕ} {h : Heard} {R�
       subst (Rule p A w u left (part at_r (size A) B) S₁) (omega (arith, e))
       (rule_whole p A w u left (part at_r (size A) B) (subst (λ v. length (terms p A left u v) ≤ test_at p w (terms p A left u v)) first_r (listened_none known.heard all)))
 
-  module _ (more : h.terms < 2 * left) {zero? : Bool} {B₂ : List ℕ} (tried : Tried p A left h.steps.L (lent B (3 * size A) (length B - 3 * size A) R₁) zero? B₂) where
+  module _ (more : h.terms < 2 * left) {zero? : Bool} {B₂ : List ℕ} (tried : Tried p A left h.steps.L (lent B (3 * size A) m R₁) zero? B₂) where
     tested : test_at p w S₁ ≡ h.terms
     tested = sym whole_test ∙ listened_test known.heard known.prime room_R more
 

@@ -6,4 +6,5 @@ pub mod offered;
 mod operator;
 pub mod pass;
 mod projection;
+mod sums;
 mod window;

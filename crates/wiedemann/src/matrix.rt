@@ -18,12 +18,13 @@ ghost use Rattle.checks.specs.Answers.{Writes};
 ghost use Rattle.checks.specs.Products.{products_with};
 
 use crate::operator::Operator;
+use crate::sums::sum_by;
 use checks::{Matrix, Products, check_apply, check_product};
 use field::Field;
 use modular::diagonal::scale;
 use modular::modulus::Modulus;
 use modular::multiplier::Multiplier;
-use modular::sums::{Total, sum_by, times};
+use modular::sums::{Total, times};
 use refusal::Refusal;
 
 // The product of entry k's value with the element of v at its column.

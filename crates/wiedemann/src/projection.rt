@@ -6,8 +6,9 @@ ghost use Rattle.checks.specs.Valid.{Vector};
 ghost use Rattle.modular.specs.Modulus.{Modular};
 ghost use Rattle.wiedemann.specs.Projection.{word_term, Raw, Words};
 
+use crate::sums::sum_by;
 use modular::modulus::Modulus;
-use modular::sums::{Total, sum_by, times};
+use modular::sums::{Total, times};
 use slices::element;
 
 // A projection of a run, by its place among all of them: the first `vectors` are made of the random words, the others are the unit vectors.

@@ -1,7 +1,7 @@
 use Rattle.std.proofs.Common.{◌≡◌, length, ap, ◌∙◌, arith}
 use Rattle.checks.specs.Valid.{valid_scaled}
 use Rattle.checks.specs.declared.Products.{Products}
-use Rattle.checks.specs.Products.{products_with, added, products_zero, products_next, products_few}
+use Rattle.checks.specs.Products.{products_with, added, products_zero, products_next, products_few, wrapped_few}
 use Rattle.wiedemann.specs.Operator.{operator}
 use Rattle.wiedemann.specs.Horner.{turn_even, turn_odd, turn_work, turn_out, turn_to_even, turn_to_odd}
 use Rattle.wiedemann.proofs.matrix.horner.Goals.{then-last-eq0, else-last-eq0, then-i-eq0, else-i-eq0}
@@ -32,17 +32,6 @@ scaled_step-more-requires-else-i-eq0 c =
     let turn = c.loop-i.invariant.1 in
     (turn.work_places, c.requires.2.places, turn_out (valid_scaled _ c.args.ax.now.valid.valid) turn (omega (arith, c.loop-i-test.true)) c.if-i-eq0.false)
 
-pub add-done-requires : goal.add-done-requires
-add-done-requires c =
-    let valid = valid_scaled _ c.args.ax.now.valid.valid in
-    let loop = c.loop-i in (
-      products_few valid (omega (arith, loop.invariant.0, c.requires.4)) loop.invariant.2,
-      elim c.if-i-eq0.branch [
-        | then-i-eq0 w ↦ products_few {k = 1} valid (omega arith) (w.more-is ∙ w.scaled_step-more.ensures.0)
-        | else-i-eq0 w ↦ products_few {k = 1} valid (omega arith) (w.more-is ∙ w.scaled_step-more-else-i-eq0.ensures.0)
-      ],
-    )
-
 pub loop-i-preserved : goal.loop-i-preserved
 loop-i-preserved c =
     let ax = c.args.ax.now in
@@ -56,7 +45,8 @@ loop-i-preserved c =
       | then-i-eq0 w ↦ w.more-is ∙ w.scaled_step-more.ensures.0
       | else-i-eq0 w ↦ w.more-is ∙ w.scaled_step-more-else-i-eq0.ensures.0
     ] in
-    let more : c.add-done.result ≡ added loop.done (products_with 1 A) = c.add-done.ensures ∙ ap {B = Products} (added loop.done) one in (
+    let few = wrapped_few (products_few valid (omega (arith, loop.invariant.0, c.requires.4)) loop.invariant.2) (products_few {k = 1} valid (omega arith) one) in
+    let more : c.add-done.result ≡ added loop.done (products_with 1 A) = c.add-done.ensures ∙ few ∙ ap {B = Products} (added loop.done) one in (
       omega (arith, loop.invariant.0, ap (λ (x : Products). x.made) more, test),
       elim c.if-i-eq0.branch [
         | then-i-eq0 w ↦ turn_to_even valid turn (omega (arith, test)) w.if-i-eq0.true (ap length w.work-is ∙ w.scaled_step-more.ensures.2 ∙ turn.work_places) (w.out-is ∙ w.scaled_step-more.ensures.1)

@@ -2,7 +2,7 @@ use Rattle.wiedemann.specs.Operator.{operator, rows, projection}
 use Rattle.laws.specs.Lent.{same_take}
 use Rattle.wiedemann.specs.declared.pass.Pass.{Pass}
 use Rattle.checks.specs.declared.Products.{Products}
-use Rattle.checks.specs.Products.{products_add, products_few}
+use Rattle.checks.specs.Products.{products_add, products_few, wrapped_few}
 use Rattle.wiedemann.specs.Turns.{vector_terms}
 use Rattle.wiedemann.specs.Pass.{shortened}
 use Rattle.checks.specs.Valid.{valid_scaled, Vector}
@@ -42,14 +42,6 @@ apply_within-more-requires c =
       },
     )
 
-pub add-done-requires : goal.add-done-requires
-add-done-requires c =
-    let valid = valid_scaled _ c.args.ax.now.valid.valid in
-    let pre = c.requires in (
-      products_few valid (omega (arith, pre.left.1)) c.terms-first.ensures.0,
-      products_few valid (omega (arith, c.recurrence_of_terms-t.ensures.short, pre.left.1)) c.apply_within-more.ensures.0,
-    )
-
 pub returns : goal.returns
 returns c =
     let a = c.args in
@@ -57,6 +49,9 @@ returns c =
     let found = c.recurrence_of_terms-t in
     let more = c.apply_within-more.ensures in
     let t = found.result in
+    let valid = valid_scaled _ a.ax.now.valid.valid in
+    let low = c.requires.left.1 in
+    let few = wrapped_few (products_few valid (omega (arith, low)) first.0) (products_few valid (omega (arith, found.ensures.short, low)) more.0) in
     shortened (omega (arith, c.requires.room.0)) first.1 found.ensures more.1
     (ap {B = Pass} (λ (k : Products). record { left = a.left; degree = t; applications = k.made; multiplied = k.multiplied })
-    (c.add-done.ensures ∙ products_add (operator a.ax.now) (2 * a.left - 1) t (2 * a.left - 1 + t) first.0 more.0 refl))
+    (c.add-done.ensures ∙ few ∙ products_add (operator a.ax.now) (2 * a.left - 1) t (2 * a.left - 1 + t) first.0 more.0 refl))

@@ -6,7 +6,7 @@ use Rattle.laws.specs.Part.{length_part}
 use Rattle.laws.specs.Lent.{lent, part_at, part_of_part}
 use Rattle.checks.specs.Valid.{valid_scaled, Vector}
 use Rattle.checks.specs.declared.Products.{Products}
-use Rattle.checks.specs.Products.{products_with, products_zero, products_add, products_few}
+use Rattle.checks.specs.Products.{products_with, products_zero, products_add, products_few, wrapped_few}
 use Rattle.residue.specs.Prime.{is_modulus_Prime}
 use Rattle.wiedemann.specs.Operator.{operator, rows, projection}
 use Rattle.wiedemann.specs.declared.pass.Pass.{Pass}
@@ -37,7 +37,7 @@ listen_until_due-heard-requires c =
 known : (c : After-listen_until_due-heard)
     → let a = c.args in
     let o = a.ax.now in
-    Returned o.m.p (operator o) a.left a.window (projection o a.u.now) a.area.now c.listen_until_due-heard.result c.listen_until_due-heard.new.area
+    Returned o.m.p (operator o) a.left a.window (projection o a.u.now) a.area.now (length a.area.now - 3 * rows o) c.listen_until_due-heard.result c.listen_until_due-heard.new.area
 known c =
     let a = c.args in
     let pre = c.requires in
@@ -49,7 +49,8 @@ known c =
       prime = is_modulus_Prime o.m.p o.prime;
       sized = o.valid.valid.sized;
       low = pre.left.1;
-      room = pre.room.0;
+      fits = omega (arith, pre.room.0);
+      room = omega (arith, pre.room.0);
       same_length = call.auto.area ∙ length_part (3 * n) m a.area.now (omega (arith, pre.room.0));
       heard = call.ensures;
     }
@@ -61,11 +62,13 @@ finish-requires c =
     let B = c.args.area.now in
     let back = known (goal.at.finish-requires c).After-listen_until_due-heard in
     let long = returned_length back in
-    let B₁ = lent B (3 * rows c.args.ax.now) (length B - 3 * rows c.args.ax.now) c.listen_until_due-heard.new.area in
+    let n = 3 * rows c.args.ax.now in
+    let B₁ = lent B n (length B - n) c.listen_until_due-heard.new.area in
+    let again = ap (λ k. k - n) long in
     record {
       words = pre.left.2;
-      room = (pre.left.0, heard_room back B₁ long refl, heard_vector back B₁ long refl pre.room.1);
-      listening = heard_again back B₁ long refl;
+      room = (pre.left.0, heard_room back B₁ (length B₁ - n) again refl, heard_vector back B₁ (length B₁ - n) again refl pre.room.1);
+      listening = heard_again back B₁ (length B₁ - n) again refl;
       tried = (omega (arith, none.0), products_zero (operator c.args.ax.now) none.0 none.1);
     }
 
@@ -77,8 +80,8 @@ returns-then-heard-left c =
     let long = returned_length back in
     let B₁ = lent B (3 * n) (length B - 3 * n) c.listen_until_due-heard.new.area in
     let m = length B₁ - 3 * n in
-    let fits : 3 * n + m ≤ length B₁ = omega (arith, long, back.room) in
-    finished_shortened back B₁ long refl c.default.result.made (c.finish.auto.area ∙ length_part (3 * n) m B₁ fits) (window_whole back c.default.ensures.0 c.if-heard-left.true) c.finish.ensures
+    let fits : 3 * n + m ≤ length B₁ = omega (arith, long, c.requires.room.0) in
+    finished_shortened back B₁ m (ap (λ k. k - 3 * n) long) refl c.default.result.made long (c.finish.auto.area ∙ length_part (3 * n) m B₁ fits) (window_whole back c.default.ensures.0 c.if-heard-left.true) c.finish.ensures
 
 pub test-tested-requires : goal.test-tested-requires
 test-tested-requires c =
@@ -88,18 +91,11 @@ test-tested-requires c =
     record {
       degree = (back.low, omega (arith, heard_low back, back.heard.listening.high));
       room = (
-        omega (arith, returned_length back, back.room),
+        omega (arith, returned_length back, pre.room.0),
         heard_one back,
         subst (Vector o.m.p (rows o)) (sym (heard_residual back)) pre.room.1,
       );
     }
-
-pub add-done-requires : goal.add-done-requires
-add-done-requires c =
-    let back = known (goal.at.add-done-requires c).After-listen_until_due-heard in
-    let l = back.heard.listening in
-    let valid = valid_scaled _ c.args.ax.now.valid.valid in
-    (products_few valid (omega (arith, l.counted, l.high, back.low)) l.products, products_few valid (omega (arith, heard_low back, l.high, back.low)) c.test-tested.ensures.0)
 
 pub returns-then-tested : goal.returns-then-tested
 returns-then-tested c =
@@ -113,9 +109,11 @@ returns-then-tested c =
     let more : i < 2 * a.left = omega (arith, l.high, c.if-heard-left.false) in
     let test = c.test-tested.ensures in
     let made : heard.done.made ≡ i - 1 = omega (arith, l.counted) in
+    let valid = valid_scaled _ a.ax.now.valid.valid in
+    let few = wrapped_few (products_few valid (omega (arith, l.counted, l.high, back.low)) l.products) (products_few valid (omega (arith, heard_low back, l.high, back.low)) test.0) in
     window_early back more test.1 c.if-tested.true refl
     (ap {B = Pass} (λ (x : Products). record { left = a.left; degree = t; applications = x.made; multiplied = x.multiplied })
-    (c.add-done.ensures ∙ products_add A (i - 1) t (i - 1 + t) (l.products ∙ ap {B = Products} (λ k. products_with k A) made) test.0 refl))
+    (c.add-done.ensures ∙ few ∙ products_add A (i - 1) t (i - 1 + t) (l.products ∙ ap {B = Products} (λ k. products_with k A) made) test.0 refl))
 
 pub finish-requires-2 : goal.finish-requires-2
 finish-requires-2 c =
@@ -125,11 +123,14 @@ finish-requires-2 c =
     let long = c.test-tested.ensures.1.same_length ∙ returned_length back in
     let test = c.test-tested.ensures in
     let rest = test.1.failed c.if-tested.false in
+    let B₂ = c.test-tested.new.area in
+    let n = 3 * rows c.args.ax.now in
+    let again = ap (λ k. k - n) long in
     let made = ap (λ (x : Products). x.made) test.0 in
     record {
       words = pre.left.2;
-      room = (pre.left.0, heard_room back c.test-tested.new.area long rest, heard_vector back c.test-tested.new.area long rest pre.room.1);
-      listening = heard_again back c.test-tested.new.area long rest;
+      room = (pre.left.0, heard_room back B₂ (length B₂ - n) again rest, heard_vector back B₂ (length B₂ - n) again rest pre.room.1);
+      listening = heard_again back B₂ (length B₂ - n) again rest;
       tried = (omega (arith, made, heard_low back, back.heard.listening.high, back.low), test.0 ∙ ap {B = Products} (λ k. products_with k A) (sym made));
     }
 
@@ -144,6 +145,6 @@ returns c =
     let more : c.listen_until_due-heard.result.terms < 2 * a.left = omega (arith, back.heard.listening.high, c.if-heard-left.false) in
     let B₂ = test.new.area in
     let m = length B₂ - 3 * n in
-    let fits : 3 * n + m ≤ length B₂ = omega (arith, long, back.room) in
-    finished_shortened back B₂ long (test.ensures.1.failed c.if-tested.false) test.result.done.made (c.finish-2.auto.area ∙ length_part (3 * n) m B₂ fits)
+    let fits : 3 * n + m ≤ length B₂ = omega (arith, long, c.requires.room.0) in
+    finished_shortened back B₂ m (ap (λ k. k - 3 * n) long) (test.ensures.1.failed c.if-tested.false) test.result.done.made long (c.finish-2.auto.area ∙ length_part (3 * n) m B₂ fits)
     (window_on back more test.ensures.1 made c.if-tested.false) c.finish-2.ensures

@@ -4,7 +4,7 @@ use native.Mathlib.Omega.{arith}
 use Rattle.checks.specs.Valid.{valid_scaled, Vector}
 use Rattle.residue.specs.Prime.{is_modulus_Prime}
 use Rattle.checks.specs.declared.Products.{Products}
-use Rattle.checks.specs.Products.{products_with, products_add, products_few}
+use Rattle.checks.specs.Products.{products_with, products_add, products_few, wrapped_few}
 use Rattle.wiedemann.specs.Operator.{operator, rows, projection}
 use Rattle.wiedemann.specs.declared.pass.Pass.{Pass}
 use Rattle.wiedemann.specs.Window.{room_as, listening_low, listening_one, listened_all, unasked_none, finished}
@@ -39,13 +39,6 @@ conclude-more-requires c =
       );
     }
 
-pub add-requires : goal.add-requires
-add-requires c =
-    let pre = c.requires in
-    let valid = valid_scaled _ c.args.ax.now.valid.valid in
-    let l = c.listen-all.ensures.listening in
-    (products_few valid (omega (arith, l.counted, l.high, pre.room.1.low)) l.products, products_few valid (omega (arith, pre.tried.0)) pre.tried.1)
-
 -- the products of the terms and of the test
 first : (c : After-add)
     → let a = c.args in
@@ -55,17 +48,12 @@ first c =
     let A = operator a.ax.now in
     let all = c.listen-all.ensures in
     let made : c.listen-all.result.done.made ≡ 2 * a.left - 1 = omega (arith, all.listening.counted, listened_all all) in
-    c.add.ensures
+    let pre = c.requires in
+    let valid = valid_scaled _ a.ax.now.valid.valid in
+    let l = all.listening in
+    c.add.ensures ∙ wrapped_few (products_few valid (omega (arith, l.counted, l.high, pre.room.1.low)) l.products) (products_few valid (omega (arith, pre.tried.0)) pre.tried.1)
     ∙ products_add A (2 * a.left - 1) a.tried.made (2 * a.left - 1 + a.tried.made)
     (all.listening.products ∙ ap {B = Products} (λ j. products_with j A) made) c.requires.tried.1 refl
-
-pub add-done-requires : goal.add-done-requires
-add-done-requires c =
-    let pre = c.requires in
-    let valid = valid_scaled _ c.args.ax.now.valid.valid in (
-      products_few valid (omega (arith, pre.tried.0, pre.room.1.low)) (first (goal.at.add-done-requires c).After-add),
-      products_few valid (omega (arith, short (goal.at.add-done-requires c).After-listen-all, pre.room.1.low)) c.conclude-more.ensures.0,
-    )
 
 pub returns : goal.returns
 returns c =
@@ -74,6 +62,12 @@ returns c =
     let t = c.listen-all.result.steps.L in
     let k = a.tried.made in
     let more = c.conclude-more.ensures in
+    let pre = c.requires in
+    let valid = valid_scaled _ a.ax.now.valid.valid in
+    let all_made = first (goal.at.returns c).After-add in
+    let few =
+    wrapped_few (products_few valid (omega (arith, pre.tried.0, pre.room.1.low)) all_made)
+    (products_few valid (omega (arith, short (goal.at.returns c).After-listen-all, pre.room.1.low)) more.0) in
     finished k (is_modulus_Prime a.ax.now.m.p a.ax.now.prime) c.requires.room.1 all more.1 refl
     (ap {B = Pass} (λ (x : Products). record { left = a.left; degree = t; applications = x.made; multiplied = x.multiplied })
-    (c.add-done.ensures ∙ products_add (operator a.ax.now) (2 * a.left - 1 + k) t (2 * a.left - 1 + k + t) (first (goal.at.returns c).After-add) more.0 refl))
+    (c.add-done.ensures ∙ few ∙ products_add (operator a.ax.now) (2 * a.left - 1 + k) t (2 * a.left - 1 + k + t) all_made more.0 refl))
